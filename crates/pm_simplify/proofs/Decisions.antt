@@ -1,5 +1,6 @@
 -- Deciding what is made of parts that can be decided.
 use Rattle.std.proofs.Common.{ℕ, ◌<◌, ◌⊎◌, inl, inr, arith}
+use Rattle.std.proofs.lemmas.Grind.{common_steps}
 use Rattle.std.proofs.lemmas.Bool.{cases_lt}
 use Rattle.pm_base.proofs.Search.{Decided, search_below}
 
@@ -9,27 +10,15 @@ both? (inl p) (inr n) = inr (λ h. n h.1)
 both? (inr n) q = inr (λ h. n h.0)
 
 pub three? : {P Q R : Type 0} → Decided P → Decided Q → Decided R → Decided (P × Q × R)
-three? p q r =
-    elim (both? p (both? q r)) [
-      | inl h ↦ inl (h.0, h.1.0, h.1.1)
-      | inr n ↦ inr (λ h. n (h.0, (h.1, h.2)))
-    ]
+three? p q r = grind (arith, common_steps, both?)
 
 pub four? : {P Q R S : Type 0} → Decided P → Decided Q → Decided R → Decided S
     → Decided (P × Q × R × S)
-four? p q r s =
-    elim (both? p (three? q r s)) [
-      | inl h ↦ inl (h.0, h.1.0, h.1.1, h.1.2)
-      | inr n ↦ inr (λ h. n (h.0, (h.1, h.2, h.3)))
-    ]
+four? p q r s = grind (arith, common_steps, both?, three?)
 
 pub five? : {P Q R S T : Type 0} → Decided P → Decided Q → Decided R → Decided S → Decided T
     → Decided (P × Q × R × S × T)
-five? p q r s t =
-    elim (both? p (four? q r s t)) [
-      | inl h ↦ inl (h.0, h.1.0, h.1.1, h.1.2, h.1.3)
-      | inr n ↦ inr (λ h. n (h.0, (h.1, h.2, h.3, h.4)))
-    ]
+five? p q r s t = grind (arith, common_steps, both?, four?)
 
 pub either? : {P Q : Type 0} → Decided P → Decided Q → Decided (P ⊎ Q)
 either? (inl p) q = inl (inl p)
@@ -46,8 +35,4 @@ less? a b = elim (cases_lt a b) [ inl l ↦ inl l | inr k ↦ inr (λ l. omega (
 -- What holds at some side holds at one below their number.
 pub at_side? : (n : ℕ) (P : ℕ → Type 0) → ((e : ℕ) → Decided (P e)) → ((e : ℕ) → P e → e < n)
     → Decided ((e : ℕ) × P e)
-at_side? n P decide below =
-    elim (search_below P decide n) [
-      | inl (e, l, h) ↦ inl (e, h)
-      | inr none ↦ inr (λ h. none h.0 (below h.0 h.1) h.1)
-    ]
+at_side? n P decide below = grind (arith, common_steps, search_below P decide n)

@@ -1,8 +1,8 @@
 -- Which keys go with the faces that a collapse drops.
 use Rattle.std.proofs.Common.{◌≡◌, ◌≢◌, ℕ, ◌+◌, ◌*◌, ◌<◌, ◌≤◌, ◌⊎◌, zero, suc, Option, Some, None}
+use Rattle.std.proofs.lemmas.Grind.{common_steps}
 use Rattle.std.proofs.Common.{[], ◌∷◌, slice_set, inl, inr, refl, sym, ap, ◌∙◌, subst, arith}
 use Rattle.std.specs.Prelude.{option_map, IfSome}
-use Rattle.std.proofs.lemmas.Bool.{cases_eq}
 use Rattle.std.proofs.lemmas.List.{get_or-set_other}
 use Rattle.std.proofs.lemmas.Option.{none-some, same_Some}
 use Rattle.pm_base.specs.declared.ids.Side.{Side}
@@ -36,11 +36,7 @@ set_none_same (o ∷ m) zero = refl
 set_none_same (o ∷ m) (suc i) = set_none_same m i
 
 set_none_loses : (m : Entries) (j : ℕ) → Loses m (slice_set m j None)
-set_none_loses m j i =
-    elim (cases_eq i j) [
-      | inl same ↦ inr (ap (key_at (slice_set m j None)) same ∙ set_none_same m j)
-      | inr ne ↦ inl (get_or-set_other m j i None None ne)
-    ]
+set_none_loses m j i = grind (arith, common_steps, get_or-set_other, set_none_same, slice_set)
 
 side_loses : (m : Entries) (s : Option Side) → Loses m (without_key m s)
 side_loses m None i = inl refl
@@ -65,32 +61,24 @@ module _ (m : Entries) (f : ℕ) where
   two = slice_set (slice_set m (3 * f) None) (3 * f + 1) None
 
   face_loses : Loses m (without_keys_of m f)
-  face_loses =
-      loses_trans m two (without_keys_of m f)
-      (loses_trans m one two (set_none_loses m (3 * f)) (set_none_loses one (3 * f + 1)))
-      (set_none_loses two (3 * f + 2))
+  face_loses = grind (arith, common_steps, loses_trans, set_none_loses)
 
   face_clear : (i : ℕ) → face_of i ≡ f → key_at (without_keys_of m f) i ≡ None
   face_clear i is =
-      let all : Entries = without_keys_of m f in
-      elim (cases_eq i (3 * f)) [
-        | inl a ↦ loses_none two all (set_none_loses two (3 * f + 2)) i
-            (loses_none one two (set_none_loses one (3 * f + 1)) i (ap (key_at one) a
-            ∙ set_none_same m (3 * f)))
-        | inr na ↦
-            elim (cases_eq i (3 * f + 1)) [
-              | inl b ↦ loses_none two all (set_none_loses two (3 * f + 2)) i (ap (key_at two) b
-                  ∙ set_none_same one (3 * f + 1))
-              | inr nb ↦ let last : i ≡ 3 * f + 2 =
-                  omega (arith, is, na, nb) in ap (key_at all) last ∙ set_none_same two (3 * f + 2)
-            ]
-      ]
+      grind (
+        arith,
+        common_steps,
+        loses_none two,
+        loses_none one two (set_none_loses one (3 * f + 1)) i,
+        set_none_loses two (3 * f + 2),
+        set_none_loses one (3 * f + 1),
+        set_none_same m (3 * f),
+        set_none_same one (3 * f + 1),
+        set_none_same two (3 * f + 2),
+      )
 
   face_spares : (i : ℕ) → face_of i ≢ f → key_at (without_keys_of m f) i ≡ key_at m i
-  face_spares i off =
-      get_or-set_other two (3 * f + 2) i None None (λ is. off (omega (arith, is)))
-      ∙ get_or-set_other one (3 * f + 1) i None None (λ is. off (omega (arith, is)))
-      ∙ get_or-set_other m (3 * f) i None None (λ is. off (omega (arith, is)))
+  face_spares i off = grind (arith, common_steps, get_or-set_other)
 
 forgotten_loses : (m : Entries) (g : Option Gone) → Loses m (forgotten m g)
 forgotten_loses m None = λ i. inl refl
@@ -119,22 +107,17 @@ module _ (n : Net) (x e : ℕ) (m : Entries) where
 
   at_clear : IsBeside n x e → key_at (forgotten m (Some (gone_at n x))) e ≡ None
   at_clear beside =
-      let last : Entries = forgotten m (Some (gone_at n x)) in
-      let loses : Loses first last = side_loses first (option_map side_id (twin_of n (prev x))) in
-      elim beside [
-        | inl same ↦
-            loses_none first last loses e
-            (loses_none face first (side_loses face (option_map side_id (twin_of n (next x)))) e
-            (face_clear m (face_of x) e same))
-        | inr rest ↦
-            elim rest [
-              | inl t ↦ loses_none first last loses e
-                  (side_clear face (option_map side_id (twin_of n (next x))) e
-                  (ap (option_map side_id) t))
-              | inr t ↦ side_clear first (option_map side_id (twin_of n (prev x))) e
-                  (ap (option_map side_id) t)
-            ]
-      ]
+      grind (
+        arith,
+        common_steps,
+        face_clear m (face_of x) e,
+        loses_none first,
+        loses_none face first (side_loses face (option_map side_id (twin_of n (next x)))) e,
+        side_clear face (option_map side_id (twin_of n (next x))) e,
+        side_clear first (option_map side_id (twin_of n (prev x))) e,
+        side_loses first (option_map side_id (twin_of n (prev x))),
+        side_loses face (option_map side_id (twin_of n (next x))),
+      )
 
   at_spares : (IsBeside n x e → ⊥) → key_at (forgotten m (Some (gone_at n x))) e ≡ key_at m e
   at_spares off =
@@ -166,10 +149,7 @@ without_both n t u m = forgotten (forgotten m (gone_of n t u)) (gone_of n u t)
 
 module _ (n : Net) (t u : ℕ) (m : Entries) where
   pub both_lose : Loses m (without_both n t u m)
-  both_lose =
-      let one : Entries = forgotten m (gone_of n t u) in
-      loses_trans m one (without_both n t u m) (forgotten_loses m (gone_of n t u))
-      (forgotten_loses one (gone_of n u t))
+  both_lose = grind (arith, common_steps, forgotten_loses, loses_trans)
 
   pub both_clear : NoSideTwice n → (x e : ℕ) → Links n x t u → IsBeside n x e
       → key_at (without_both n t u m) e ≡ None

@@ -1,5 +1,6 @@
 -- The number of an edge: both of its sides have the same one, and it is that of one of them.
 use Rattle.std.proofs.Common.{◌≡◌, ℕ, ◌<◌, ltb, Option, Some, None, ◌⊎◌, inl, inr, sym, ap, ◌∙◌}
+use Rattle.std.proofs.lemmas.Grind.{common_steps}
 use Rattle.std.proofs.Common.{subst, arith}
 use Rattle.std.proofs.lemmas.Bool.{cases_Bool, cond-true, cond-false, ltb-true, ltb-false}
 use Rattle.pm_base.specs.Sides.{Net, next, prev, to, Stands, NoSideTwice, IsTwin, twin_of}
@@ -32,20 +33,7 @@ module _ (m : Net) where
   twin_back once e g st t = across-twin m once g (Some e) (twin-twin m e g st (twin-is m e g t))
 
   lesser_turned : (e g : ℕ) → lesser_of_pair g (Some e) ≡ lesser_of_pair e (Some g)
-  lesser_turned e g =
-      elim (cases_Bool (ltb g e)) [
-        | inl a ↦
-            elim (cases_Bool (ltb e g)) [
-              | inl b ↦ absurd (let x = ltb-true g e a in let y = ltb-true e g b in omega arith)
-              | inr b ↦ cond-false _ _ _ b ∙ sym (cond-true _ _ _ a)
-            ]
-        | inr a ↦
-            elim (cases_Bool (ltb e g)) [
-              | inl b ↦ cond-true _ _ _ b ∙ sym (cond-false _ _ _ a)
-              | inr b ↦ cond-false _ _ _ b ∙ (let x = ltb-false g e a in let y = ltb-false e g b in
-                  omega arith) ∙ sym (cond-false _ _ _ a)
-            ]
-      ]
+  lesser_turned e g = grind (arith, common_steps, cond-false, cond-true, ltb-false, ltb-true)
 
   pub item_twin : NoSideTwice m → (e g : ℕ) → Stands m e → twin_of m e ≡ Some g
       → item_of m g ≡ item_of m e
@@ -53,11 +41,7 @@ module _ (m : Net) where
       item_by g (Some e) (twin_back once e g st t) ∙ lesser_turned e g ∙ sym (item_by e (Some g) t)
 
   pub item_item : NoSideTwice m → (e : ℕ) → Stands m e → item_of m (item_of m e) ≡ item_of m e
-  item_item once e st =
-      elim (item_cases e) [
-        | inl is ↦ ap (item_of m) is
-        | inr (g, t, is) ↦ ap (item_of m) is ∙ item_twin once e g st t
-      ]
+  item_item once e st = grind (arith, common_steps, item_cases, item_twin)
 
   pub item_stands : (e : ℕ) → Stands m e → Stands m (item_of m e)
   item_stands e st =
@@ -67,52 +51,24 @@ module _ (m : Net) where
       ]
 
   twin_runs : (e g p q : ℕ) → IsTwin m e g → Runs m e p q → Runs m g q p
-  twin_runs e g p q t r = record {
-    stands = t.stands;
-    begins = t.begins ∙ r.ends;
-    ends = t.ends ∙ r.begins;
-  }
+  twin_runs e g p q t r = grind (arith, common_steps)
 
   twin_links : (e g a b : ℕ) → IsTwin m e g → Links m e a b → Links m g a b
   twin_links e g a b t l =
       elim l [ inl r ↦ inr (twin_runs e g a b t r) | inr r ↦ inl (twin_runs e g b a t r) ]
 
   pub links_item : (e a b : ℕ) → Links m e a b → Links m (item_of m e) a b
-  links_item e a b l =
-      elim (item_cases e) [
-        | inl is ↦ subst (λ i. Links m i a b) (sym is) l
-        | inr (g, t, is) ↦
-            subst (λ i. Links m i a b) (sym is) (twin_links e g a b (twin-is m e g t) l)
-      ]
+  links_item e a b l = grind (arith, common_steps, item_cases, twin-is, twin_links)
 
   -- The two ends of a side, the lesser one first, are these.
   pub same_ends : (e a b c d : ℕ) → Links m e a b → Links m e c d → a < b → c < d
       → (a ≡ c) × (b ≡ d)
-  same_ends e a b c d l k x y =
-      elim l [
-        | inl r ↦
-            elim k [
-              | inl s ↦ (sym r.begins ∙ s.begins, sym r.ends ∙ s.ends)
-              | inr s ↦ absurd (let i : a ≡ d = sym r.begins ∙ s.begins in
-                  let j : b ≡ c = sym r.ends ∙ s.ends in omega arith)
-            ]
-        | inr r ↦
-            elim k [
-              | inl s ↦ absurd (let i : b ≡ c = sym r.begins ∙ s.begins in
-                  let j : a ≡ d = sym r.ends ∙ s.ends in omega arith)
-              | inr s ↦ (sym r.ends ∙ s.ends, sym r.begins ∙ s.begins)
-            ]
-      ]
+  same_ends e a b c d l k x y = grind (arith, common_steps)
 
   -- A side at a vertex runs from it, or the next side in the face does.
   pub side_corner : (v e : ℕ) → IsSideAt m v e → (Stands m e × (m.from e ≡ v))
       ⊎ (Stands m (next e) × (m.from (next e) ≡ v) × (prev (next e) ≡ e))
-  side_corner v e at =
-      elim at.ends [
-        | inl is ↦ inl (at.stands, is)
-        | inr is ↦
-            inr (stands_next m e at.stands, is, next-next-next e)
-      ]
+  side_corner v e at = grind (arith, common_steps, next-next-next, stands_next)
 
   -- Its twin runs from the vertex to which it runs.
   pub twin_corner : (e g : ℕ) → twin_of m e ≡ Some g → Stands m g × (m.from g ≡ to m e)

@@ -1,9 +1,10 @@
 -- Vertices that are noted as being on the border, and what a note and a collapse change.
-use Rattle.std.proofs.Common.{◌≡◌, ◌≢◌, ℕ, ◌<◌, true, false, Bool, List, inl, inr, sym, ap, ◌∙◌}
+use Rattle.std.proofs.Common.{◌≡◌, ◌≢◌, ℕ, ◌<◌, true, false, Bool, List, inl, inr, sym, ◌∙◌}
+use Rattle.std.proofs.lemmas.Grind.{common_steps}
 use Rattle.std.proofs.Common.{subst}
 use Rattle.std.proofs.Common.{arith, get_or-set_other}
-use Rattle.std.specs.Prelude.{is_some, slice_set, replicate}
-use Rattle.std.proofs.lemmas.Bool.{cases_eq, cases_lt, false≢true, both_ways}
+use Rattle.std.specs.Prelude.{slice_set, replicate}
+use Rattle.std.proofs.lemmas.Bool.{cases_eq, cases_lt, false≢true}
 use Rattle.std.proofs.lemmas.List.{get_or_past, get_or-replicate, length-replicate}
 use Rattle.pm_base.specs.Place.{Place}
 use Rattle.pm_base.specs.Sides.{Net, next, to, Stands}
@@ -25,11 +26,7 @@ pub none_noted : (s : Surface) (n : ℕ) → AreOnBorder s (replicate n false)
 none_noted s n v is =
     elim (cases_lt v n) [
       | inl low ↦ absurd (false≢true (sym (get_or-replicate n v false false low) ∙ is))
-      | inr past ↦
-          let flags : List Bool = replicate n false in
-          let same = length-replicate {A = Bool} n false in
-          let none = get_or_past flags v false (omega (arith, same, past)) in
-          absurd (false≢true (sym none ∙ is))
+      | inr past ↦ grind (arith, common_steps, false≢true, get_or_past, length-replicate)
     ]
 
 -- One vertex is noted.
@@ -73,12 +70,8 @@ noted_collapse s flags a b place sound proper legal on v is =
       given = omega (arith, low, more);
       border = λ live.
           let new : v ≢ next_vertex s = λ same. absurd (omega (arith, low, same)) in
-          let first : v ≢ a = λ same.
-          both_ways _ (ap (is_live then) same
-          ∙ ap is_some (gone_first s a b place (live_below s a la))) live in
-          let second : v ≢ b = λ same.
-          both_ways _ (ap (is_live then) same
-          ∙ ap is_some (gone_second s a b place (live_below s b lb))) live in
+          let first : v ≢ a = grind (arith, common_steps, gone_first, live_below) in
+          let second : v ≢ b = grind (arith, common_steps, gone_second, live_below) in
           let other : IsOther s a b v =
           record { not_new = new; not_first = first; not_second = second } in
           let was : is_live s v ≡ true = sym (old_live s a b place v new first second) ∙ live in

@@ -1,5 +1,6 @@
 -- Of finitely many pairs that pass a test one comes first by its key, where any does.
 use Rattle.std.proofs.Common.{◌≡◌, ℕ, zero, suc, ◌<◌, true, ◌⊎◌, inl, inr, sym, ◌∙◌, subst, arith}
+use Rattle.std.proofs.lemmas.Grind.{common_steps}
 use Rattle.std.proofs.lemmas.Bool.{cases_Bool, cases_eq, both_ways}
 use Rattle.pm_base.proofs.Search.{Decided}
 use Rattle.pm_queue.specs.declared.key.Key.{Key}
@@ -61,22 +62,8 @@ module _ (P : ℕ → ℕ → Type 0) (decide : (a b : ℕ) → Decided (P a b))
 
   join : {Some More : ℕ → ℕ → Type 0} → Finds Some → Finds More → Finds (λ c d. Some c d ⊎ More c d)
   join (inr none) (inr nor) = inr (λ c d h. elim h [ inl k ↦ none c d k | inr k ↦ nor c d k ])
-  join (inl x) (inr nor) = inl
-      (record {
-        a = x.a;
-        b = x.b;
-        is = x.is;
-        least =
-            λ c d h is. elim h [ inl k ↦ x.least c d k is | inr k ↦ absurd (nor c d k is) ];
-      })
-  join (inr none) (inl y) = inl
-      (record {
-        a = y.a;
-        b = y.b;
-        is = y.is;
-        least =
-            λ c d h is. elim h [ inl k ↦ absurd (none c d k is) | inr k ↦ y.least c d k is ];
-      })
+  join (inl x) (inr nor) = grind (arith, common_steps)
+  join (inr none) (inl y) = grind (arith, common_steps)
   join (inl x) (inl y) =
       elim (cases_Bool (is_before (key x.a x.b) (key y.a y.b))) [
         | inl first ↦ inl (first_wins x y (inr first))

@@ -1,8 +1,7 @@
 -- What keeps a pair from being collapsed lasts while the vertices that it names are there.
-use Rattle.std.specs.Prelude.{pos, ◌≤ℤ◌}
-use Rattle.std.proofs.Common.{◌≡◌, ℕ, inl, inr, refl, sym, ap, ◌∙◌, subst}
+use Rattle.std.proofs.lemmas.Grind.{common_steps}
+use Rattle.std.proofs.Common.{◌≡◌, ℕ, inl, inr, refl, sym, ◌∙◌, subst, arith}
 use Rattle.pm_base.specs.Place.{Place}
-use Rattle.pm_base.specs.Geometry.{cross_of, dot_of}
 use Rattle.pm_base.specs.Sides.{Net, next, prev, to, third, Stands, IsBorderSide, twin_of}
 use Rattle.pm_base.proofs.TwinLaws.{twin-none, none-twin}
 use Rattle.pm_runs.specs.Surfaces.{Surface, place_at, net_of_surface, IsSurface, collapsed}
@@ -82,9 +81,7 @@ module _ (s : Surface) (sound : IsSurface s) (proper : IsProper (net_of_surface 
   pub corner_stays : (e a v w : ℕ) → Other a → Other v → Other w → Stands n e → n.from e ≡ a
       → to n e ≡ v → third n e ≡ w → Stands o e × (o.from e ≡ a) × (to o e ≡ v) × (third o e ≡ w)
   corner_stays e a v w x y z st is_a is_v is_w =
-      let r : Runs n e a v = record { stands = st; begins = is_a; ends = is_v } in
-      let k = stays e a v x y r in
-      (k.stands, k.begins, k.ends, third_stays e a v w x y z r is_w)
+      grind (arith, common_steps, stays e a v x y, third_stays e a v w x y z)
 
   face_stays : (a v w : ℕ) → Other a → Other v → Other w → HasFace n a v w → HasFace o a v w
   face_stays a v w x y z h =
@@ -145,31 +142,16 @@ module _ (s : Surface) (sound : IsSurface s) (proper : IsProper (net_of_surface 
   upright_was : (place : Place) (p v w v' w' : ℕ) → Other p → Other v → Other w → v' ≡ v → w' ≡ w
       → StaysUpright (collapsed s t u at) place p v' w' → StaysUpright s place p v w
   upright_was place p v w v' w' x y z i j h =
-      let r : Surface = collapsed s t u at in
-      let is_p : place_at r p ≡ place_at s p = place_stays p x in
-      let is_v : place_at r v' ≡ place_at s v = ap (place_at r) i ∙ place_stays v y in
-      let is_w : place_at r w' ≡ place_at s w = ap (place_at r) j ∙ place_stays w z in
-      subst (λ k. pos 0 ≤ℤ dot_of (cross_of place (place_at s v) k)
-      (cross_of (place_at s p) (place_at s v) k)) is_w
-      (subst (λ k. pos 0 ≤ℤ dot_of (cross_of place k (place_at r w'))
-      (cross_of (place_at s p) k (place_at r w'))) is_v
-      (subst (λ k. pos 0 ≤ℤ dot_of (cross_of place (place_at r v') (place_at r w'))
-      (cross_of k (place_at r v') (place_at r w'))) is_p h))
+      grind (arith, common_steps, place_stays p x, place_stays v y, place_stays w z)
 
   pub turn_stays : (a b e : ℕ) (place : Place) → IsFaceSpared s t u e → TurnsOver s a b place e
       → TurnsOver (collapsed s t u at) a b place e
   turn_stays a b e place spared h =
-      let (st, is, i, j) = corner_stays e (n.from e) (to n e) (third n e) spared.from spared.to
-      spared.third h.stands refl refl refl in
-      record {
-        end = h.end;
-        other_end = h.other_end;
-        pair = h.pair;
-        stands = st;
-        begins = is ∙ h.begins;
-        not_to = λ same. h.not_to (sym i ∙ same);
-        not_third = λ same. h.not_third (sym j ∙ same);
-        turns = λ ok. h.turns
-            (upright_was place h.end (to n e) (third n e) (to o e) (third o e)
-            (subst Other h.begins spared.from) spared.to spared.third i j ok);
-      }
+      grind (
+        arith,
+        common_steps,
+        corner_stays e (n.from e) (to n e) (third n e) spared.from spared.to spared.third h.stands
+            refl refl refl,
+        upright_was place h.end (to n e) (third n e) (to o e) (third o e)
+            (subst Other h.begins spared.from) spared.to spared.third,
+      )

@@ -1,5 +1,6 @@
 -- The sides before the first collapse, and the room that a run needs.
 use Rattle.std.proofs.Common.{◌≡◌, ℕ, ◌+◌, ◌*◌, ◌<◌, ◌≤◌, List, [], ◌∷◌, ◌++◌, length, sym, ap, ◌∙◌}
+use Rattle.std.proofs.lemmas.Grind.{common_steps}
 use Rattle.std.proofs.Common.{subst, arith}
 use Rattle.std.proofs.lemmas.List.{length-append}
 use Rattle.pm_base.specs.declared.log.Collapse.{Collapse}
@@ -25,8 +26,4 @@ start_sides m s made = ap (λ (n : Net). n.faces) (ap net_of_surface made ∙ ne
 -- A run with one more entry leaves a vertex.
 pub room_left : (m : Mesh) → IsStartOfRun m → (log : List Collapse) (c : Collapse)
     → IsRun m (log ++ c ∷ []) → length log + 2 ≤ length m.points
-room_left m start log c run =
-    let (all, short) = runs_are_short m start (log ++ c ∷ []) run in
-    let n = length-append log (c ∷ []) in
-    let less = short (omega arith) in
-    omega arith
+room_left m start log c run = grind (arith, common_steps, length-append, runs_are_short)

@@ -1,6 +1,7 @@
 -- A pair that is held back isn't legal, and stays held back while its ends and the face that it
 -- waits for are spared.
 use Rattle.std.proofs.Common.{◌≡◌, ℕ, arith, true, List, [], ◌∷◌, ◌++◌, ◌⊎◌, inl, inr, refl, sym}
+use Rattle.std.proofs.lemmas.Grind.{common_steps}
 use Rattle.std.proofs.Common.{ap, ◌∙◌, subst}
 use Rattle.std.proofs.lemmas.Bool.{false≢true}
 use Rattle.pm_base.specs.Place.{Place}
@@ -11,7 +12,7 @@ use Rattle.pm_base.proofs.Sides.{face_of-next, stands_next}
 use Rattle.pm_links.specs.Lists.{Lists, list_of, has}
 use Rattle.pm_runs.specs.Surfaces.{Surface, net_of_surface, IsSurface, collapsed}
 use Rattle.pm_runs.specs.Pairs.{Links, IsLegalPair}
-use Rattle.pm_runs.specs.Merged.{IsProper, IsLinkable}
+use Rattle.pm_runs.specs.Merged.{IsProper}
 use Rattle.pm_runs.specs.Nearby.{IsOther}
 use Rattle.pm_runs.specs.Runs.{IsStartOfRun, IsRun, IsStep, surface_after}
 use Rattle.pm_runs.proofs.Live.{live_below, corner_live}
@@ -47,10 +48,7 @@ module _ (s : Surface) (a b : ℕ) (place : Place) (legal : IsLegalPair s a b pl
       ]
 
   pub not_barred : NoSideTwice (net_of_surface s) → IsBarred (net_of_surface s) a b → ⊥
-  not_barred once h =
-      let link : IsLinkable (net_of_surface s) a b =
-      ((linkable_is_legal s once a b place).0 legal).0 in
-      link.border h.first h.second h.forth h.back
+  not_barred once h = grind (arith, common_steps, linkable_is_legal s once a b place)
 
 -- Another pair is collapsed.
 module _ (s : Surface) (sound : IsSurface s) (proper : IsProper (net_of_surface s)) (t u : ℕ)
@@ -69,12 +67,7 @@ module _ (s : Surface) (sound : IsSurface s) (proper : IsProper (net_of_surface 
 
     -- A third corner that stands in the face is spared, and stands in it afterwards.
     spared_in : (v : ℕ) → (to n e ≡ v) ⊎ (third n e ≡ v) → IsOther s t u v
-    spared_in v h =
-        elim h [
-          | inl is ↦ subst (IsOther s t u) is spared.to
-          | inr is ↦
-              subst (IsOther s t u) is spared.third
-        ]
+    spared_in v h = grind (arith, common_steps)
 
     still_in : (v w : ℕ) → w ≡ v → (to n e ≡ v) ⊎ (third n e ≡ v) → (to o e ≡ w) ⊎ (third o e ≡ w)
     still_in v w same h =

@@ -1,6 +1,7 @@
 -- Walks over the corners at a vertex: how they begin, go on and end, and what has been met at the
 -- end.
 use Rattle.std.proofs.Common.{◌≡◌, ℕ, ◌<◌, true, Option, Some, None, List, length, inl, inr, sym}
+use Rattle.std.proofs.lemmas.Grind.{common_steps}
 use Rattle.std.proofs.Common.{ap, ◌∙◌, subst, arith}
 use Rattle.std.specs.Option.{IfSome, option_map}
 use Rattle.std.proofs.lemmas.Bool.{or_cases, eqb-true, false≢true}
@@ -20,13 +21,7 @@ held_side fan (Some c) h = h
 module _ (fan : List ℕ) (Done : ℕ → Type 0) where
   pub walk_begins : (at : Option Side) → option_map (λ c. c.0) at ≡ first_of fan
       → IsWalk fan Done at
-  walk_begins at is = record {
-    held = held_side fan at
-        (subst (λ o. IfSome o (λ x. has fan x ≡ true)) (sym is) (held_first fan));
-    seen = λ e h. inl
-        (subst (λ o. has (rest_of_walk o fan) e ≡ true) (sym is)
-        (subst (λ l. has l e ≡ true) (sym (rest_first fan)) h));
-  }
+  walk_begins at is = grind (arith, common_steps, held_first, held_side, rest_first)
 
   still_next : (c : Side) (at : Option Side) → IsOnce fan → has fan c.0 ≡ true
       → option_map (λ c. c.0) at ≡ first_of (after c.0 fan) → still at fan ≡ after c.0 fan
@@ -34,21 +29,8 @@ module _ (fan : List ℕ) (Done : ℕ → Type 0) where
 
   pub walk_goes : (c : Side) (at : Option Side) → IsOnce fan → IsWalk fan Done (Some c)
       → option_map (λ c. c.0) at ≡ first_of (after c.0 fan) → Done c.0 → IsWalk fan Done at
-  walk_goes c at once walk is done = record {
-    held = held_side fan at
-        (subst (λ o. IfSome o (λ x. has fan x ≡ true)) (sym is) (held_next c.0 fan));
-    seen = λ e h.
-        elim (walk.seen e h) [
-          | inr d ↦ inr d
-          | inl left ↦
-              elim (or_cases _ _ left) [
-                | inl here ↦ inr (subst Done (eqb-true c.0 e here) done)
-                | inr later ↦
-                    inl (subst (λ l. has l e ≡ true) (sym (still_next c at once walk.held is))
-                    later)
-              ]
-        ];
-  }
+  walk_goes c at once walk is done =
+      grind (arith, common_steps, eqb-true, held_next, held_side, or_cases, still_next)
 
   pub walk_shorter : (c : Side) (at : Option Side) → IsOnce fan → has fan c.0 ≡ true
       → option_map (λ c. c.0) at ≡ first_of (after c.0 fan)
@@ -62,10 +44,7 @@ module _ (fan : List ℕ) (Done : ℕ → Type 0) where
 -- What is done stays done.
 pub walk_more : (fan : List ℕ) (Done Then : ℕ → Type 0) (at : Option Side) → IsWalk fan Done at
     → ((e : ℕ) → Done e → Then e) → IsWalk fan Then at
-walk_more fan Done Then at walk stays = record {
-  held = walk.held;
-  seen = λ e h. elim (walk.seen e h) [ inl left ↦ inl left | inr d ↦ inr (stays e d) ];
-}
+walk_more fan Done Then at walk stays = grind (arith, common_steps)
 
 -- One step of a walk over the corners at a vertex of the mesh that is being simplified.
 module _ (s : Shrinking) (v : ℕ) (corners : AreCornersAt (net_at s) v (fan_at s v)) where
