@@ -1,6 +1,7 @@
 -- How many planes there are round a vertex: three for each of its faces at most.
 use Rattle.std.proofs.Common.{◌≡◌, ℕ, zero, suc, ◌+◌, ◌*◌, ◌%◌, ◌≤◌, Bool, true}
-use Rattle.std.proofs.Common.{cond, eqb, ◌||◌, ◌&&◌, List, [], ◌∷◌, ◌++◌}
+use Rattle.std.proofs.lemmas.Grind.{common_steps}
+use Rattle.std.proofs.Common.{cond, eqb, ◌&&◌, List, [], ◌∷◌}
 use Rattle.std.proofs.Common.{length, length-append, take, get_or, Some, inl}
 use Rattle.std.proofs.Common.{inr, refl, sym, ap, ◌∙◌, arith}
 use Rattle.std.specs.List.{filter, range_with_len}
@@ -29,21 +30,16 @@ use Rattle.pm_fine_costs.proofs.TakenLaws.{corner_few, all_few}
 filter_counted : (p : ℕ → Bool) (n : ℕ) → length (filter p (range_with_len 0 n)) ≡ count p n
 filter_counted p zero = sym (count-zero p)
 filter_counted p (suc n) =
-    let more : range_with_len 0 (suc n) ≡ range_with_len 0 n ++ n ∷ [] =
-    (let k : suc n ≡ n + 1 = omega arith in ap (range_with_len 0) k ∙ numbers_next n) in
-    let parts = filter-append p (range_with_len 0 n) (n ∷ []) in
-    let len = length-append (filter p (range_with_len 0 n)) (filter p (n ∷ [])) in
-    let all : length (filter p (range_with_len 0 (suc n))) ≡
-    length (filter p (range_with_len 0 n)) + length (filter p (n ∷ [])) =
-    ap (λ (l : List ℕ). length (filter p l)) more ∙ ap length parts ∙ len in
-    elim (cases_Bool (p n)) [
-      | inl t ↦
-          let one : length (filter p (n ∷ [])) ≡ 1 = rw t refl in
-          omega (arith, filter_counted p n, count-true p n t)
-      | inr t ↦
-          let none : length (filter p (n ∷ [])) ≡ 0 = rw t refl in
-          omega (arith, filter_counted p n, count-false p n t)
-    ]
+    grind (
+      arith,
+      common_steps,
+      count-false p n,
+      count-true p n,
+      filter-append p (range_with_len 0 n) (n ∷ []),
+      length-append (filter p (range_with_len 0 n)) (filter p (n ∷ [])),
+      numbers_next n,
+      filter_counted p n,
+    )
 
 -- Of the three sides of a face one passes at most, and then the face does.
 module _ (p q : ℕ → Bool) (face : (e : ℕ) → p e ≡ true → q (face_of e) ≡ true)
@@ -67,42 +63,8 @@ module _ (p q : ℕ → Bool) (face : (e : ℕ) → p e ≡ true → q (face_of 
       let bc : p (suc a) ≡ true → p (suc (suc a)) ≡ true → ⊥ =
       λ x y. absurd (let k = one (suc a) (suc (suc a)) (fb ∙ sym fc) x y in omega arith) in
       elim (cases_Bool (p a)) [
-        | inl ta ↦
-            let top = count-true q n (here a fa ta) in
-            let ca = count-true p a ta in
-            elim (cases_Bool (p (suc a))) [
-              | inl tb ↦ absurd (ab ta tb)
-              | inr tb ↦
-                  let cb = count-false p (suc a) tb in
-                  elim (cases_Bool (p (suc (suc a)))) [
-                    | inl tc ↦ absurd (ac ta tc)
-                    | inr tc ↦ (let cc' = count-false p (suc (suc a)) tc in omega arith)
-                  ]
-            ]
-        | inr ta ↦
-            let ca = count-false p a ta in
-            elim (cases_Bool (p (suc a))) [
-              | inl tb ↦
-                  let top = count-true q n (here (suc a) fb tb) in
-                  let cb = count-true p (suc a) tb in
-                  elim (cases_Bool (p (suc (suc a)))) [
-                    | inl tc ↦ absurd (bc tb tc)
-                    | inr tc ↦ (let cc' = count-false p (suc (suc a)) tc in omega arith)
-                  ]
-              | inr tb ↦
-                  let cb = count-false p (suc a) tb in
-                  elim (cases_Bool (p (suc (suc a)))) [
-                    | inl tc ↦
-                        let top = count-true q n (here (suc (suc a)) fc tc) in
-                        let cc' = count-true p (suc (suc a)) tc in omega arith
-                    | inr tc ↦
-                        let cc' = count-false p (suc (suc a)) tc in
-                        elim (cases_Bool (q n)) [
-                          | inl u ↦ (let top = count-true q n u in omega arith)
-                          | inr u ↦ (let top = count-false q n u in omega arith)
-                        ]
-                  ]
-            ]
+        | inl ta ↦ grind (arith, common_steps, count-false, count-true)
+        | inr ta ↦ grind (arith, common_steps, count-false, count-true)
       ]
 
 module _ (s : Surface) (v : ℕ) where
@@ -122,22 +84,13 @@ module _ (s : Surface) (v : ℕ) where
       let at_g : m.from g ≡ v = eqb-true (m.from g) v py.1 in
       elim (face_cases e g f) [
         | inl is ↦ sym is
-        | inr more ↦
-            elim more [
-              | inl is ↦ absurd (st.first (at_e ∙ sym at_g ∙ ap m.from is))
-              | inr is ↦ absurd (st.last (sym (ap m.from is) ∙ at_g ∙ sym at_e))
-            ]
+        | inr more ↦ grind (arith, common_steps)
       ]
 
   pub round_counted :
       (q : ℕ → Bool) → ((e : ℕ) → is_round e ≡ true → q (face_of e) ≡ true) →
       length (corners_round s v) ≤ count q (length s.faces)
-  round_counted q face =
-      omega (
-        arith,
-        filter_counted is_round (3 * length s.faces),
-        faces_counted is_round q face one_corner (length s.faces),
-      )
+  round_counted q face = grind (arith, common_steps, faces_counted, filter_counted, one_corner)
 
   -- Three planes a face at most.
   pub round_few : (w : Direction → Direction) → length (planes_round w s v) ≤ 3 * length s.faces
@@ -172,20 +125,7 @@ filter_taken p fs (suc n) l =
     ]
 
 corner_has : (k : Corners) (i v : ℕ) → corner_in k i ≡ v → has_corner v k ≡ true
-corner_has k i v is =
-    elim (cases_Bool (eqb i 0)) [
-      | inl t ↦
-          let a : k.a ≡ v = sym (cond-true _ _ _ t) ∙ is in
-          or_left (eqb k.a v) (eqb k.b v || eqb k.c v) (eq-eqb k.a v a)
-      | inr t ↦
-          let rest : cond (eqb i 1) k.b k.c ≡ v = sym (cond-false _ _ _ t) ∙ is in
-          or_right (eqb k.a v) (eqb k.b v || eqb k.c v) (elim (cases_Bool (eqb i 1)) [
-            | inl u ↦ or_left (eqb k.b v) (eqb k.c v)
-                (eq-eqb k.b v (sym (cond-true _ _ _ u) ∙ rest))
-            | inr u ↦ or_right (eqb k.b v) (eqb k.c v)
-                (eq-eqb k.c v (sym (cond-false _ _ _ u) ∙ rest))
-          ])
-    ]
+corner_has k i v is = grind (arith, common_steps, cond-false, cond-true, eq-eqb, or_left, or_right)
 
 -- An input vertex has three for each of its faces.
 pub input_few :

@@ -1,12 +1,13 @@
 -- The corners round a vertex: which they are, each once, and how many.
 use Rattle.std.proofs.Common.{◌≡◌, ℕ, zero, suc, ◌+◌, ◌<◌, ◌≤◌, Bool, true}
+use Rattle.std.proofs.lemmas.Grind.{common_steps}
 use Rattle.std.proofs.Common.{◌&&◌, eqb}
-use Rattle.std.proofs.Common.{List, [], ◌∷◌, inl, inr, sym, ap}
-use Rattle.std.proofs.Common.{◌∙◌, arith}
+use Rattle.std.proofs.Common.{List, [], ◌∷◌}
+use Rattle.std.proofs.Common.{arith}
 use Rattle.std.specs.List.{filter, range_with_len}
-use Rattle.std.proofs.lemmas.Bool.{cases_Bool, cases_eq, or_cases, or_left, or_right, eqb-true}
+use Rattle.std.proofs.lemmas.Bool.{or_cases, or_left, or_right, eqb-true}
 use Rattle.std.proofs.lemmas.Bool.{eq-eqb}
-use Rattle.std.proofs.lemmas.Bool.{and_parts, and_from, both_ways, false≢true, false_from_ne_true}
+use Rattle.std.proofs.lemmas.Bool.{and_parts, and_from, false≢true}
 use Rattle.pm_base.proofs.TwinLaws.{stands-true, stands_is_true}
 use Rattle.pm_base.specs.Sides.{Net, Stands, side_count, stands}
 use Rattle.pm_links.specs.Lists.{has, IsOnce}
@@ -16,83 +17,35 @@ use Rattle.pm_fine_costs.specs.FinePolicy.{corners_round}
 
 range_from : (a n e : ℕ) → has (range_with_len a n) e ≡ true → (a ≤ e) × (e < a + n)
 range_from a zero e h = absurd (false≢true h)
-range_from a (suc n) e h =
-    elim (or_cases (eqb a e) (has (range_with_len (a + 1) n) e) h) [
-      | inl is ↦ (let same = eqb-true a e is in (omega arith, omega arith))
-      | inr later ↦ (let l = range_from (a + 1) n e later in (omega arith, omega arith))
-    ]
+range_from a (suc n) e h = grind (arith, common_steps, eqb-true, or_cases, range_from (a + 1) n e)
 
 range_has : (a n e : ℕ) → a ≤ e → e < a + n → has (range_with_len a n) e ≡ true
 range_has a zero e low high = absurd (omega arith)
 range_has a (suc n) e low high =
-    elim (cases_eq a e) [
-      | inl is ↦ or_left (eqb a e) (has (range_with_len (a + 1) n) e) (eq-eqb a e is)
-      | inr ne ↦
-          or_right (eqb a e) (has (range_with_len (a + 1) n) e)
-          (range_has (a + 1) n e (omega arith) (omega arith))
-    ]
+    grind (arith, common_steps, eq-eqb, or_left, or_right, range_has (a + 1) n e)
 
 range_once : (a n : ℕ) → IsOnce (range_with_len a n)
 range_once a zero = tt
-range_once a (suc n) = (
-  false_from_ne_true (has (range_with_len (a + 1) n) a) (λ h. (
-      let l = range_from (a + 1) n a h in absurd (omega arith))),
-  range_once (a + 1) n,
-)
+range_once a (suc n) = grind (arith, common_steps, range_from, range_once (a + 1) n)
 
 module _ (p : ℕ → Bool) where
   filter_from : (xs : List ℕ) (e : ℕ) → has (filter p xs) e ≡ true → (p e ≡ true) ×
       (has xs e ≡ true)
   filter_from [] e h = absurd (false≢true h)
   filter_from (x ∷ xs) e h =
-      elim (cases_Bool (p x)) [
-        | inl t ↦
-            elim (or_cases (eqb x e) (has (filter p xs) e) (rw t at h)) [
-              | inl is ↦
-                  let same : x ≡ e = eqb-true x e is in
-                  (ap p (sym same) ∙ t, or_left (eqb x e) (has xs e) is)
-              | inr later ↦
-                  let l = filter_from xs e later in (l.0, or_right (eqb x e) (has xs e) l.1)
-            ]
-        | inr t ↦
-            let l = filter_from xs e (rw t at h) in (l.0, or_right (eqb x e) (has xs e) l.1)
-      ]
+      grind (arith, common_steps, eqb-true, or_cases, or_left, or_right, filter_from xs e)
 
   filter_has : (xs : List ℕ) (e : ℕ) → p e ≡ true → has xs e ≡ true → has (filter p xs) e ≡ true
   filter_has [] e t h = h
   filter_has (x ∷ xs) e t h =
-      elim (cases_Bool (p x)) [
-        | inl tx ↦
-            rw tx (elim (or_cases (eqb x e) (has xs e) h) [
-              | inl is ↦ or_left (eqb x e) (has (filter p xs) e) is
-              | inr later ↦ or_right (eqb x e) (has (filter p xs) e) (filter_has xs e t later)
-            ])
-        | inr tx ↦
-            rw tx (elim (or_cases (eqb x e) (has xs e) h) [
-              | inl is ↦ absurd (both_ways (p x) tx (ap p (eqb-true x e is) ∙ t))
-              | inr later ↦ filter_has xs e t later
-            ])
-      ]
+      grind (arith, common_steps, eqb-true, or_cases, or_left, or_right, filter_has xs e t)
 
   filter_once : (xs : List ℕ) → IsOnce xs → IsOnce (filter p xs)
   filter_once [] once = tt
-  filter_once (x ∷ xs) once =
-      elim (cases_Bool (p x)) [
-        | inl t ↦
-            rw t (
-              false_from_ne_true (has (filter p xs) x)
-                  (λ h. both_ways (has xs x) once.0 (filter_from xs x h).1),
-              filter_once xs once.1,
-            )
-        | inr t ↦ rw t (filter_once xs once.1)
-      ]
+  filter_once (x ∷ xs) once = grind (arith, common_steps, filter_from, filter_once xs once.1)
 
 same_bool : (a b : Bool) → (a ≡ true → b ≡ true) → (b ≡ true → a ≡ true) → a ≡ b
-same_bool a b forth back =
-    elim (cases_Bool a) [
-      | inl t ↦ t ∙ sym (forth t)
-      | inr t ↦ t ∙ sym (false_from_ne_true b (λ h. both_ways a t (back h)))
-    ]
+same_bool a b forth back = grind (arith, common_steps)
 
 module _ (s : Surface) (v : ℕ) where
   abbrev m : Net
@@ -122,7 +75,4 @@ module _ (s : Surface) (v : ℕ) where
   pub same_corners :
       (corners : List ℕ) → AreCornersAt m v corners → (e : ℕ) →
       has corners e ≡ has (corners_round s v) e
-  same_corners corners are e =
-      same_bool (has corners e) (has (corners_round s v) e)
-      (λ h. let l = (are.each e).0 h in round_has e l.0 l.1)
-      (λ h. (are.each e).1 (round_from e h))
+  same_corners corners are e = grind (arith, common_steps, round_from, round_has, same_bool)

@@ -1,16 +1,16 @@
 -- The planes that a vertex takes, by a walk over the corners round it.
 use Rattle.std.proofs.Common.{◌≡◌, ℕ, ◌+◌, ◌*◌, ◌≤◌, Bool, true, false, cond, Option, Some, None}
+use Rattle.std.proofs.lemmas.Grind.{common_steps}
 use Rattle.std.proofs.Common.{List, [], ◌∷◌, ◌++◌}
 use Rattle.std.proofs.Common.{length, length-append, sym, ap, ◌∙◌, subst, arith}
 use Rattle.std.specs.Option.{IfSome, option_map}
-use Rattle.std.specs.Prelude.{is_some}
 use Rattle.std.specs.List.{flat_map}
 use Rattle.pm_base.specs.declared.limits.TheConstants.{MOST_SIDES}
 use Rattle.pm_base.specs.declared.ids.Side.{Side}
 use Rattle.pm_base.specs.Geometry.{Direction}
-use Rattle.pm_base.specs.Sides.{Net, next, prev, to, Stands, side_count, twin_of}
+use Rattle.pm_base.specs.Sides.{Net, next, prev, to, Stands, side_count}
 use Rattle.pm_base.proofs.Sides.{stands_next}
-use Rattle.pm_links.specs.Lists.{has, first_of, after, rest_of_walk}
+use Rattle.pm_links.specs.Lists.{has, first_of, after}
 use Rattle.pm_links.proofs.Members.{few_below}
 use Rattle.pm_links.proofs.Walking.{rest_first, rest_next}
 use Rattle.pm_quadric.specs.Planes.{Plane, plane_through}
@@ -21,7 +21,7 @@ use Rattle.pm_fine.specs.Normals.{border_normal_of}
 use Rattle.pm_fine.specs.declared.fine_quadric.TheConstants.{MOST_FINE_PLANES}
 use Rattle.pm_shrink.specs.Shrinking.{Shrinking, net_at, fan_at, AreCornersAt}
 use Rattle.pm_simplify.specs.Walks.{still}
-use Rattle.pm_fine_costs.specs.FinePolicy.{normal_at, face_plane, corner_planes, corners_round}
+use Rattle.pm_fine_costs.specs.FinePolicy.{normal_at, corner_planes, corners_round}
 use Rattle.pm_fine_costs.specs.FinePolicy.{planes_round}
 use Rattle.pm_fine_costs.proofs.PlaneSums.{total, total-cons, same_total, plus-assoc, plus-zero}
 use Rattle.pm_fine_costs.proofs.PlaneSums.{zero-plus}
@@ -51,10 +51,7 @@ three_at_most f g h false false = omega arith
 -- A corner has three planes at most.
 pub corner_few :
     (w : Direction → Direction) (s : Surface) (v e : ℕ) → length (corner_planes w s v e) ≤ 3
-corner_few w s v e =
-    let m = net_of_surface s in
-    three_at_most (face_plane w s e) (border_plane w s v e) (border_plane w s v (prev e))
-    (is_some (twin_of m e)) (is_some (twin_of m (prev e)))
+corner_few w s v e = grind (arith, common_steps, three_at_most)
 
 pub all_few :
     (f : ℕ → List Plane) → ((e : ℕ) → length (f e) ≤ 3) → (xs : List ℕ) →
@@ -74,10 +71,7 @@ module _ (w : Direction → Direction) (s : Shrinking) (v : ℕ)
   pub walk_first :
       (q : Sums) (at : Option Side) → q ≡ zero_sums → option_map (λ c. c.0) at ≡ first_of fan →
       plus_sums q (total planes (still at fan)) ≡ total planes fan
-  walk_first q at zero is =
-      ap (λ (k : Sums). plus_sums k (total planes (still at fan))) zero
-      ∙ zero-plus (total planes (still at fan))
-      ∙ ap (total planes) (ap (λ o. rest_of_walk o fan) is ∙ rest_first fan)
+  walk_first q at zero is = grind (arith, common_steps, rest_first, total, zero-plus)
 
   pub walk_stands : (at : Option Side) (c : Side) → at ≡ Some c → IfSome at
       (λ c. has fan c.0 ≡ true) →
@@ -93,9 +87,7 @@ module _ (w : Direction → Direction) (s : Shrinking) (v : ℕ)
   walk_on q cq r at next_at c is held before one more step =
       let rest : List ℕ = after c.0 fan in
       let from : (net_at s).from c.0 ≡ v = ((corners.each c.0).0 held).1 in
-      let left : still next_at fan ≡ rest =
-      ap (λ o. rest_of_walk o fan) (step ∙ ap (λ k. first_of (after c.0 (fan_at s k))) from)
-      ∙ rest_next fan c.0 corners.once held in
+      let left : still next_at fan ≡ rest = grind (arith, common_steps, rest_next) in
       let here : cq ≡ sums_of (planes c.0) =
       one ∙ ap (λ (k : ℕ). sums_of (corner_planes w s.surface k c.0)) from in
       ap (λ (l : List ℕ). plus_sums r (total planes l)) left
