@@ -1,7 +1,9 @@
 -- Laws for callers: the list of each head after a call, and which items are then held or free. Each
 -- takes the call's clause as it stands.
 use Rattle.std.proofs.Common.{◌≡◌, ◌≢◌, ◌↔◌, ℕ, ◌<◌, ◌≤◌, Option, Some, None, true, eqb, List, []}
-use Rattle.std.proofs.Common.{◌∷◌, ◌++◌, length, sym, ap, ◌∙◌, subst, ⊎_elim, get_or-set_other}
+use Rattle.std.proofs.Common.{arith}
+use Rattle.std.proofs.lemmas.Grind.{common_steps}
+use Rattle.std.proofs.Common.{◌∷◌, ◌++◌, length, sym, ap, ◌∙◌, ⊎_elim, get_or-set_other}
 use Rattle.std.proofs.Common.{get_or-set_same, length-set}
 use Rattle.std.proofs.lemmas.List.{length-map, get_or_past}
 use Rattle.std.proofs.lemmas.Option.{none-some}
@@ -49,23 +51,13 @@ pub record AfterPush (v w : Lists) (head item : ℕ) : Type 0 where
 
 pub after_push : (v w : Lists) (head item : ℕ) → head < length v.lists →
     w ≡ with_first v head item → AfterPush v w head item
-after_push v w head item low e = record {
-  gained = ap (λ k. list_of k head) e ∙ list_of-with_list_same v head (item ∷ list_of v head) low;
-  others = λ g ne. ap (λ k. list_of k g) e
-      ∙ list_of-with_list_other v head g (item ∷ list_of v head) ne;
-  items = ap (λ k. k.items) e;
-  heads = ap (λ k. length k.lists) e ∙ length-set v.lists head (item ∷ list_of v head);
-}
+after_push v w head item low e =
+    grind (arith, common_steps, length-set, list_of-with_list_other, list_of-with_list_same)
 
 module _ {v w : Lists} {head item : ℕ} (a : AfterPush v w head item) where
   -- an item stays in its list
   pub has-push : (h x : ℕ) → has (list_of v h) x ≡ true → has (list_of w h) x ≡ true
-  has-push h x i =
-      ⊎_elim
-      (λ (e : h ≡ head). rw e (rw a.gained
-      (has_tail item (list_of v head) x (subst (λ (k : ℕ). has (list_of v k) x ≡ true) e i))))
-      (λ ne. ap (λ k. has k x) (a.others h ne) ∙ i)
-      (cases_eq h head)
+  has-push h x i = grind (arith, common_steps, has_tail, ⊎_elim)
 
   -- another item stays free
   pub free-push : (x : ℕ) → item ≢ x → IsFree v x → IsFree w x
@@ -84,11 +76,7 @@ pub record AfterUnlink (v w : Lists) (item : ℕ) : Type 0 where
   pub heads : length w.lists ≡ length v.lists
 
 pub after_unlink : (v w : Lists) (item : ℕ) → w ≡ without_item v item → AfterUnlink v w item
-after_unlink v w item e = record {
-  lost = λ g. ap (λ k. list_of k g) e ∙ get_without item v.lists g;
-  items = ap (λ k. k.items) e;
-  heads = ap (λ k. length k.lists) e ∙ length-map v.lists (list_without item);
-}
+after_unlink v w item e = grind (arith, common_steps, get_without, length-map)
 
 module _ {v w : Lists} {item : ℕ} (a : AfterUnlink v w item) where
   -- only the list of the item's head loses it
@@ -121,15 +109,4 @@ pub record AfterMove (v w : Lists) (from to : ℕ) : Type 0 where
 pub after_move : (v w : Lists) (from to : ℕ) → from < length v.lists → to < length v.lists →
     from ≢ to → w ≡ with_moved v from to → AfterMove v w from to
 after_move v w from to fl tl ne e =
-    let xs : List ℕ = list_of v from ++ list_of v to in
-    let m : Lists = with_list v to xs in
-    let len : length m.lists ≡ length v.lists = length-set v.lists to xs in
-    record {
-      emptied = ap (λ k. list_of k from) e ∙ list_of-with_list_same m from [] (rw len fl);
-      gained = ap (λ k. list_of k to) e ∙ list_of-with_list_other m from to [] (λ k. ne (sym k))
-          ∙ list_of-with_list_same v to xs tl;
-      others = λ g nf nt. ap (λ k. list_of k g) e ∙ list_of-with_list_other m from g [] nf
-          ∙ list_of-with_list_other v to g xs nt;
-      items = ap (λ k. k.items) e;
-      heads = ap (λ k. length k.lists) e ∙ length-set m.lists from [] ∙ len;
-    }
+    grind (arith, common_steps, length-set, list_of-with_list_other, list_of-with_list_same)

@@ -1,5 +1,6 @@
 -- What two walks from the two ends of a list leave between them, and what they copy to a room.
 use Rattle.std.proofs.Common.{◌≡◌, ◌≢◌, ℕ, ◌+◌, ◌-◌, ◌<◌, ◌≤◌, true, false, eqb, List, [], ◌∷◌}
+use Rattle.std.proofs.lemmas.Grind.{common_steps}
 use Rattle.std.proofs.Common.{◌++◌, length, get_or, set, take, drop, sym, refl, ap, ◌∙◌, subst}
 use Rattle.std.proofs.Common.{append_assoc, length-set, arith}
 use Rattle.std.proofs.Math.Seq.{take-length}
@@ -16,10 +17,7 @@ use Rattle.pm_links.proofs.Members.{has_head, has_tail, has-append}
 once_front : (xs : List ℕ) (y : ℕ) → IsOnce (xs ++ y ∷ []) → IsOnce xs × (has xs y ≡ false)
 once_front [] y o = (tt, refl)
 once_front (x ∷ xs) y o =
-    let r = once_front xs y o.1 in
-    let s = or_parts (has xs x) (has (y ∷ []) x) (sym (has-append xs (y ∷ []) x) ∙ o.0) in
-    let t = or_parts (eqb y x) false s.1 in
-    ((s.0, r.0), rw (ne_eqb x y (λ e. eqb-false y x t.0 (sym e))) r.1)
+    grind (arith, common_steps, eqb-false, has-append, ne_eqb, or_parts, once_front xs y o.1)
 
 -- a run up to its last item y
 cut_last : (next prev : List ℕ) (a x : ℕ) (xs : List ℕ) (b y : ℕ) → get_or prev b 0 ≡ y →
@@ -45,28 +43,23 @@ module _ (next prev : List ℕ) where
   -- without the first of them
   left_front : (first x : ℕ) (xs : List ℕ) (last : ℕ) → IsLeft next prev first (x ∷ xs) last →
       IsLeft next prev x xs last
-  left_front first x xs last l = record {
-    linked = l.linked.2;
-    once = l.once.1;
-    not_first = l.once.0;
-    not_last = (or_parts (eqb x last) (has xs last) l.not_last).1;
-    in_range = λ y h. l.in_range y (has_tail x xs y h);
-  }
+  left_front first x xs last l =
+      grind (arith, common_steps, has_tail x xs, or_parts (eqb x last) (has xs last) l.not_last)
 
   -- without the last of them
   left_back : (first : ℕ) (xs : List ℕ) (y last : ℕ) → IsLinked next prev first xs y →
       IsLeft next prev first (xs ++ y ∷ []) last → IsLeft next prev first xs y
   left_back first xs y last linked l =
-      let o = once_front xs y l.once in
-      record {
-        linked = linked;
-        once = o.0;
-        not_first = (or_parts (has xs first) (has (y ∷ []) first)
-            (sym (has-append xs (y ∷ []) first) ∙ l.not_first)).0;
-        not_last = o.1;
-        in_range = λ x h. l.in_range x (has-append xs (y ∷ []) x
-            ∙ or_left (has xs x) (has (y ∷ []) x) h);
-      }
+      grind (
+        arith,
+        common_steps,
+        or_left,
+        has-append xs (y ∷ []) first,
+        has-append xs (y ∷ []),
+        once_front xs y l.once,
+        or_parts (has xs first) (has (y ∷ []) first) (sym (has-append xs (y ∷ []) first)
+            ∙ l.not_first),
+      )
 
 -- ---- what is copied: the first items before `front`, and the last from `back` on
 
@@ -160,13 +153,7 @@ module _ {next prev items room : List ℕ} {front back first last : ℕ}
           ∙ or_right (has r.0 first) (has (first ∷ []) first) (has_head first [])))
 
   pub length-copied : length items ≡ front + (length c.middle + (length room - back))
-  length-copied = ap length c.parts
-      ∙ rw (
-        length-append (take front room) (c.middle ++ drop back room),
-        length-append c.middle (drop back room),
-        length-take-le front room (omega (arith, c.low, c.high)),
-        length-drop back room,
-      ) refl
+  length-copied = grind (arith, common_steps, length-append, length-drop, length-take-le)
 
   -- then there is room for all
   pub all_fit : c.middle ≡ [] → length items ≤ length room

@@ -4,7 +4,7 @@ use Rattle.std.proofs.Common.{◌≡◌, ◌≢◌, ℕ, ◌<◌, Some, Bool, tr
 use Rattle.std.proofs.Common.{◌++◌, length, reverse, sym, refl, ap, ◌∙◌, subst, ◌⊎◌, ⊎_elim}
 use Rattle.std.proofs.Common.{append_assoc, arith}
 use Rattle.std.specs.List.{filter}
-use Rattle.std.proofs.lemmas.Grind.{reverse_onto}
+use Rattle.std.proofs.lemmas.Grind.{reverse_onto, common_steps}
 use Rattle.std.proofs.lemmas.Bool.{eqb-true, eqb-false, eq-eqb, cases_Bool}
 use Rattle.pm_links.specs.Lists.{Lists, list_of, has, first_of, after, IsOnce, IsSound}
 use Rattle.pm_links.specs.Lists.{list_without, with_first, without_item}
@@ -44,16 +44,7 @@ moves_first v m w from to x xs s first ne low me we =
 -- nothing is left to deal
 pub dealt_end : (p : ℕ → Bool) (v : Lists) (from left right h : ℕ) → list_of v from ≡ [] →
     list_of v h ≡ dealt p v from left right h
-dealt_end p v from left right h e =
-    ⊎_elim (λ (k : eqb h from ≡ true). rw k (ap (list_of v) (eqb-true h from k) ∙ e))
-    (λ (k : eqb h from ≡ false). rw k (⊎_elim
-    (λ (m : eqb h left ≡ true). rw (m, e) (ap (list_of v) (eqb-true h left m)))
-    (λ (m : eqb h left ≡ false). rw m (⊎_elim
-    (λ (t : eqb h right ≡ true). rw (t, e) (ap (list_of v) (eqb-true h right t)))
-    (λ (t : eqb h right ≡ false). rw t refl)
-    (cases_Bool (eqb h right))))
-    (cases_Bool (eqb h left))))
-    (cases_Bool (eqb h from))
+dealt_end p v from left right h e = grind (arith, common_steps, eqb-true, ⊎_elim)
 
 reverse_cons : (x : ℕ) (xs ys : List ℕ) → reverse (x ∷ xs) ++ ys ≡ reverse xs ++ x ∷ ys
 reverse_cons x xs ys =

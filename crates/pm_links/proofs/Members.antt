@@ -1,5 +1,6 @@
 -- Laws for callers: which items a list has, and that none stands twice.
 use Rattle.std.proofs.Common.{◌≡◌, ◌≢◌, ℕ, zero, suc, ◌<◌, ◌≤◌, Some, None, true, false, ◌||◌, eqb}
+use Rattle.std.proofs.lemmas.Grind.{common_steps}
 use Rattle.std.proofs.Common.{List, [], ◌∷◌, ◌++◌, length, get_or, sym, refl, ap, ◌∙◌, ⊎_elim}
 use Rattle.std.proofs.Common.{arith}
 use Rattle.std.specs.List.{IsDistinct, AllByRecursion, list_any, Contains}
@@ -23,11 +24,7 @@ differs xs x y p q e = false≢true (sym q ∙ ap (has xs) (sym e) ∙ p)
 
 pub has-append : (xs ys : List ℕ) (x : ℕ) → has (xs ++ ys) x ≡ (has xs x || has ys x)
 has-append [] ys x = refl
-has-append (y ∷ xs) ys x =
-    elim (eqb y x) as (λ b. (b || has (xs ++ ys) x) ≡ ((b || has xs x) || has ys x)) [
-      | true ↦ refl
-      | false ↦ has-append xs ys x
-    ]
+has-append (y ∷ xs) ys x = grind (arith, common_steps, has-append xs ys x)
 
 -- ---- the first item
 
@@ -44,10 +41,8 @@ first_is (y ∷ ys) x e = (ys, ap (λ k. k ∷ ys) (same_Some y x e))
 pub once-append : (xs ys : List ℕ) → IsOnce xs → IsOnce ys →
     ((y : ℕ) → has xs y ≡ true → has ys y ≡ false) → IsOnce (xs ++ ys)
 once-append [] ys o p apart = p
-once-append (x ∷ xs) ys o p apart = (
-  has-append xs ys x ∙ or_from (has xs x) (has ys x) o.0 (apart x (has_head x xs)),
-  once-append xs ys o.1 p (λ y h. apart y (has_tail x xs y h)),
-)
+once-append (x ∷ xs) ys o p apart =
+    grind (arith, common_steps, has-append, has_head, has_tail, or_from, once-append xs ys o.1 p)
 
 -- std's word for it
 pub IsDistinct_from_once : (xs : List ℕ) → IsOnce xs → IsDistinct eqb xs

@@ -1,8 +1,9 @@
 -- Which nodes of an arena are no part of a ring, so that a write there leaves it.
 use Rattle.std.proofs.Common.{◌≡◌, ◌≢◌, ℕ, ◌+◌, ◌<◌, true, false, eqb, List, [], get_or, set, sym}
+use Rattle.std.proofs.lemmas.Grind.{common_steps}
 use Rattle.std.proofs.Common.{◌∙◌, subst, ◌⊎◌, inl, inr, ⊎_elim, arith}
 use Rattle.std.proofs.lemmas.List.{get_or_past}
-use Rattle.std.proofs.lemmas.Bool.{or_cases, eqb-true, cases_lt, false≢true, false_from_ne_true}
+use Rattle.std.proofs.lemmas.Bool.{or_cases, eqb-true, false≢true, false_from_ne_true}
 use Rattle.pm_links.specs.Lists.{has}
 use Rattle.pm_links.specs.Arena.{IsLinked, IsArena}
 use Rattle.pm_links.proofs.Runs.{linked-set, first_in, last_in, next_in, prev_in}
@@ -23,10 +24,7 @@ module _ {n m : ℕ} {next prev owner : List ℕ} {ls : List (List ℕ)}
     (a : IsArena n m next prev owner ls) where
   -- a head whose list has an item is one of the m heads
   pub low_head : (h x : ℕ) → has (get_or ls h []) x ≡ true → h < m
-  low_head h x i =
-      ⊎_elim (λ lt. lt)
-      (λ ge. absurd (false≢true (subst (λ (k : List ℕ). has k x ≡ true)
-      (get_or_past ls h [] (rw a.heads ge)) i))) (cases_lt h m)
+  low_head h x i = grind (arith, common_steps, false≢true, get_or_past, ⊎_elim)
 
   -- the node of a head is no item
   pub head_out : (h : ℕ) → h < m → has (get_or ls h []) (n + h) ≡ false
@@ -35,11 +33,7 @@ module _ {n m : ℕ} {next prev owner : List ℕ} {ls : List (List ℕ)}
 
   -- another head's node
   pub outside_head : (g h : ℕ) → g < m → h ≢ g → IsOutside n ls g (n + h)
-  outside_head g h gm ne = record {
-    start = omega arith;
-    inner = false_from_ne_true (has (get_or ls g []) (n + h))
-        (λ t. let lt : n + h < n = a.in_range g (n + h) gm t in omega arith);
-  }
+  outside_head g h gm ne = grind (arith, common_steps, get_or)
 
   -- an item of another head's list
   pub outside_item : (g h y : ℕ) → g < m → h < m → h ≢ g → has (get_or ls h []) y ≡ true

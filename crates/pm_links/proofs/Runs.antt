@@ -1,11 +1,12 @@
 -- What a write to the links does to a run of linked nodes.
 use Rattle.std.proofs.Common.{◌≡◌, ◌≢◌, ℕ, ◌<◌, true, false, eqb, List, [], ◌∷◌, ◌++◌, length}
+use Rattle.std.proofs.Common.{arith}
 use Rattle.std.proofs.Common.{get_or, set, sym, ap, ◌∙◌, subst, ◌⊎◌, inl, inr, ⊎_elim}
 use Rattle.std.proofs.Common.{get_or-set_other, get_or-set_same, length-set}
 use Rattle.std.proofs.lemmas.List.{append-nil}
-use Rattle.std.proofs.lemmas.Grind.{get_or-set_at}
+use Rattle.std.proofs.lemmas.Grind.{get_or-set_at, common_steps}
 use Rattle.std.proofs.lemmas.Bool.{or_parts, or_cases, or_left, or_right, eqb-true, eqb-false}
-use Rattle.std.proofs.lemmas.Bool.{eq-eqb, cases_Bool, false≢true}
+use Rattle.std.proofs.lemmas.Bool.{eq-eqb, false≢true}
 use Rattle.pm_links.specs.Lists.{has, IsOnce, list_without}
 use Rattle.pm_links.specs.Arena.{IsLinked}
 use Rattle.pm_links.proofs.Members.{differs}
@@ -68,40 +69,23 @@ module _ (next prev : List ℕ) where
   linked-set p v q w a [] b ap hp bq hq l =
       (get_or-set_other next p a v 0 ap ∙ l.0, get_or-set_other prev q b w 0 bq ∙ l.1)
   linked-set p v q w a (x ∷ xs) b ap hp bq hq l =
-      let s = or_parts (eqb x p) (has xs p) hp in
-      let t = or_parts (eqb x q) (has xs q) hq in (
-        get_or-set_other next p a v 0 ap ∙ l.0,
-        get_or-set_other prev q x w 0 (eqb-false x q t.0) ∙ l.1,
-        linked-set p v q w x xs b (eqb-false x p s.0) s.1 bq t.1 l.2,
-      )
+      grind (arith, common_steps, eqb-false, get_or-set_other, or_parts, linked-set p v q w x xs b)
 
   -- another node c takes the place of the first node; f is the node after it
   pub relink_front : (a f c : ℕ) (xs : List ℕ) (b : ℕ) → c < length next → f < length prev →
       get_or next a 0 ≡ f → has xs c ≡ false → has xs b ≡ false → IsOnce xs →
       IsLinked next prev a xs b → IsLinked (set next c f) (set prev f c) c xs b
-  relink_front a f c [] b cl fl e hc hb o l = (
-    get_or-set_same next c f 0 cl ∙ sym e ∙ l.0,
-    get_or-set_at prev f b c 0 (sym l.0 ∙ e) fl,
-  )
+  relink_front a f c [] b cl fl e hc hb o l =
+      grind (arith, common_steps, get_or-set_at, get_or-set_same)
   relink_front a f c (x ∷ xs) b cl fl e hc hb o l =
-      let x_is : x ≡ f = sym l.0 ∙ e in
-      let s = or_parts (eqb x c) (has xs c) hc in
-      let t = or_parts (eqb x b) (has xs b) hb in
-      let bf : b ≢ f = λ k. eqb-false x b t.0 (x_is ∙ sym k) in
-      let hf : has xs f ≡ false = ap (has xs) (sym x_is) ∙ o.0 in (
-        get_or-set_same next c f 0 cl ∙ sym x_is,
-        get_or-set_at prev f x c 0 x_is fl,
-        linked-set c f f c x xs b (eqb-false x c s.0) s.1 bf hf l.2,
-      )
+      grind (arith, common_steps, eqb-false, get_or-set_at, get_or-set_same, linked-set, or_parts)
 
   -- another node c takes the place of the end; e is the node before it
   pub relink_end : (a : ℕ) (xs : List ℕ) (b e c : ℕ) → e < length next → c < length prev →
       get_or prev b 0 ≡ e → has xs a ≡ false → IsOnce xs → has xs c ≡ false →
       IsLinked next prev a xs b → IsLinked (set next e c) (set prev c e) a xs c
-  relink_end a [] b e c el cl is ha o hc l = (
-    get_or-set_at next e a c 0 (sym l.1 ∙ is) el,
-    get_or-set_same prev c e 0 cl ∙ sym is ∙ l.1,
-  )
+  relink_end a [] b e c el cl is ha o hc l =
+      grind (arith, common_steps, get_or-set_at, get_or-set_same)
   relink_end a (x ∷ xs) b e c el cl is ha o hc l =
       let s = or_parts (eqb x c) (has xs c) hc in
       let inside : has (x ∷ xs) e ≡ true = ap (has (x ∷ xs)) (sym is) ∙ last_in x xs b l.2 in
@@ -124,31 +108,29 @@ module _ (next prev : List ℕ) where
       IsLinked (set next p q) (set prev q p) a (list_without x xs) b
   cut a [] b x p q pl ql pi qi ha hb o h l = absurd (false≢true h)
   cut a (y ∷ ys) b x p q pl ql pi qi ha hb o h l =
-      let sa = or_parts (eqb y a) (has ys a) ha in
-      let sb = or_parts (eqb y b) (has ys b) hb in
-      ⊎_elim
-      (λ e. let y_is : y ≡ x = eqb-true y x e in
-      let hx : has ys x ≡ false = ap (has ys) (sym y_is) ∙ o.0 in
-      let p_is : a ≡ p = sym l.1 ∙ ap (λ k. get_or prev k 0) y_is ∙ pi in
-      let q_is : get_or next y 0 ≡ q = ap (λ k. get_or next k 0) y_is ∙ qi in
-      let done : IsLinked (set next a q) (set prev q a) a ys b =
-      relink_front y q a ys b (subst (λ (k : ℕ). k < length next)
-      (sym p_is) pl) ql q_is sa.1 sb.1 o.1 l.2 in
-      rw (e, without_none x ys hx) (subst
-      (λ (k : ℕ). IsLinked (set next k q) (set prev q k) a ys b) p_is done))
-      (λ e. let k : has ys x ≡ true = ⊎_elim (λ t. absurd (false≢true (sym e ∙ t))) (λ t. t)
-      (or_cases (eqb y x) (has ys x) h) in
-      let inside : has (y ∷ ys) p ≡ true = ap (has (y ∷ ys)) (sym pi) ∙ prev_in y ys b x k l.2 in
-      let ne : a ≢ p = λ t. differs (y ∷ ys) p a inside ha (sym t) in
-      let nq : y ≢ q = λ t. ⊎_elim (λ m. eqb-false y b sb.0 (t ∙ sym qi ∙ m))
-      (λ m. differs ys q y (ap (has ys) (sym qi) ∙ m) o.0 (sym t)) (next_in y ys b x k l.2) in
-      rw e (
-        get_or-set_other next p a q 0 ne ∙ l.0,
-        get_or-set_other prev q y p 0 nq
-            ∙ l.1,
-        cut y ys b x p q pl ql pi qi o.0 sb.1 o.1 k l.2,
-      ))
-      (cases_Bool (eqb y x))
+      grind (
+        arith,
+        common_steps,
+        false≢true,
+        ⊎_elim,
+        differs (y ∷ ys) p a,
+        differs ys q y,
+        eqb-false y b,
+        eqb-true y x,
+        get_or prev,
+        get_or next y 0,
+        get_or next,
+        get_or-set_other next p a q 0,
+        get_or-set_other prev q y p 0,
+        next_in y ys b x,
+        or_cases (eqb y x) (has ys x) h,
+        or_parts (eqb y a) (has ys a) ha,
+        or_parts (eqb y b) (has ys b) hb,
+        prev_in y ys b x,
+        relink_front y q a ys b,
+        without_none x ys,
+        cut y ys b x p q pl ql pi qi o.0,
+      )
 
 -- the run from node f goes before the run from node t: a is its first item, z its last, and u the
 -- first node after t

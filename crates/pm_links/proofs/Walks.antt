@@ -1,11 +1,12 @@
 -- The lists that a walk along the links gives are those that the arena holds.
 use Rattle.std.proofs.Common.{◌≡◌, ℕ, zero, suc, ◌+◌, ◌-◌, ◌<◌, ◌≤◌, true, List, [], ◌∷◌, length}
+use Rattle.std.proofs.lemmas.Grind.{common_steps}
 use Rattle.std.proofs.Common.{get_or, map, sym, refl, ap, ◌∙◌, subst, ⊎_elim, arith}
 use Rattle.std.specs.List.{range_with_len}
 use Rattle.std.proofs.lemmas.List.FromFn.{length-map-range_with_len, get_or-map-range_with_len}
 use Rattle.std.proofs.lemmas.List.{ext_get_or, get_or_past}
-use Rattle.std.proofs.lemmas.Bool.{cases_lt, lt-ltb, le-ltb}
-use Rattle.pm_links.specs.Lists.{Lists, has, IsOnce, IsSound}
+use Rattle.std.proofs.lemmas.Bool.{lt-ltb, le-ltb}
+use Rattle.pm_links.specs.Lists.{Lists, has, IsSound}
 use Rattle.pm_links.specs.Arena.{IsLinked, IsArena, walk_items, lists_of}
 use Rattle.pm_links.proofs.Members.{has_head, has_tail, few_below}
 use Rattle.pm_links.proofs.Outside.{low_head}
@@ -85,15 +86,4 @@ module _ {n m : ℕ} {next prev owner : List ℕ} {ls : List (List ℕ)}
   seen = ap (λ k. record { items = n; lists = k }) walks
 
   pub sound : IsSound (record { items = n; lists = ls })
-  sound = record {
-    small = a.few_items;
-    few_heads = rw a.heads a.few_heads;
-    few = λ h. ⊎_elim
-        (λ lt. few_below n (get_or ls h []) (a.once h lt) (λ x i. a.in_range h x lt i))
-        (λ ge. subst (λ (k : List ℕ). length k ≤ n) (sym (get_or_past ls h [] (rw a.heads ge)))
-        (omega arith)) (cases_lt h m);
-    in_range = λ h x i. a.in_range h x (low_head a h x i) i;
-    once = λ h. ⊎_elim (λ lt. a.once h lt)
-        (λ ge. subst IsOnce (sym (get_or_past ls h [] (rw a.heads ge))) tt) (cases_lt h m);
-    apart = λ g h x i j. sym (a.owned g x (low_head a g x i) i) ∙ a.owned h x (low_head a h x j) j;
-  }
+  sound = grind (arith, common_steps, ⊎_elim, few_below n, get_or ls, get_or_past ls, low_head a)

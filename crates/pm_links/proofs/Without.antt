@@ -1,5 +1,7 @@
 -- Laws for callers: a list with an item taken out.
 use Rattle.std.proofs.Common.{◌≡◌, ◌≢◌, ℕ, zero, suc, Bool, true, false, ◌||◌, eqb, List, [], ◌∷◌}
+use Rattle.std.proofs.Common.{arith}
+use Rattle.std.proofs.lemmas.Grind.{common_steps}
 use Rattle.std.proofs.Common.{get_or, map, sym, refl, ap, ◌∙◌, ⊎_elim}
 use Rattle.std.proofs.lemmas.Bool.{or_parts, eqb-true, eqb-false, eq-eqb, ne_eqb, cases_Bool}
 use Rattle.std.proofs.lemmas.Bool.{false≢true}
@@ -37,10 +39,7 @@ has-without_same x (z ∷ zs) =
 -- what is still there is another item, and was there
 pub was_there : (x : ℕ) (xs : List ℕ) (y : ℕ) → has (list_without x xs) y ≡ true
     → (y ≢ x) × (has xs y ≡ true)
-was_there x xs y h =
-    let ne : y ≢ x =
-    λ e. false≢true (sym (has-without_same x xs) ∙ ap (has (list_without x xs)) (sym e) ∙ h) in
-    (ne, sym (has-without x xs y ne) ∙ h)
+was_there x xs y h = grind (arith, common_steps, false≢true, has-without, has-without_same)
 
 pub once-without : (x : ℕ) (xs : List ℕ) → IsOnce xs → IsOnce (list_without x xs)
 once-without x [] o = tt
