@@ -1,10 +1,11 @@
 -- Laws on the keys of a queue's items, and on how many have one, for those who hold a queue.
 use Rattle.std.proofs.Common.{◌≡◌, ◌≢◌, ℕ, ◌+◌, ◌<◌, ◌≤◌, Option, Some, None, false, [], ◌∷◌}
+use Rattle.std.proofs.lemmas.Grind.{common_steps}
 use Rattle.std.proofs.Common.{length, set, replicate, sym, refl, ap, ◌∙◌, ⊎_elim, arith}
-use Rattle.std.proofs.Common.{get_or-set_other, get_or-set_same, length-set, ◌⊎◌, inl, inr, zero}
+use Rattle.std.proofs.Common.{get_or-set_other, get_or-set_same, length-set, ◌⊎◌, zero}
 use Rattle.std.proofs.Common.{suc}
 use Rattle.std.specs.Option.{is_some}
-use Rattle.std.proofs.lemmas.Bool.{cases_eq, cases_lt, false≢true}
+use Rattle.std.proofs.lemmas.Bool.{cases_lt, false≢true}
 use Rattle.std.proofs.lemmas.List.{get_or_past}
 use Rattle.std.proofs.lemmas.Option.{none-some}
 use Rattle.pm_queue.specs.declared.key.Key.{Key}
@@ -31,19 +32,16 @@ pub key_at-set : (m : Entries) (i : ℕ) (o : Option Key) (j : ℕ) (l : Key) �
     key_at (set m i o) j ≡ Some l →
     ((j ≡ i) × (o ≡ Some l)) ⊎ (key_at m j ≡ Some l)
 key_at-set m i o j l e =
-    ⊎_elim
-    (λ (same : j ≡ i). ⊎_elim
-    (λ (lt : i < length m). inl (
-      same,
-      sym (key_at-set_same m i o lt)
-          ∙ ap (λ x. key_at (set m i o) x) (sym same) ∙ e,
-    ))
-    (λ (ge : length m ≤ i). absurd (none-some l
-    (sym (get_or_past (set m i o) j None (rw (length-set {A = Option Key}) (omega arith)))
-    ∙ e)))
-    (cases_lt i (length m)))
-    (λ other. inr (sym (key_at-set_other m i j o other) ∙ e))
-    (cases_eq j i)
+    grind (
+      arith,
+      common_steps,
+      get_or_past,
+      key_at-set_other,
+      key_at-set_same,
+      length-set,
+      none-some,
+      ⊎_elim,
+    )
 
 pub no_key : (o : Option Key) → is_some o ≡ false → o ≡ None
 no_key None e = refl

@@ -1,7 +1,8 @@
 -- Laws on the order of keys: it is strict and total.
-use Rattle.std.proofs.Common.{◌≡◌, ◌≢◌, ℕ, ◌<◌, Bool, true, false, ◌||◌, ◌&&◌, eqb, ltb, sym, refl}
-use Rattle.std.proofs.Common.{◌∙◌, ⊎_elim, arith}
-use Rattle.std.proofs.lemmas.Bool.{lt-ltb, le-ltb, eq-eqb, ne_eqb, ltb-true, ltb-false, cases_order}
+use Rattle.std.proofs.Common.{◌≡◌, ◌≢◌, ℕ, ◌<◌, Bool, true, false, ◌||◌, ◌&&◌, eqb, ltb, refl}
+use Rattle.std.proofs.lemmas.Grind.{common_steps}
+use Rattle.std.proofs.Common.{⊎_elim, arith}
+use Rattle.std.proofs.lemmas.Bool.{lt-ltb, le-ltb, eq-eqb, ne_eqb, ltb-true, ltb-false}
 use Rattle.std.proofs.lemmas.Bool.{cases_Bool, false≢true}
 use Rattle.pm_queue.specs.declared.key.Key.{Key}
 use Rattle.pm_queue.specs.Keys.{is_before}
@@ -18,40 +19,20 @@ lex_more m n r l = rw (le-ltb m n (omega arith), ne_eqb m n (omega arith)) refl
 -- by a number and then by the rest, where r says that the rest is before, and s that it is after
 lex_asym : (m n : ℕ) (r s : Bool) → (r ≡ true → s ≡ false) →
     (ltb m n || (eqb m n && r)) ≡ true → (ltb n m || (eqb n m && s)) ≡ false
-lex_asym m n r s f h =
-    ⊎_elim (λ (e : m ≡ n). lex_same n m s (sym e) ∙ f (sym (lex_same m n r e) ∙ h))
-    (λ c. ⊎_elim (λ l. lex_more n m s l) (λ g. absurd (false≢true (sym (lex_more m n r g) ∙ h))) c)
-    (cases_order m n)
+lex_asym m n r s f h = grind (arith, common_steps, false≢true, lex_more, lex_same, ⊎_elim)
 
 -- r is that n is before m, s that o is before n, t that o is before m
 lex_trans : (m n o : ℕ) (r s t : Bool) → (r ≡ false → s ≡ false → t ≡ false) →
     (ltb n m || (eqb n m && r)) ≡ false → (ltb o n || (eqb o n && s)) ≡ false →
     (ltb o m || (eqb o m && t)) ≡ false
 lex_trans m n o r s t f h k =
-    ⊎_elim
-    (λ (e : n ≡ m). ⊎_elim
-    (λ (d : o ≡ n). lex_same o m t (d ∙ e) ∙ f (sym (lex_same n m r e) ∙ h)
-    (sym (lex_same o n s d) ∙ k))
-    (λ c. ⊎_elim (λ l. absurd (false≢true (sym k ∙ lex_less o n s l)))
-    (λ g. lex_more o m t (omega arith)) c)
-    (cases_order o n))
-    (λ c. ⊎_elim (λ l. absurd (false≢true (sym h ∙ lex_less n m r l)))
-    (λ g. ⊎_elim
-    (λ (d : o ≡ n). lex_more o m t (omega arith))
-    (λ b. ⊎_elim (λ l. absurd (false≢true (sym k ∙ lex_less o n s l)))
-    (λ w. lex_more o m t (omega arith)) b)
-    (cases_order o n)) c)
-    (cases_order n m)
+    grind (arith, common_steps, false≢true, lex_less, lex_more, lex_same, ⊎_elim)
 
 -- neither is before the other, so the numbers are the same, and so on for the rest
 lex_same_rest : (m n : ℕ) (r s : Bool) → (ltb m n || (eqb m n && r)) ≡ false →
     (ltb n m || (eqb n m && s)) ≡ false →
     (m ≡ n) × (r ≡ false) × (s ≡ false)
-lex_same_rest m n r s h k =
-    ⊎_elim (λ (e : m ≡ n). (e, sym (lex_same m n r e) ∙ h, sym (lex_same n m s (sym e)) ∙ k))
-    (λ c. ⊎_elim (λ l. absurd (false≢true (sym h ∙ lex_less m n r l)))
-    (λ g. absurd (false≢true (sym k ∙ lex_less n m s g))) c)
-    (cases_order m n)
+lex_same_rest m n r s h k = grind (arith, common_steps, false≢true, lex_less, lex_same, ⊎_elim)
 
 -- of two keys not both are before the other
 pub before_asym : (k l : Key) → is_before k l ≡ true → is_before l k ≡ false
@@ -75,11 +56,7 @@ same_parts c a b d e f p q r = cc
 -- two keys of which neither is before the other are the same
 pub before_same : (k l : Key) → is_before k l ≡ false → is_before l k ≡ false → k ≡ l
 unfolding made
-before_same k l h i =
-    let cost = lex_same_rest k.cost l.cost _ _ h i in
-    let a = lex_same_rest k.a l.a _ _ cost.1 cost.2 in
-    same_parts k.cost k.a k.b l.cost l.a l.b cost.0 a.0
-    (omega (arith, ltb-false k.b l.b a.1, ltb-false l.b k.b a.2))
+before_same k l h i = grind (arith, common_steps, lex_same_rest, ltb-false, same_parts)
 
 -- no key is before itself
 pub before_irrefl : (k : Key) → is_before k k ≡ false

@@ -1,8 +1,9 @@
 -- Laws on the least entry, for those who hold a queue.
-use Rattle.std.proofs.Common.{◌≡◌, ◌≢◌, ℕ, ◌<◌, ◌≤◌, Option, Some, None, true, false, [], ◌∷◌}
+use Rattle.std.proofs.Common.{◌≡◌, ◌≢◌, ℕ, ◌<◌, ◌≤◌, Some, None, true, false, [], ◌∷◌}
+use Rattle.std.proofs.lemmas.Grind.{common_steps}
 use Rattle.std.proofs.Common.{length, set, replicate, sym, refl, ap, ◌∙◌, subst, ⊎_elim, arith}
 use Rattle.std.proofs.Common.{zero, suc}
-use Rattle.std.proofs.lemmas.Bool.{cases_lt, cases_Bool, cases_order, false≢true}
+use Rattle.std.proofs.lemmas.Bool.{cases_Bool, cases_order, false≢true}
 use Rattle.std.proofs.lemmas.List.{get_or_past, get_or-replicate, length-replicate}
 use Rattle.std.proofs.lemmas.Option.{none-some, same_Some}
 use Rattle.pm_queue.specs.declared.key.Key.{Key}
@@ -14,10 +15,7 @@ use Rattle.pm_queue.proofs.KeyOrder.{before_asym, before_trans, before_irrefl}
 -- ---- the empty map
 
 pub empty_new : (n : ℕ) → IsEmpty (replicate n None)
-empty_new n i =
-    ⊎_elim (λ l. get_or-replicate n i None None l)
-    (λ g. get_or_past (replicate n None) i None (rw (length-replicate {A = Option Key}) g))
-    (cases_lt i n)
+empty_new n i = grind (arith, common_steps, get_or-replicate, get_or_past, length-replicate, ⊎_elim)
 
 pub empty_at_no_entries : (m : Entries) → entry_count m ≡ 0 → IsEmpty m
 empty_at_no_entries [] e i = refl

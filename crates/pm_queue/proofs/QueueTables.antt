@@ -1,5 +1,6 @@
 -- What a write to the tables of a queue needs, and what it leaves.
 use Rattle.std.proofs.Common.{◌≡◌, ℕ, ◌<◌, ◌≤◌, leb, Some, None, List, length, set, refl, sym, ap}
+use Rattle.std.proofs.lemmas.Grind.{common_steps}
 use Rattle.std.proofs.Common.{◌∙◌, subst, arith, length-set}
 use Rattle.pm_queue.specs.declared.key.Key.{Key}
 use Rattle.pm_queue.specs.declared.parts.Parting.{Parting}
@@ -72,22 +73,7 @@ module _ (keys : List Key) (room : ℕ) (in_heap in_place heap place : List ℕ)
         × (item < length (keys_of keys place) × (parting.near ≤ length keys
         × (IsHeap (goes_first (keys_of keys place)) heap parting.near
         × IsParted (keys_of keys place) place (length keys) parting)))))))
-    set_given = (
-      rw all_len is_places,
-      (
-        is_keyed,
-        (
-          refl,
-          (
-            omega (arith, all_len, inv.limit),
-            (
-              omega (arith, all_len, inv.room_for_all),
-              (omega (arith, all_len), (inv.near_in, (is_heap, is_parted))),
-            ),
-          ),
-        ),
-      ),
-    )
+    set_given = grind (arith, common_steps, all_len, is_heap, is_keyed, is_parted, is_places)
 
     module _ (new_keys : List Key) (new_room : ℕ) (new_heap new_place : List ℕ) (new : Parting)
         (w : IsPlaces (length (keys_of keys place)) new_heap new_place)
@@ -115,16 +101,7 @@ module _ (keys : List Key) (room : ℕ) (in_heap in_place heap place : List ℕ)
       × (parting.near ≤ length keys × ((0 < length keys → 0 < parting.near)
       × (IsHeap (goes_first (keys_of keys place)) heap parting.near
       × IsParted (keys_of keys place) place (length keys) parting))))))
-  drop_given = (
-    rw all_len is_places,
-    (
-      is_keyed,
-      (
-        omega (arith, all_len, inv.limit),
-        (omega (arith, all_len), (inv.near_in, (inv.some_near, (is_heap, is_parted)))),
-      ),
-    ),
-  )
+  drop_given = grind (arith, common_steps, all_len, is_heap, is_keyed, is_parted, is_places)
 
   module _ (new_keys : List Key) (new_room : ℕ) (new_heap new_place : List ℕ) (new : Parting)
       (w : IsPlaces (length (keys_of keys place)) new_heap new_place)
