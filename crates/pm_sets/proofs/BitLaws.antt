@@ -7,7 +7,7 @@ use Rattle.std.proofs.lemmas.List.{get_or_past, get_or-set_same, get_or-set_othe
 use Rattle.std.proofs.lemmas.List.{ext_get_or, length-set, length-replicate}
 use Rattle.std.proofs.lemmas.Nat.Bits.{bit_at-zero}
 use Rattle.std.proofs.lemmas.List.FromFn.{length-map-range_with_len, get_or-map-range_with_len}
-use Rattle.std.proofs.lemmas.Grind.{get_or_default_zero}
+use Rattle.std.proofs.lemmas.Grind.{get_or_default_zero, common_steps}
 use Rattle.pm_base.specs.Counts.{set_of}
 use Rattle.pm_sets.specs.Sets.{IsGap, IsFirst, IsLast}
 use Rattle.pm_sets.specs.Bits.{has_bit, IsBitGap, flag_in, flags_in, AreWords}
@@ -41,15 +41,7 @@ no_bit : (p : ℕ) → has_bit 0 p ≡ false
 no_bit p = ap (λ v. v == 1) (bit_at-zero p)
 
 no_flag : (n j : ℕ) → flag_in (replicate n 0) j ≡ false
-no_flag n j =
-    elim (cases_lt (j / 64) n) [
-      | inl low ↦ ap (λ w. has_bit w (j % 64)) (get_or-replicate n (j / 64) 0 0 low)
-          ∙ no_bit (j % 64)
-      | inr past ↦
-          ap (λ w. has_bit w (j % 64))
-          (get_or_past (replicate n 0) (j / 64) 0
-          (omega (arith, length-replicate {A = ℕ} n 0, past))) ∙ no_bit (j % 64)
-    ]
+no_flag n j = grind (arith, common_steps, get_or-replicate, get_or_past, length-replicate, no_bit)
 
 pub flags_new : (bound n : ℕ) → flags_in (replicate n 0) bound ≡ replicate bound false
 flags_new bound n =
@@ -90,10 +82,7 @@ module _ (words : List ℕ) (bound : ℕ) (flags : List Bool) (are : AreWords bo
       flag_read j is ∙ gap (j % 64) (omega (arith, is, low)) (omega (arith, is, high))
 
   there_in_word : (p : ℕ) → p < 64 → has_bit word p ≡ true → set_of flags (64 * w + p) ≡ true
-  there_in_word p low there =
-      let one : (64 * w + p) / 64 ≡ w = omega (arith, low) in
-      let two : (64 * w + p) % 64 ≡ p = omega (arith, low) in
-      flag_read (64 * w + p) one ∙ (ap (has_bit word) two ∙ there)
+  there_in_word p low there = grind (arith, common_steps, flag_read)
 
   pub first_of_word : (at p : ℕ) → w ≡ at / 64 → p < 64 → at % 64 ≤ p → has_bit word p ≡ true
       → IsBitGap word (at % 64) p → IsFirst flags at (64 * w + p)
@@ -140,12 +129,7 @@ module _ (words : List ℕ) (bound : ℕ) (flags : List Bool) (are : AreWords bo
       ∙ (before ∙ sym (flag_of_word words (n / 64) j same))))
 
   written_other : (j : ℕ) → j ≢ n → flag_in (set words (n / 64) word) j ≡ flag_in words j
-  written_other j other =
-      elim (cases_eq (j / 64) (n / 64)) [
-        | inl same ↦ written_beside j other same
-        | inr apart ↦
-            ap (λ w. has_bit w (j % 64)) (get_or-set_other words (n / 64) (j / 64) word 0 apart)
-      ]
+  written_other j other = grind (arith, common_steps, get_or-set_other, written_beside)
 
   pub words_after : AreWords bound (set words (n / 64) word)
   words_after = record {

@@ -1,9 +1,10 @@
 -- What the flag of a block of 64 numbers says of its numbers, and what a write of one number does
 -- to it.
 use Rattle.std.proofs.Common.{◌≡◌, ◌≢◌, ℕ, ◌+◌, ◌*◌, ◌/◌, ◌<◌, ◌≤◌, ◌↔◌, Bool, true, false, List}
+use Rattle.std.proofs.lemmas.Grind.{common_steps}
 use Rattle.std.proofs.Common.{length, set, inl, inr, Option, None, Some, refl, sym, subst, ◌∙◌}
 use Rattle.std.proofs.Common.{arith}
-use Rattle.std.proofs.lemmas.Bool.{cases_lt, cases_eq, both_ways}
+use Rattle.std.proofs.lemmas.Bool.{cases_eq, both_ways}
 use Rattle.std.proofs.lemmas.List.{length-set}
 use Rattle.std.specs.Option.{is_some, IfSome, IfNone}
 use Rattle.pm_base.specs.Counts.{set_of}
@@ -14,11 +15,7 @@ use Rattle.pm_sets.proofs.OrderLaws.{gap_join, first_after, last_before, no_memb
 
 module _ (numbers blocks : List Bool) (are : AreBlocks numbers blocks) where
   clear_block : (b : ℕ) → set_of blocks b ≡ false → IsGap numbers (64 * b) (64 * b + 64)
-  clear_block b clear j low high =
-      elim (cases_lt b (length blocks)) [
-        | inl l ↦ (are.each b l).0 clear j low high
-        | inr past ↦ out_of_bound numbers j (omega (arith, are.long, past, low))
-      ]
+  clear_block b clear j low high = grind (arith, common_steps, out_of_bound)
 
   -- blocks without numbers are a gap of numbers
   clear_blocks : (a b : ℕ) → IsGap blocks a b → IsGap numbers (64 * a) (64 * b)
@@ -118,10 +115,7 @@ module _ (numbers blocks : List Bool) (are : AreBlocks numbers blocks) where
         → IfSome found (λ k. 64 * (n / 64) ≤ k) → AreBlocks (set numbers n false) blocks
     taken_out None some last from = absurd (both_ways _ refl some)
     taken_out (Some k) some last from =
-        let apart : k ≢ n =
-        λ is. both_ways _
-        (subst (λ j. set_of (set numbers n false) j ≡ false) (sym is)
-        (set_here numbers n n_lt false)) last.there in
+        let apart : k ≢ n = grind (arith, common_steps, set_here) in
         let was : set_of numbers k ≡ true =
         sym (set_other numbers n n_lt false k apart) ∙ last.there in
         written n n_lt false blocks refl (λ b other. refl) (

@@ -1,7 +1,7 @@
 -- A list of flags after one is set or taken away, and how many numbers of a range it then has.
 use Rattle.std.proofs.Common.{◌≡◌, ◌≢◌, ℕ, suc, ◌+◌, ◌<◌, ◌≤◌, Bool, true, false, set, replicate}
-use Rattle.std.proofs.Common.{List, [], length, inl, inr, sym, arith}
-use Rattle.std.proofs.lemmas.Bool.{cases_lt, both_ways}
+use Rattle.std.proofs.lemmas.Grind.{common_steps}
+use Rattle.std.proofs.Common.{List, [], length, sym, arith}
 use Rattle.std.proofs.lemmas.List.{get_or_past, get_or-set_same, get_or-set_other, get_or-replicate}
 use Rattle.std.proofs.lemmas.List.{length-replicate}
 use Rattle.pm_base.specs.Counts.{set_of}
@@ -9,23 +9,13 @@ use Rattle.pm_sets.specs.Counted.{members_in}
 use Rattle.pm_sets.proofs.Ranges.{none_passes, at_most_all, one_more}
 
 pub in_below : (flags : List Bool) (x : ℕ) → set_of flags x ≡ true → x < length flags
-in_below flags x there =
-    elim (cases_lt x (length flags)) [
-      | inl l ↦ l
-      | inr past ↦
-          absurd (both_ways _ (get_or_past flags x false past) there)
-    ]
+in_below flags x there = grind (arith, common_steps, get_or_past)
 
 pub out_of_bound : (flags : List Bool) (x : ℕ) → length flags ≤ x → set_of flags x ≡ false
 out_of_bound flags x past = get_or_past flags x false past
 
 pub none_in_empty : (n y : ℕ) → set_of (replicate n false) y ≡ false
-none_in_empty n y =
-    elim (cases_lt y n) [
-      | inl l ↦ get_or-replicate n y false false l
-      | inr past ↦
-          out_of_bound (replicate n false) y (omega (arith, length-replicate n false, past))
-    ]
+none_in_empty n y = grind (arith, common_steps, get_or-replicate, length-replicate, out_of_bound)
 
 pub no_members : (n a m : ℕ) → members_in (replicate n false) a m ≡ []
 no_members n a m = none_passes (set_of (replicate n false)) a m (λ y low high. none_in_empty n y)

@@ -1,6 +1,7 @@
 -- Gaps, and the first and the last number of a set: they are joined and carried on, and there is
 -- one alone.
 use Rattle.std.proofs.Common.{◌≡◌, ℕ, ◌≤◌, Bool, List, length, inl, inr, arith}
+use Rattle.std.proofs.lemmas.Grind.{common_steps}
 use Rattle.std.proofs.lemmas.Bool.{cases_lt, both_ways}
 use Rattle.pm_sets.specs.Sets.{IsEmptySet, IsGap, IsFirst, IsLast}
 use Rattle.pm_sets.proofs.FlagLaws.{in_below, out_of_bound}
@@ -11,19 +12,10 @@ module _ (flags : List Bool) where
       elim (cases_lt j b) [ inl l ↦ one j low l | inr past ↦ two j past high ]
 
   pub no_member : IsGap flags 0 (length flags) → IsEmptySet flags
-  no_member gap j =
-      elim (cases_lt j (length flags)) [
-        | inl l ↦ gap j (omega arith) l
-        | inr past ↦
-            out_of_bound flags j past
-      ]
+  no_member gap j = grind (arith, common_steps, out_of_bound)
 
   pub first_after : (a b k : ℕ) → a ≤ b → IsGap flags a b → IsFirst flags b k → IsFirst flags a k
-  first_after a b k order gap first = record {
-    from = omega (arith, order, first.from);
-    there = first.there;
-    none = gap_join a b k gap first.none;
-  }
+  first_after a b k order gap first = grind (arith, common_steps, gap_join a b k gap first.none)
 
   pub last_before : (b k : ℕ) → IsLast flags b k → IsGap flags b (length flags)
       → IsLast flags (length flags) k

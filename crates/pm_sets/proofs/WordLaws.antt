@@ -1,8 +1,8 @@
 -- The first and the last bit of a word that is set, counted from either end.
-use Rattle.std.proofs.Common.{◌≡◌, ℕ, suc, ◌+◌, ◌-◌, ◌*◌, ◌/◌, ◌%◌, ◌^◌, ◌<◌, ◌≤◌, ◌==◌, true}
-use Rattle.std.proofs.Common.{false, inl, inr, sym, ap, subst, ◌∙◌, arith}
+use Rattle.std.proofs.Common.{◌≡◌, ℕ, suc, ◌+◌, ◌-◌, ◌/◌, ◌%◌, ◌^◌, ◌<◌, ◌≤◌, ◌==◌, true}
+use Rattle.std.proofs.lemmas.Grind.{common_steps}
+use Rattle.std.proofs.Common.{false, sym, ap, ◌∙◌, arith}
 use Rattle.std.specs.Int.{bit_at, w64, leading_zeros, trailing_zeros}
-use Rattle.std.proofs.lemmas.Bool.{cases_lt}
 use Rattle.std.proofs.lemmas.Nat.{shr-shr, shr_le, leading_top}
 use Rattle.std.proofs.lemmas.Nat.Bits.{bit_at-zero, bit_at-trailing_zeros, bit_at_above}
 use Rattle.std.proofs.Math.Nat.{div-eq_of_lt-le, pow-suc}
@@ -49,11 +49,7 @@ module _ (word from : ℕ) where
 
     pub first_below : from + lowest < 64
     first_below =
-        elim (cases_lt (from + lowest) 64) [
-          | inl l ↦ l
-          | inr past ↦
-              absurd (omega (arith, first_is_one, bit_at_above word 64 (from + lowest) fits past))
-        ]
+        grind (arith, common_steps, first_is_one, bit_at_above word 64 (from + lowest) fits)
 
     pub first_gap : IsBitGap word from (from + lowest)
     first_gap j low high =
@@ -65,18 +61,10 @@ module _ (word : ℕ) (some : 0 < word) (fits : word < 2 ^ 64) where
   highest = 63 - leading_zeros w64 word
 
   highest_between : (2 ^ highest ≤ word) × (word < 2 ^ suc highest)
-  highest_between =
-      let top = leading_top 64 word some fits in
-      let same : top.0 ≡ highest = omega (arith, top.1) in
-      subst (λ k. (2 ^ k ≤ word) × (word < 2 ^ suc k)) same (top.2, top.3)
+  highest_between = grind (arith, common_steps, leading_top 64 word some fits)
 
   pub last_there : has_bit word highest ≡ true
-  last_there =
-      let upper : word < (1 + 1) * 2 ^ highest =
-      omega (arith, highest_between.1, pow-suc 2 highest) in
-      let one : word / 2 ^ highest ≡ 1 =
-      div-eq_of_lt-le (2 ^ highest) (omega (arith, highest_between.0)) upper in
-      bit_is_set word highest (ap (λ x. x % 2) one)
+  last_there = grind (arith, common_steps, bit_is_set, div-eq_of_lt-le, highest_between, pow-suc)
 
   pub last_above : (j : ℕ) → highest < j → has_bit word j ≡ false
   last_above j high =
