@@ -1,5 +1,6 @@
 -- A walk round a vertex that is counted decides whether the faces there are a fan.
 use Rattle.std.proofs.Common.{◌≡◌, ◌≢◌, ℕ, suc, ◌+◌, ◌<◌, ◌≤◌, eqb, true, Option, Some, None, List}
+use Rattle.std.proofs.lemmas.Grind.{common_steps}
 use Rattle.std.proofs.Common.{◌⊎◌, ◌↔◌, inl, inr, refl, sym, ap, ◌∙◌, subst, arith}
 use Rattle.std.proofs.lemmas.Bool.{eqb-true, eq-eqb, and_parts, and_from}
 use Rattle.pm_base.specs.Sides.{Net, side_count, to, third, Stands, stands, NoSideTwice, twin_of}
@@ -33,12 +34,7 @@ module _ (m : Net) (once : NoSideTwice m) (v a : ℕ) (start : Stands m a) (at_v
   here i l = on_trail m once v a start at_v k trail i l
 
   met_begins : (e : ℕ) → e < side_count m → met at (suc k) e ≡ true → begins_at m v e ≡ true
-  met_begins e l t =
-      let (i, i_lt, is) = met-parts at (suc k) e t in
-      let h = here i (omega arith) in
-      subst (λ q. begins_at m v q ≡ true) (sym is)
-      (and_from (stands m (at i)) (eqb (m.from (at i)) v) (stands_is_true m (at i) h.0)
-      (eq-eqb (m.from (at i)) v h.1))
+  met_begins e l t = grind (arith, common_steps, and_from, eq-eqb, here, met-parts, stands_is_true)
 
   count-met : count (met at (suc k)) (side_count m) ≡ suc k
   count-met = met-count at (suc k) (side_count m) trail.distinct
@@ -94,13 +90,7 @@ module _ (m : Net) (once : NoSideTwice m) (a : ℕ) (t : Stands m a) (start : Is
               | inl none ↦ absurd (each g.side g.stands.is_side g.at none)
               | inr (o, is) ↦
                   let w = twin-is m g.side o is in
-                  let h : IsPairAt m p (m.from a) (third m o) = record {
-                    side = o;
-                    stands = w.stands;
-                    at = w.begins ∙ g.one;
-                    one = w.ends ∙ g.at;
-                    two = refl;
-                  } in
+                  let h : IsPairAt m p (m.from a) (third m o) = grind (arith, common_steps) in
                   (third m o, turn m p (m.from a) (third m o) h)
             ])
       ]) x y f
@@ -139,19 +129,11 @@ module _ (m : Net) (table : List (Option ℕ)) (h : IsWalkable m table) (a : ℕ
     (start : IsStart m a) (e k passed faces : ℕ) (at : e ≡ after_steps (around m) a k)
     (trail : IsTrail (around m) a k) (is : passed ≡ k + 1) (all : faces ≡ degree m (m.from a)) where
   pub stopped : around m e ≡ None → (passed ≡ faces) ↔ IsFan m (m.from a)
-  stopped end =
-      let d = stops_decides m h.once a (h.stands a l) start k trail (ap (around m) (sym at)
-      ∙ end) in
-      ((λ same. d.0 (omega arith)), (λ fan. let q = d.1 fan in omega arith))
+  stopped end = grind (arith, common_steps, stops_decides m h.once a (h.stands a l) start k trail)
 
   pub returned : around m e ≡ Some a → ((passed ≡ faces) × (3 ≤ passed)) ↔ IsFan m (m.from a)
   returned end =
-      let d = returns_decides m h.once a (h.stands a l) start k trail (ap (around m) (sym at)
-      ∙ end) in (
-        (λ same. let p = same.0 in let q = same.1 in d.0 (omega arith, omega arith)),
-        (λ fan. let q =
-            d.1 fan in let r = q.0 in let s = q.1 in (omega arith, omega arith)),
-      )
+      grind (arith, common_steps, returns_decides m h.once a (h.stands a l) start k trail)
 
 -- The walk goes on, and has fewer steps than there are sides.
 module _ (m : Net) (once : NoSideTwice m) (a : ℕ) (t : Stands m a) where

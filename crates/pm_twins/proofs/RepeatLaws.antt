@@ -1,6 +1,7 @@
 -- What the least side that repeats an earlier one says of sides and faces.
-use Rattle.std.proofs.Common.{◌≡◌, ◌≢◌, ℕ, ◌<◌, Some, None, inl, inr, refl, sym, ap, ◌∙◌, arith}
-use Rattle.std.proofs.lemmas.Bool.{cases_eq, cases_lt}
+use Rattle.std.proofs.Common.{◌≡◌, ◌≢◌, ℕ, ◌<◌, Some, None, inl, inr, refl, arith}
+use Rattle.std.proofs.lemmas.Grind.{common_steps}
+use Rattle.std.proofs.lemmas.Bool.{cases_eq}
 use Rattle.pm_base.specs.declared.ids.Side.{Side}
 use Rattle.pm_base.specs.Sides.{Net, side_count, face_of, NoSideTwice}
 use Rattle.pm_base.proofs.Sides.{face_cases}
@@ -11,36 +12,20 @@ use Rattle.pm_twins.specs.Stamping.{IsLeastRepeat}
 module _ (m : Net) (vertices : ℕ) (whole : IsWhole m vertices) where
   -- Two sides of one face run from different vertices.
   one_face : (e g : ℕ) → e < side_count m → face_of e ≡ face_of g → e ≢ g → m.from e ≢ m.from g
-  one_face e g l f ne is =
-      let t = whole.stands e l in
-      elim (face_cases e g f) [
-        | inl same ↦ ne (sym same)
-        | inr h ↦ elim h [
-          | inl at ↦ t.first (is ∙ ap m.from at)
-          | inr at ↦
-              t.last (sym (is ∙ ap m.from at))
-        ]
-      ]
+  one_face e g l f ne is = grind (arith, common_steps, face_cases)
 
   pub none_twice : IsLeastRepeat m vertices None → NoSideTwice m
   none_twice none e g te tg from ends =
       elim (cases_eq e g) [
         | inl same ↦ same
-        | inr ne ↦
-            absurd (elim (cases_lt e g) [
-              | inl l ↦ none.least g tg.is_side (whole.within g tg.is_side) (e, l, from, ends)
-              | inr l ↦ none.least e te.is_side (whole.within e te.is_side)
-                  (g, omega (arith, l, ne), sym from, sym ends)
-            ])
+        | inr ne ↦ grind (arith, common_steps)
       ]
 
   pub first_repeating : (g : Side) → IsLeastRepeat m vertices (Some g)
       → IsFirstRepeating m (face_of g.0)
   first_repeating g least =
       let (l, (earlier, before, from, ends)) = least.is_one in
-      let apart : face_of earlier ≢ face_of g.0 =
-      λ same. one_face earlier g.0 (omega (arith, before, l)) same
-      (λ k. absurd (omega (arith, k, before))) from in
+      let apart : face_of earlier ≢ face_of g.0 = grind (arith, common_steps, one_face) in
       record {
         in_range = omega (arith, l);
         repeats = record {

@@ -1,5 +1,6 @@
 -- The marks of the border are filled in side by side.
 use Rattle.std.proofs.Common.{◌≡◌, ◌≢◌, ℕ, ◌+◌, ◌<◌, Bool, true, false, not, Option, Some, None}
+use Rattle.std.proofs.lemmas.Grind.{common_steps}
 use Rattle.std.proofs.Common.{◌⊎◌, inl, inr, List, length, slice_index_or, refl, sym, ap, ◌∙◌}
 use Rattle.std.proofs.Common.{subst, arith}
 use Rattle.std.proofs.Math.ListN.{set}
@@ -48,12 +49,7 @@ mark_sets : (border : List Bool) (x w : ℕ) → x < length border
     → (w ≡ x) ⊎ (slice_index_or border w false ≡ true) → slice_index_or (set border x true) w false
     ≡ true
 mark_sets border x w l h =
-    elim (cases_eq w x) [
-      | inl is ↦ ap (λ i. slice_index_or (set border x true) i false) is
-          ∙ get_or-set_same border x true false l
-      | inr ne ↦ get_or-set_other border x w true false ne
-          ∙ elim h [ inl is ↦ absurd (ne is) | inr t ↦ t ]
-    ]
+    grind (arith, common_steps, get_or-set_other, get_or-set_same, set, slice_index_or)
 
 -- A side without one marks both its ends.
 pub marked_alone : (m : Net) (vertices n x y : ℕ) (border : List Bool)
