@@ -1,5 +1,6 @@
 -- The numbers of what was done account for each vertex and triangle.
 use Rattle.std.proofs.Common.{◌≡◌, ℕ, zero, suc, ◌+◌, ◌*◌, ◌<◌, ◌≤◌, Bool, true, false, not, ◌&&◌}
+use Rattle.std.proofs.lemmas.Grind.{common_steps}
 use Rattle.std.proofs.Common.{◌||◌, ◌==◌, inl, inr, refl, sym, ap, ◌∙◌, subst, List, [], ◌∷◌}
 use Rattle.std.proofs.Common.{length, get_or, arith}
 use Rattle.std.specs.List.{All, list_any}
@@ -35,40 +36,9 @@ and_false false = refl
 -- Those that pass, parted by another test.
 count_parted : (p q : ℕ → Bool) (n : ℕ)
     → count (λ v. p v && q v) n + count (λ v. p v && not (q v)) n ≡ count p n
-count_parted p q zero = omega (
-  arith,
-  count-zero p,
-  count-zero (λ v. p v && q v),
-  count-zero (λ v. p v && not (q v)),
-)
+count_parted p q zero = grind (arith, common_steps, count-zero)
 count_parted p q (suc n) =
-    let rest = count_parted p q n in
-    elim (cases_Bool (p n)) [
-      | inl t ↦
-          elim (cases_Bool (q n)) [
-            | inl u ↦ omega (
-              arith,
-              rest,
-              count-true p n t,
-              count-true (λ v. p v && q v) n (and_from _ _ t u),
-              count-false (λ v. p v && not (q v)) n (rw (t, u) refl),
-            )
-            | inr f ↦ omega (
-              arith,
-              rest,
-              count-true p n t,
-              count-false (λ v. p v && q v) n (rw (t, f) refl),
-              count-true (λ v. p v && not (q v)) n (rw (t, f) refl),
-            )
-          ]
-      | inr f ↦ omega (
-        arith,
-        rest,
-        count-false p n f,
-        count-false (λ v. p v && q v) n (rw f refl),
-        count-false (λ v. p v && not (q v)) n (rw f refl),
-      )
-    ]
+    grind (arith, common_steps, and_from, count-false, count-true, count_parted p q n)
 
 -- No more numbers pass than a list has elements, where each of them is one.
 
@@ -76,101 +46,16 @@ count_either : (p q r : ℕ → Bool) (n : ℕ) → ((v : ℕ) → v < n → p v
     → count p n ≤ count q n + count r n
 count_either p q r zero each = omega (arith, count-zero p)
 count_either p q r (suc n) each =
-    let rest = count_either p q r n (λ v l. each v (omega (arith, l))) in
-    elim (cases_Bool (p n)) [
-      | inr f ↦
-          elim (cases_Bool (q n)) [
-            | inl t ↦ elim
-                (cases_Bool (r n)) [
-                  | inl u ↦ omega (
-                    arith,
-                    rest,
-                    count-false p n f,
-                    count-true q n t,
-                    count-true r n u,
-                  )
-                  | inr u ↦ omega (
-                    arith,
-                    rest,
-                    count-false p n f,
-                    count-true q n t,
-                    count-false r n u,
-                  )
-                ]
-            | inr t ↦ elim
-                (cases_Bool (r n)) [
-                  | inl u ↦ omega (
-                    arith,
-                    rest,
-                    count-false p n f,
-                    count-false q n t,
-                    count-true r n u,
-                  )
-                  | inr u ↦ omega (
-                    arith,
-                    rest,
-                    count-false p n f,
-                    count-false q n t,
-                    count-false r n u,
-                  )
-                ]
-          ]
-      | inl s ↦
-          elim (cases_Bool (q n)) [
-            | inl t ↦ elim
-                (cases_Bool (r n)) [
-                  | inl u ↦ omega (
-                    arith,
-                    rest,
-                    count-true p n s,
-                    count-true q n t,
-                    count-true r n u,
-                  )
-                  | inr u ↦ omega (
-                    arith,
-                    rest,
-                    count-true p n s,
-                    count-true q n t,
-                    count-false r n u,
-                  )
-                ]
-            | inr t ↦
-                elim (cases_Bool (r n)) [
-                  | inl u ↦ omega (
-                    arith,
-                    rest,
-                    count-true p n s,
-                    count-false q n t,
-                    count-true r n u,
-                  )
-                  | inr u ↦ absurd (true≢false (sym (each n (omega arith) s) ∙ rw (t, u) refl))
-                ]
-          ]
-    ]
+    grind (arith, common_steps, count-false, count-true, count_either p q r n)
 
 count_none_of : (x n : ℕ) → n ≤ x → count (λ v. x == v) n ≡ 0
 count_none_of x zero most = count-zero (λ v. x == v)
-count_none_of x (suc n) most =
-    elim (cases_Bool (x == n)) [
-      | inl t ↦ absurd (omega (arith, most, eqb-true x n t))
-      | inr f ↦ omega (
-        arith,
-        count-false (λ v. x == v) n f,
-        count_none_of x n (omega (arith, most)),
-      )
-    ]
+count_none_of x (suc n) most = grind (arith, common_steps, count-false, eqb-true, count_none_of x n)
 
 count_of_one : (x n : ℕ) → count (λ v. x == v) n ≤ 1
 count_of_one x zero = omega (arith, count-zero (λ v. x == v))
 count_of_one x (suc n) =
-    elim (cases_Bool (x == n)) [
-      | inl t ↦ omega (
-        arith,
-        count-true (λ v. x == v) n t,
-        count_none_of x n (omega (arith, eqb-true x n t)),
-      )
-      | inr f ↦ omega (arith, count-false (λ v. x == v) n f, count_of_one x n)
-    ]
+    grind (arith, common_steps, count-false, count-true, count_none_of, eqb-true, count_of_one x n)
 
 has : List ℕ → ℕ → Bool
 has xs v = list_any (λ x. x == v) xs
@@ -366,14 +251,7 @@ module _ (places : List Place) (faces : List Corners) (m : Mesh)
   -- Those that stand for themselves and have a face that stays are those that have one.
   own_stay : count (λ v. (is_some_corner faces v && is_own v) && is_some_corner stay v)
       (length p.names) ≡ count (is_some_corner stay) (length p.names)
-  own_stay =
-      count_same (λ v. (is_some_corner faces v && is_own v) && is_some_corner stay v)
-      (is_some_corner stay) (length p.names) (λ v l.
-      elim (cases_Bool (is_some_corner stay v)) [
-        | inl t ↦ (let (named, own) = stay_is v t in and_from _ _
-            (and_from _ _ named (eq-eqb _ _ own)) t ∙ sym t)
-        | inr f ↦ rw f (and_false (is_some_corner faces v && is_own v))
-      ])
+  own_stay = grind (arith, common_steps, and_false, and_from, count_same, eq-eqb, stay_is)
 
   pub close : (notes : Notes) → AreNotes places faces p.names p.flags p.old notes
       → DoAccountsClose (length places) (length faces) m notes

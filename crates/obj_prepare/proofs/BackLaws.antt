@@ -1,11 +1,11 @@
 -- Places lead back to the points that were read.
 use Rattle.std.proofs.Common.{◌≡◌, ℕ, zero, suc, ◌+◌, ◌*◌, ◌/◌, ◌%◌, ◌^◌, ◌<◌, ◌≤◌, Bool, true}
-use Rattle.std.proofs.Common.{false, ◌&&◌, ◌==◌, nat_le, inl, inr, refl, sym, ap, ◌∙◌, subst}
+use Rattle.std.proofs.lemmas.Grind.{common_steps}
+use Rattle.std.proofs.Common.{false, ◌==◌, nat_le, refl, sym, ap, ◌∙◌, subst}
 use Rattle.std.proofs.Common.{Option, Some, None, List, [], ◌∷◌, length, get_or, ℤ, pos, arith}
 use Rattle.std.specs.Prelude.{◌+ℤ◌, ◌-ℤ◌, ◌*ℤ◌, ◌≤ℤ◌, neg_ℤ, unsigned_abs}
 use Rattle.std.specs.Int.Signed.{lt_z}
-use Rattle.std.specs.List.{list_all}
-use Rattle.std.proofs.lemmas.Bool.{cases_Bool, cond-true, cond-false, and_parts, eqb-true}
+use Rattle.std.proofs.lemmas.Bool.{cond-true, cond-false, and_parts, eqb-true}
 use Rattle.std.proofs.lemmas.Bool.{true≢false}
 use Rattle.std.proofs.lemmas.Bool.Decides.{nat_tests}
 use borrow.Author.Differences.{ints, up, down, product_is}
@@ -16,7 +16,7 @@ use Rattle.obj_prepare.specs.declared.extents.PointBox.{PointBox}
 use Rattle.obj_prepare.specs.declared.placing.Fit.{Fit}
 use Rattle.obj_prepare.specs.declared.placing.Fit.TheVariants as fits
 use Rattle.obj_prepare.specs.Numbers.{nearest}
-use Rattle.obj_prepare.specs.Boxes.{along, off_middle, box_of_points, IsInBox, extent, scaled}
+use Rattle.obj_prepare.specs.Boxes.{along, off_middle, IsInBox, extent, scaled}
 use Rattle.obj_prepare.specs.Whole.{is_whole_coordinate, whole_part_of, stands_on_grid}
 use Rattle.obj_prepare.specs.Named.{is_some_corner, chosen, named_in}
 use Rattle.obj_prepare.specs.Joining.{place_in_list}
@@ -93,16 +93,8 @@ signed_near : (size e : ℕ) (n low high : ℤ) (negative : Bool) → 0 < e
     → 2 * unsigned_abs
     (off_by size e n low high
     (with_sign negative (nearest (size * unsigned_abs (off_middle n low high)) e))) ≤ 10 * e
-signed_near size e n low high true some is =
-    let off : ℤ = off_middle n low high in
-    let near = nearest_is_near (size * unsigned_abs off) e some in
-    below size e (nearest (size * unsigned_abs off) e) (unsigned_abs off) n low high near.0
-    (omega (arith, near.1)) (omega (arith, ints, is))
-signed_near size e n low high false some is =
-    let off : ℤ = off_middle n low high in
-    let near = nearest_is_near (size * unsigned_abs off) e some in
-    above size e (nearest (size * unsigned_abs off) e) (unsigned_abs off) n low high near.0
-    (omega (arith, near.1)) (omega (arith, ints, is))
+signed_near size e n low high true some is = grind (arith, common_steps, below, nearest_is_near)
+signed_near size e n low high false some is = grind (arith, common_steps, above, nearest_is_near)
 
 axis_near : (size e : ℕ) (n low high : ℤ) → 0 < e
     → 2 * unsigned_abs (off_by size e n low high (along size e (off_middle n low high))) ≤ 10 * e
@@ -121,22 +113,8 @@ scaled_leads : (size : ℕ) (b : PointBox) (p : Place) (flat : Bool) → (extent
     → 0 < size → IsInBox b p → LeadsNear (way_back_of size b) (scaled size b p) p
 unfolding scaled
 scaled_leads size b p true is some inside =
-    let none : extent b ≡ 0 = eqb-true (extent b) 0 is in
-    let (x, y, z) = extent_most b in
-    rw is (record {
-      some = omega (arith, some);
-      x = axis_flat size (extent b) p.x b.low.x b.high.x none inside.low_x inside.high_x x;
-      y = axis_flat size (extent b) p.y b.low.y b.high.y none inside.low_y inside.high_y y;
-      z = axis_flat size (extent b) p.z b.low.z b.high.z none inside.low_z inside.high_z z;
-    })
-scaled_leads size b p false is some inside =
-    let long : 0 < extent b = grind (arith, nat_tests, is) in
-    rw is (record {
-      some = omega (arith, some);
-      x = axis_near size (extent b) p.x b.low.x b.high.x long;
-      y = axis_near size (extent b) p.y b.low.y b.high.y long;
-      z = axis_near size (extent b) p.z b.low.z b.high.z long;
-    })
+    grind (arith, common_steps, axis_flat size (extent b), eqb-true (extent b) 0 is, extent_most b)
+scaled_leads size b p false is some inside = grind (arith, common_steps, axis_near, nat_tests)
 
 -- A whole number of 10^18 units.
 signed_whole : (n : ℤ) (negative : Bool) → lt_z n (pos 0) ≡ negative → unsigned_abs n % 10 ^ 18 ≡ 0
@@ -145,18 +123,10 @@ signed_whole n true is none = omega (arith, ints, is, none)
 signed_whole n false is none = omega (arith, ints, is, none)
 
 whole_leads : (n : ℤ) → is_whole_coordinate n ≡ true → n ≡ pos (10 ^ 18) *ℤ whole_part_of n
-whole_leads n is =
-    let k : ℕ = unsigned_abs n in
-    signed_whole n (lt_z n (pos 0)) refl
-    (eqb-true (k % 10 ^ 18) 0 (and_parts (k % 10 ^ 18 == 0) (nat_le k (32767 * 10 ^ 18)) is).0)
+whole_leads n is = grind (arith, common_steps, and_parts, eqb-true, nat_le, signed_whole)
 
 standing_leads : (p : Place) → stands_on_grid p ≡ true → StandsAt (placed fits.Standing p) p
-standing_leads p is =
-    let (xy, z) =
-    and_parts (is_whole_coordinate p.x && is_whole_coordinate p.y) (is_whole_coordinate p.z)
-    is in
-    let (x, y) = and_parts (is_whole_coordinate p.x) (is_whole_coordinate p.y) xy in
-    record { x = whole_leads p.x x; y = whole_leads p.y y; z = whole_leads p.z z }
+standing_leads p is = grind (arith, common_steps, and_parts, whole_leads)
 
 -- A size that is at least 1.
 abbrev HasSteps : Fit → Type 0
@@ -171,15 +141,7 @@ placed_leads (fits.Scaled size b) p some suits =
 fit_has_steps : (size : Option ℕ) (ps : List Place) → IsSize size → HasSteps (fit_for size ps)
 fit_has_steps size [] is = tt
 fit_has_steps (Some n) (p ∷ ps) is = is.0
-fit_has_steps None (p ∷ ps) is =
-    elim (cases_Bool (list_all stands_on_grid (p ∷ ps))) [
-      | inl t ↦ subst HasSteps
-          (sym (cond-true (list_all stands_on_grid (p ∷ ps)) fits.Standing
-          (fits.Scaled 32767 (box_of_points p ps)) t)) tt
-      | inr f ↦ subst HasSteps
-          (sym (cond-false (list_all stands_on_grid (p ∷ ps)) fits.Standing
-          (fits.Scaled 32767 (box_of_points p ps)) f)) (omega arith)
-    ]
+fit_has_steps None (p ∷ ps) is = grind (arith, common_steps, cond-false, cond-true)
 
 -- The place of a point whose flag is set.
 place_at : (fit : Fit) (flags : List Bool) (ps : List Place) (v : ℕ) → length flags ≡ length ps

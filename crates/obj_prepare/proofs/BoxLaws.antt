@@ -1,6 +1,7 @@
 -- Laws of boxes.
-use Rattle.std.proofs.Common.{◌≡◌, ℕ, zero, suc, ◌<◌, ◌≤◌, List, [], ◌∷◌, length, get_or, refl, sym}
-use Rattle.std.proofs.Common.{false, ◌==◌, arith}
+use Rattle.std.proofs.Common.{◌≡◌, ℕ, zero, suc, ◌<◌, ◌≤◌, List, [], ◌∷◌, length, get_or}
+use Rattle.std.proofs.lemmas.Grind.{common_steps}
+use Rattle.std.proofs.Common.{arith}
 use Rattle.std.specs.Prelude.{ℤ, ◌-ℤ◌, ◌≤ℤ◌, unsigned_abs}
 use Rattle.std.proofs.lemmas.Bool.{ne_eqb}
 use Rattle.std.proofs.lemmas.Int.{clamps}
@@ -60,14 +61,8 @@ greatest_each p (q ∷ qs) (suc i) d lt = greatest_each (upper p q) qs i d (omeg
 -- Each point is in the box of all.
 pub box_has : (p : Place) (ps : List Place) (i : ℕ) (d : Place) → i < length (p ∷ ps)
     → IsInBox (box_of_points p ps) (get_or (p ∷ ps) i d)
-box_has p ps zero d lt =
-    let (a, b, c) = least_first p ps in
-    let (e, f, g) = greatest_first p ps in
-    record { low_x = a; high_x = e; low_y = b; high_y = f; low_z = c; high_z = g }
-box_has p ps (suc i) d lt =
-    let (a, b, c) = least_each p ps i d (omega (arith, lt)) in
-    let (e, f, g) = greatest_each p ps i d (omega (arith, lt)) in
-    record { low_x = a; high_x = e; low_y = b; high_y = f; low_z = c; high_z = g }
+box_has p ps zero d lt = grind (arith, common_steps, greatest_first p ps, least_first p ps)
+box_has p ps (suc i) d lt = grind (arith, common_steps, greatest_each p ps i d, least_each p ps i d)
 
 -- The place with these coordinates.
 abbrev pub place : ℤ → ℤ → ℤ → Place
@@ -79,7 +74,4 @@ pub scaled_at : (size e : ℕ) (b : PointBox) (p : Place) (x y z : ℤ) → e �
     → y ≡ along size e (off_middle p.y b.low.y b.high.y)
     → z ≡ along size e (off_middle p.z b.low.z b.high.z) → place x y z ≡ scaled size b p
 unfolding scaled
-scaled_at size e b p x y z is lt ex ey ez =
-    let some : (extent b == 0) ≡ false =
-    ne_eqb (extent b) 0 (λ none. absurd (omega (arith, is, lt, none))) in
-    rw (some, sym is, ex, ey, ez) refl
+scaled_at size e b p x y z is lt ex ey ez = grind (arith, common_steps, ne_eqb)

@@ -1,9 +1,10 @@
 -- Laws of counting what was done.
 use Rattle.std.proofs.Common.{◌≡◌, ℕ, zero, suc, ◌+◌, ◌-◌, ◌==◌, ◌&&◌, not, Bool, true, false, List}
-use Rattle.std.proofs.Common.{length, refl, sym, ◌∙◌, ap, inl, inr, arith}
+use Rattle.std.proofs.lemmas.Grind.{common_steps}
+use Rattle.std.proofs.Common.{length, refl, sym, ◌∙◌, ap, arith}
 use Rattle.std.specs.Prelude.{slice_index_or}
 use Rattle.std.specs.List.{filter}
-use Rattle.std.proofs.lemmas.Bool.{cases_Bool, and_from}
+use Rattle.std.proofs.lemmas.Bool.{and_from}
 use Rattle.pm_base.specs.declared.mesh.Corners.{Corners}
 use Rattle.pm_base.specs.Sides.{net_of}
 use Rattle.pm_base.specs.Counts.{count}
@@ -65,13 +66,7 @@ unnamed_next flags names v n is f =
 pub itself_next : (flags : List Bool) (names : List ℕ) (v n : ℕ) → n ≡ joined_below flags names v
     → not (slice_index_or names v 0 == v) ≡ false → n ≡ joined_below flags names (v + 1)
 unfolding joined_below
-itself_next flags names v n is f =
-    passed (λ v. slice_index_or flags v false && not (slice_index_or names v 0 == v)) v n is
-    (elim (cases_Bool (slice_index_or flags v false)) [
-      | inl t ↦ rw (t, f) refl
-      | inr u ↦
-          rw u refl
-    ])
+itself_next flags names v n is f = grind (arith, common_steps, passed)
 
 pub none_gone : (before : List Bool) (names : List ℕ) (after : List Bool)
     → 0 ≡ gone_below before names after 0
@@ -99,38 +94,17 @@ there_next before names after v n is f = passed (λ v. slice_index_or before v f
 -- Those that pass, and those that don't.
 pub count_both : (p : ℕ → Bool) (n : ℕ) → count p n + count (λ v. not (p v)) n ≡ n
 count_both p zero = omega (arith, count-zero p, count-zero (λ v. not (p v)))
-count_both p (suc n) =
-    elim (cases_Bool (p n)) [
-      | inl t ↦ omega (
-        arith,
-        count-true p n t,
-        count-false (λ v. not (p v)) n (ap not t),
-        count_both p n,
-      )
-      | inr f ↦ omega (
-        arith,
-        count-false p n f,
-        count-true (λ v. not (p v)) n (ap not f),
-        count_both p n,
-      )
-    ]
+count_both p (suc n) = grind (arith, common_steps, count-false, count-true, count_both p n)
 
 set_named : (fs : List Corners) (n : ℕ) → set_below (named_in fs n) (length (named_in fs n))
     ≡ count (is_some_corner fs) n
 unfolding set_below
-set_named fs n =
-    ap (count (λ v. slice_index_or (named_in fs n) v false)) (length-named_in fs n)
-    ∙ count_same (λ v. slice_index_or (named_in fs n) v false) (is_some_corner fs) n
-    (λ i l. named_at fs n i l)
+set_named fs n = grind (arith, common_steps, count_same, length-named_in, named_at)
 
 joined_named : (fs : List Corners) (names : List ℕ)
     → joined_below (named_in fs (length names)) names (length names) ≡ joined_count names fs
 unfolding joined_below joined_count
-joined_named fs names =
-    count_same (λ v. slice_index_or (named_in fs (length names)) v false && not
-    (slice_index_or names v 0 == v))
-    (λ v. is_some_corner fs v && not (slice_index_or names v 0 == v)) (length names)
-    (λ i l. ap (λ b. b && not (slice_index_or names i 0 == i)) (named_at fs (length names) i l))
+joined_named fs names = grind (arith, common_steps, count_same, named_at)
 
 -- Each number of what was done, from what was counted. Lists that were lent are the same lists.
 
@@ -138,9 +112,7 @@ pub counted_joined : (faces : List Corners) (names again : List ℕ) (flags lent
     (vertices n : ℕ) → length names ≡ vertices → flags ≡ named_in faces vertices → lent ≡ flags
     → again ≡ names → n ≡ joined_below lent again (length again) → n ≡ joined_count names faces
 counted_joined faces names again flags lent vertices n len are same same_names is =
-    is ∙ ap (λ ns. joined_below lent ns (length ns)) same_names
-    ∙ ap (λ fs. joined_below fs names (length names)) (same ∙ are
-    ∙ ap (named_in faces) (sym len)) ∙ joined_named faces names
+    grind (arith, common_steps, joined_named)
 
 pub counted_flat : (faces renamed again : List Corners) (names : List ℕ) (n : ℕ)
     → renamed ≡ joined_faces names faces → again ≡ renamed → n ≡ length (filter is_flat again)
@@ -178,9 +150,7 @@ pub counted_split : (faces stay : List Corners) (names old : List ℕ) (flags le
     → n ≡ length old - set → n ≡ split_count names faces old
 unfolding split_count
 counted_split faces stay names old flags lent vertices set n len stay_is are same set_is is =
-    is ∙ ap (λ s. length old - s) (counted_set stay flags lent vertices set are same set_is
-    ∙ ap (count (is_some_corner stay)) (sym len)
-    ∙ ap (λ (fs : List Corners). count (is_some_corner fs) (length names)) stay_is)
+    grind (arith, common_steps, counted_set)
 
 pub counted_unnamed : (faces : List Corners) (flags lent : List Bool) (vertices set n : ℕ)
     → flags ≡ named_in faces vertices → lent ≡ flags → set ≡ set_below lent (length lent)
@@ -199,11 +169,7 @@ gone_named : (fs stay : List Corners) (names : List ℕ) (n : ℕ)
     ≡ count (λ v. is_some_corner fs v && (slice_index_or names v 0 == v)
     && not (is_some_corner stay v)) n
 unfolding gone_below
-gone_named fs stay names n =
-    count_same (λ v. slice_index_or (named_in fs n) v false && (slice_index_or names v 0 == v)
-    && not (slice_index_or (named_in stay n) v false))
-    (λ v. is_some_corner fs v && (slice_index_or names v 0 == v) && not (is_some_corner stay v)) n
-    (λ i l. rw (named_at fs n i l, named_at stay n i l) refl)
+gone_named fs stay names n = grind (arith, common_steps, count_same, named_at)
 
 pub counted_gone : (faces stay : List Corners) (names again : List ℕ)
     (before lent after lent_after : List Bool) (vertices n : ℕ) → length names ≡ vertices
@@ -214,10 +180,4 @@ pub counted_gone : (faces stay : List Corners) (names again : List ℕ)
 unfolding gone_count
 counted_gone faces stay names again before lent after lent_after vertices n len stay_is are later
     same same_names same_after is =
-    is ∙ ap (λ ns. gone_below lent ns lent_after (length ns)) same_names
-    ∙ ap (λ bs. gone_below bs names lent_after (length names)) (same ∙ are
-    ∙ ap (named_in faces) (sym len))
-    ∙ ap (λ bs. gone_below (named_in faces (length names)) names bs (length names)) (same_after
-    ∙ later ∙ ap (λ (fs : List Corners). named_in fs vertices) stay_is
-    ∙ ap (named_in (staying names faces)) (sym len))
-    ∙ gone_named faces (staying names faces) names (length names)
+    grind (arith, common_steps, gone_named)

@@ -1,8 +1,8 @@
 -- Laws of counting different points one after the other.
 use Rattle.std.proofs.Common.{◌≡◌, ℕ, suc, ◌+◌, ◌<◌, ◌≤◌, Bool, true, false, not, ◌&&◌, ◌||◌, refl}
+use Rattle.std.proofs.lemmas.Grind.{common_steps}
 use Rattle.std.proofs.Common.{sym, ap, ◌∙◌, subst, List, [], ◌∷◌, ◌++◌, length, map, get_or, drop}
 use Rattle.std.proofs.Common.{arith, if◌then◌else◌, append_assoc}
-use Rattle.std.specs.List.{list_any}
 use Rattle.std.specs.Ordering.{int_cmp, int_eq, is_eq, ordering_then}
 use Rattle.std.specs.Cmp.{tied_then}
 use Rattle.std.specs.BTreeSet.{BTreeSet, contains, Updates}
@@ -13,7 +13,7 @@ use Rattle.std.proofs.lemmas.List.{append-nil}
 use Rattle.std.proofs.lemmas.List.Folds.{list_any-append}
 use Rattle.pm_base.specs.Place.{Place}
 use Rattle.pm_base.specs.declared.mesh.Corners.{Corners}
-use Rattle.obj_prepare.specs.Named.{named_in, chosen}
+use Rattle.obj_prepare.specs.Named.{chosen}
 use Rattle.obj_prepare.proofs.PlacingLaws.{flag_is, off, none_left}
 use Rattle.obj_prepare.specs.Different.{is_same_point, different, rounded_count, PointKey, key_of}
 use Rattle.obj_prepare.specs.Different.{key_cmp, IsCounted}
@@ -27,13 +27,7 @@ count_of ps = distinct_count is_same_point ps
 
 -- Points are one exactly where the test says so.
 same_is : (p q : Place) → is_same_point p q ≡ true → p ≡ q
-same_is p q is =
-    let parts = and_parts (int_eq p.x q.x && int_eq p.y q.y) (int_eq p.z q.z) is in
-    let two = and_parts (int_eq p.x q.x) (int_eq p.y q.y) parts.0 in
-    let x : p.x ≡ q.x = (Decides-int_eq p.x q.x).0 two.0 in
-    let y : p.y ≡ q.y = (Decides-int_eq p.y q.y).0 two.1 in
-    let z : p.z ≡ q.z = (Decides-int_eq p.z q.z).0 parts.1 in
-    λ i. record { x = x i; y = y i; z = z i }
+same_is p q is = grind (arith, common_steps, Decides-int_eq, and_parts)
 
 -- The keys of points are tied exactly there.
 same_key : (p q : Place) → is_eq (key_cmp (key_of p) (key_of q)) ≡ is_same_point p q
@@ -42,12 +36,7 @@ same_key p q =
     ∙ ap (λ b. b && int_eq p.z q.z) (sym (tied_then (int_cmp p.x q.x) (int_cmp p.y q.y)))
 
 same_refl : (p : Place) → is_same_point p p ≡ true
-same_refl p =
-    rw (
-      (Decides-int_eq p.x p.x).1 refl,
-      (Decides-int_eq p.y p.y).1 refl,
-      (Decides-int_eq p.z p.z).1 refl,
-    ) refl
+same_refl p = grind (arith, common_steps, Decides-int_eq)
 
 same_sym : (p q : Place) (b : Bool) → is_same_point p q ≡ b → is_same_point q p ≡ b
 same_sym p q true is = subst (λ r. is_same_point r p ≡ true) (same_is p q is) (same_refl p)
@@ -97,12 +86,7 @@ more_case : (p q : Place) (ps : List Place) (same : Bool) → is_same_point p q 
     → count_of (p ∷ ps ++ q ∷ []) ≡
     (if has (p ∷ ps) q then count_of (p ∷ ps) else count_of (p ∷ ps) + 1)
 more_case p q ps true is more =
-    let e = same_is p q is in
-    rw (same_sym p q true is)
-    (subst (λ r. count_of (p ∷ ps ++ r ∷ []) ≡ count_of (p ∷ ps)) e
-    (same_case p ps _ refl
-    (subst (λ r. count_of (ps ++ r ∷ []) ≡ (if has ps r then count_of ps else count_of ps + 1))
-    (sym e) more)))
+    grind (arith, common_steps, same_case p ps, same_is p q is, same_sym p q true is)
 more_case p q ps false is more = rw (same_sym p q false is) (other_case p q ps _ _ is refl more)
 
 pub one_more : (ps : List Place) (q : Place) → count_of (ps ++ q ∷ []) ≡
@@ -161,12 +145,7 @@ old_counted whole left p s t key n is c old u =
 pub none_counted : (flags : List Bool) (ps : List Place) (s : BTreeSet PointKey) → s.keys ≡ []
     → IsCounted (chosen flags ps) (chosen (drop 0 flags) (drop 0 ps)) s 0
 unfolding different
-none_counted flags ps s none = record {
-  before = [];
-  parts = refl;
-  counted = refl;
-  holds = λ p. ap (list_any (λ q. is_eq (key_cmp (key_of p) q))) none;
-}
+none_counted flags ps s none = grind (arith, common_steps)
 
 pub flag_on : (flags : List Bool) (ps : List Place) (i : ℕ) (p : Place)
     (same : length flags ≡ length ps) (l : i < length ps) (read : p ≡ get_or ps i p)
@@ -229,11 +208,4 @@ chosen_map f (false ∷ flags) (p ∷ ps) = chosen_map f flags ps
 pub none_rounded : (f : Place → Place) (places : List Place) (faces : List Corners)
     → rounded_count (map f places) places faces ≡ 0
 unfolding rounded_count different
-none_rounded f places faces =
-    let flags = named_in faces (length (map f places)) in
-    omega (
-      arith,
-      ap (count_of) (chosen_map f flags places),
-      different_map f
-          (chosen flags places),
-    )
+none_rounded f places faces = grind (arith, common_steps, chosen_map, different_map)

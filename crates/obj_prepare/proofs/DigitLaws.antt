@@ -1,5 +1,6 @@
 -- Laws of numbers in digits, and of rounding them.
 use Rattle.std.proofs.Common.{◌≡◌, ℕ, suc, ◌+◌, ◌-◌, ◌*◌, ◌^◌, ◌<◌, ◌≤◌, min, true, nat_le, List}
+use Rattle.std.proofs.lemmas.Grind.{common_steps}
 use Rattle.std.proofs.Common.{[], ◌∷◌, ◌++◌, length, drop, get_or, refl, ◌∙◌, ap, arith}
 use Rattle.std.proofs.Math.Nat.{pow-suc, mul_comm, div-eq_of_lt-le, div-eq_of_lt, mul-le-mul_right}
 use Rattle.std.proofs.lemmas.Bool.{and_parts, leb-true}
@@ -53,20 +54,12 @@ pub nearest_up : (h d r p : ℕ) → 0 < p → r < p → 5 ≤ d → d ≤ 9
     → nearest (h * (p * 10) + (d * p + r)) (p * 10) ≡ h + 1
 unfolding nearest
 nearest_up h d r p l below least most =
-    let low : 5 * p ≤ d * p = mul-le-mul_right p least in
-    let high : d * p ≤ 9 * p = mul-le-mul_right p most in
-    let a : (h + 1) * (2 * (p * 10)) ≡ 2 * (h * (p * 10)) + 20 * p = grind arith in
-    let b : (h + 1 + 1) * (2 * (p * 10)) ≡ 2 * (h * (p * 10)) + 40 * p = grind arith in
-    div-eq_of_lt-le (2 * (p * 10)) (omega (arith, a, low)) (omega (arith, b, high, below))
+    grind (arith, common_steps, div-eq_of_lt-le, mul-le-mul_right)
 
 pub nearest_down : (h d r p : ℕ) → 0 < p → r < p → d ≤ 4
     → nearest (h * (p * 10) + (d * p + r)) (p * 10) ≡ h
 unfolding nearest
-nearest_down h d r p l below most =
-    let high : d * p ≤ 4 * p = mul-le-mul_right p most in
-    let a : h * (2 * (p * 10)) ≡ 2 * (h * (p * 10)) = grind arith in
-    let b : (h + 1) * (2 * (p * 10)) ≡ 2 * (h * (p * 10)) + 20 * p = grind arith in
-    div-eq_of_lt-le (2 * (p * 10)) (omega (arith, a)) (omega (arith, b, high, below))
+nearest_down h d r p l below most = grind (arith, common_steps, div-eq_of_lt-le, mul-le-mul_right)
 
 -- What is less than a tenth of the divisor is nearest to 0.
 pub nearest_zero : (n p : ℕ) → n < p → nearest n (p * 10) ≡ 0

@@ -1,7 +1,8 @@
 -- The place at which a number stands first in a list.
 use Rattle.std.proofs.Common.{◌≡◌, ◌≢◌, ℕ, zero, suc, ◌<◌, ◌==◌, cond, List, [], ◌∷◌, length}
-use Rattle.std.proofs.Common.{get_or, inl, inr, sym, ◌∙◌, subst, arith}
-use Rattle.std.proofs.lemmas.Bool.{cases_eq, cond-true, cond-false, eq-eqb, ne_eqb}
+use Rattle.std.proofs.lemmas.Grind.{common_steps}
+use Rattle.std.proofs.Common.{get_or, arith}
+use Rattle.std.proofs.lemmas.Bool.{cond-true, cond-false, eq-eqb, ne_eqb}
 
 -- Where a number stands first in a list. Others get numbers of their own, past the list's end, so
 -- no two get one.
@@ -18,21 +19,7 @@ past_head x u xs differ = cond-false _ _ _ (ne_eqb _ _ differ)
 pub firsts_apart : (xs : List ℕ) (u v : ℕ) → first_in xs u ≡ first_in xs v → u ≡ v
 firsts_apart [] u v same = same
 firsts_apart (x ∷ xs) u v same =
-    elim (cases_eq x u) [
-      | inl a ↦
-          elim (cases_eq x v) [
-            | inl b ↦ sym a ∙ b
-            | inr b ↦ let p = at_head x u xs a in let q = past_head x v xs b in
-                absurd (omega (arith, p, q, same))
-          ]
-      | inr a ↦
-          elim (cases_eq x v) [
-            | inl b ↦ let p = past_head x u xs a in let q = at_head x v xs b in
-                absurd (omega (arith, p, q, same))
-            | inr b ↦ let p = past_head x u xs a in let q = past_head x v xs b in
-                firsts_apart xs u v (omega (arith, p, q, same))
-          ]
-    ]
+    grind (arith, common_steps, at_head, past_head, firsts_apart xs u v)
 
 -- A number of the list stands at its first place, and before there no such number stands.
 abbrev pub StandsFirst : List ℕ → ℕ → Type 0
@@ -49,19 +36,10 @@ found_past x xs (suc i) u a found l at = let (low, is) = found i (omega arith) a
 pub first_found : (xs : List ℕ) (i u : ℕ) → i < length xs → get_or xs i 0 ≡ u → StandsFirst xs u
 first_found [] i u l at = absurd (omega arith)
 first_found (x ∷ xs) i u l at =
-    elim (cases_eq x u) [
-      | inl a ↦ subst (λ n. (n < length (x ∷ xs)) × (get_or (x ∷ xs) n 0 ≡ u))
-          (sym (at_head x u xs a)) (omega arith, a)
-      | inr a ↦ subst (λ n. (n < length (x ∷ xs)) × (get_or (x ∷ xs) n 0 ≡ u))
-          (sym (past_head x u xs a)) (found_past x xs i u a (λ j. first_found xs j u) l at)
-    ]
+    grind (arith, common_steps, at_head, found_past, get_or, past_head, first_found xs)
 
 pub none_before : (xs : List ℕ) (u w : ℕ) → w < length xs → w < first_in xs u → get_or xs w 0 ≢ u
 none_before [] u w l before at = omega arith
 none_before (x ∷ xs) u zero l before at = let p = at_head x u xs at in omega (arith, p, before)
 none_before (x ∷ xs) u (suc w) l before at =
-    elim (cases_eq x u) [
-      | inl a ↦ let p = at_head x u xs a in omega (arith, p, before)
-      | inr a ↦ let p = past_head x u xs a in
-          none_before xs u w (omega arith) (omega (arith, p, before)) at
-    ]
+    grind (arith, common_steps, at_head, past_head, none_before xs u w)

@@ -1,5 +1,6 @@
 -- A mesh that needs nothing comes back.
 use Rattle.std.proofs.Common.{◌≡◌, ℕ, ◌/◌, ◌<◌, inl, inr, refl, sym, ap, ◌∙◌, subst, List, [], ◌∷◌}
+use Rattle.std.proofs.lemmas.Grind.{common_steps}
 use Rattle.std.proofs.Common.{length, map, arith}
 use Rattle.std.specs.Prelude.{slice_index_or}
 use Rattle.std.specs.List.{All, range_with_len}
@@ -48,11 +49,7 @@ own_joined places faces fit = record {
 }
 
 own_face : (n : ℕ) (f : Corners) → AreVerticesBelow n f → renamed (own n) f ≡ f
-own_face n f are =
-    let a = own_name n f.a are.a in
-    let b = own_name n f.b are.b in
-    let c = own_name n f.c are.c in
-    λ i. record { a = a i; b = b i; c = c i }
+own_face n f are = grind (arith, common_steps, own_name)
 
 own_faces : (n : ℕ) (fs : List Corners) → All (AreVerticesBelow n) fs → joined_faces (own n) fs ≡ fs
 own_faces n [] are = refl

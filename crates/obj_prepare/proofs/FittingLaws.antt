@@ -1,12 +1,12 @@
 -- Triangles that need nothing are what comes of them.
 use Rattle.std.proofs.Common.{◌≡◌, ◌≢◌, ℕ, suc, ◌+◌, ◌-◌, ◌*◌, ◌<◌, ◌≤◌, Bool, true, false, ◌==◌}
+use Rattle.std.proofs.lemmas.Grind.{common_steps}
 use Rattle.std.proofs.Common.{◌||◌, inl, inr, sym, ap, ◌∙◌, subst, List, [], ◌∷◌, length, map}
 use Rattle.std.proofs.Common.{get_or, Option, None, Some, arith}
-use Rattle.std.specs.Prelude.{slice_index_or}
 use Rattle.std.specs.Option.{MatchOption}
 use Rattle.std.specs.List.{All, filter, list_all, IsDistinct}
 use Rattle.std.specs.List.Sorted.{IsPermutation, IsStrictlyIncreasing}
-use Rattle.std.proofs.lemmas.Bool.{cases_Bool, cases_order, cases_lt, cond-true, cond-false}
+use Rattle.std.proofs.lemmas.Bool.{cases_lt, cond-true, cond-false}
 use Rattle.std.proofs.lemmas.Bool.{or_cases, or_left, or_right, eq-eqb, eqb-true, ne_eqb}
 use Rattle.std.proofs.lemmas.Bool.{true≢false, false≢true}
 use Rattle.std.proofs.lemmas.List.{length-map, get_or-map}
@@ -45,11 +45,7 @@ use Rattle.obj_prepare.proofs.NamedLaws.{length-named_in, named_at}
 -- Where all flags are set each vertex is named.
 all_set : (flags : List Bool) (v : ℕ) → list_all (λ b. b) flags ≡ true → v < length flags
     → get_or flags v false ≡ true
-all_set flags v all l =
-    elim (cases_Bool (get_or flags v false)) [
-      | inl t ↦ t
-      | inr f ↦ absurd (true≢false (sym all ∙ list_all_at (λ b. b) flags v false l f))
-    ]
+all_set flags v all l = grind (arith, common_steps, get_or, list_all_at)
 
 pub all_named : (n : ℕ) (faces : List Corners) (flags : List Bool) → flags ≡ named_in faces n
     → list_all (λ b. b) flags ≡ true → AreAllNamed n faces
@@ -60,43 +56,28 @@ all_named n faces flags are all v l =
 
 -- Where no triangle names a vertex twice each is a face.
 face_of_three : (n : ℕ) (f : Corners) → AreVerticesBelow n f → is_flat f ≡ false → IsFace n f
-face_of_three n f are not_flat = record {
-  a = are.a;
-  b = are.b;
-  c = are.c;
-  ab = λ is. true≢false (sym (or_left (f.a == f.b || f.b == f.c) (f.c == f.a)
-      (or_left (f.a == f.b) (f.b == f.c) (eq-eqb _ _ is))) ∙ not_flat);
-  bc = λ is. true≢false (sym (or_left (f.a == f.b || f.b == f.c) (f.c == f.a)
-      (or_right (f.a == f.b) (f.b == f.c) (eq-eqb _ _ is))) ∙ not_flat);
-  ca = λ is. true≢false (sym (or_right (f.a == f.b || f.b == f.c) (f.c == f.a)
-      (eq-eqb _ _ is)) ∙ not_flat);
-}
+face_of_three n f are not_flat = grind (arith, common_steps, eq-eqb, or_left, or_right)
 
 faces_of_three : (n : ℕ) (fs : List Corners) → All (AreVerticesBelow n) fs
     → length (filter is_flat fs) ≡ 0 → All (IsFace n) fs
 faces_of_three n [] all none = All-nil (IsFace n)
 faces_of_three n (f ∷ fs) all none =
-    elim (cases_Bool (is_flat f)) [
-      | inl t ↦ absurd
-          (omega (
-            arith,
-            none,
-            ap length (cond-true (is_flat f) (f ∷ filter is_flat fs) (filter is_flat fs) t),
-          ))
-      | inr u ↦ All-cons (IsFace n) f fs
-          (face_of_three n f (All-head (AreVerticesBelow n) f fs all) u)
-          (faces_of_three n fs (All-tail (AreVerticesBelow n) f fs all)
-          (sym (ap length (cond-false (is_flat f) (f ∷ filter is_flat fs) (filter is_flat fs) u))
-          ∙ none))
-    ]
+    grind (
+      arith,
+      common_steps,
+      All-cons,
+      All-head,
+      All-tail,
+      cond-false,
+      cond-true,
+      face_of_three,
+      faces_of_three n fs (All-tail (AreVerticesBelow n) f fs all),
+    )
 
 pub mesh_formed : (places : List Place) (faces : List Corners) → IsWithinMesh (length places) faces
     → length (filter is_flat faces) ≡ 0 → IsWellFormed (mesh_over places faces)
-mesh_formed places faces within none = record {
-  points = within.vertices_few;
-  faces = within.faces_few;
-  corners = faces_of_three (length places) faces within.corners none;
-}
+mesh_formed places faces within none =
+    grind (arith, common_steps, faces_of_three (length places) faces within.corners none)
 
 -- Numbers that rise once they are sorted were all different.
 rising_differ : (xs : List ℕ) → IsStrictlyIncreasing xs → IsDistinct eqb xs
@@ -128,14 +109,7 @@ module _ (places : List Place) (keys sorted : List ℕ) (are : keys ≡ map plac
       (key_at v (omega (arith, less, low)) ∙ ap place_key same ∙ sym (key_at w low))
 
   pub keys_apart : AreApart places
-  keys_apart v w lv lw other same =
-      elim (cases_order v w) [
-        | inl is ↦ other is
-        | inr k ↦ elim k [
-          | inl less ↦ differ v w less lw same
-          | inr more ↦ differ w v more lv (sym same)
-        ]
-      ]
+  keys_apart v w lv lw other same = grind (arith, common_steps, differ)
 
 -- In an oriented manifold the mate of a side is its twin.
 module _ (m : Net) (stand : AllStand m) (once : NoSideTwice m) where
@@ -165,10 +139,7 @@ module _ (m : Net) (stand : AllStand m) (once : NoSideTwice m) where
   mate_told e (Some k) l is = twin_mates e k l (twin-is m e k (sym is))
 
   pub twins_mated : (n : ℕ) (t : Table) → IsTableOf m n t → AreMated m t.twins
-  twins_mated n t is = record {
-    sides = is.twins.sides;
-    each = λ e l. mate_told e (slice_index_or t.twins e None) l (is.twins.each e l);
-  }
+  twins_mated n t is = grind (arith, common_steps, mate_told)
 
 -- A vertex that a triangle names is used.
 some_corner_at : (fs : List Corners) (v : ℕ) → is_some_corner fs v ≡ true
@@ -214,10 +185,8 @@ whole_stand places faces whole e l = (mesh_side (mesh_over places faces) whole.f
 
 pub whole_fit : (places : List Place) (faces : List Corners) → AreWhole places faces
     → AreFit places faces
-whole_fit places faces whole = record {
-  used = λ v l. named_used faces v (whole_stand places faces whole) (whole.named v l);
-  apart = whole.apart;
-}
+whole_fit places faces whole =
+    grind (arith, common_steps, named_used faces, whole_stand places faces whole)
 
 -- One more number rises above the one before it.
 pub rises_more : (xs : List ℕ) (at before here : ℕ) → 1 ≤ at → before ≡ get_or xs (at - 1) 0
@@ -227,12 +196,7 @@ pub rises_more : (xs : List ℕ) (at before here : ℕ) → 1 ≤ at → before 
 rises_more xs at before here some is are above so_far k l =
     elim (cases_lt (k + 1) at) [
       | inl low ↦ so_far k low
-      | inr high ↦
-          let last : k ≡ at - 1 = omega (arith, l, high) in
-          let next : k + 1 ≡ at = omega (arith, l, high) in
-          let a : get_or xs k 0 ≡ before = ap (λ (i : ℕ). get_or xs i 0) last ∙ sym is in
-          let b : get_or xs (k + 1) 0 ≡ here = ap (λ (i : ℕ). get_or xs i 0) next ∙ sym are in
-          omega (arith, a, b, above)
+      | inr high ↦ grind (arith, common_steps, get_or)
     ]
 
 -- What holds of the surface that such triangles are.

@@ -1,5 +1,6 @@
 -- The first vertices at their places, as one more vertex is looked at.
-use Rattle.std.proofs.Common.{◌≡◌, ◌≢◌, ℕ, ◌+◌, ◌*◌, ◌/◌, ◌<◌, ◌≤◌, Bool, true, false, inl, inr}
+use Rattle.std.proofs.Common.{◌≡◌, ◌≢◌, ℕ, ◌+◌, ◌*◌, ◌<◌, ◌≤◌, Bool, true, false, inl, inr}
+use Rattle.std.proofs.lemmas.Grind.{common_steps}
 use Rattle.std.proofs.Common.{refl, sym, ap, ◌∙◌, subst, Option, Some, None, List, [], ◌∷◌, ◌++◌}
 use Rattle.std.proofs.Common.{length, get_or, map, take, arith}
 use Rattle.std.specs.Prelude.{ℤ, unsigned_abs}
@@ -29,11 +30,7 @@ raised_is : (n m : ℤ) → unsigned_abs n ≤ 32767 → unsigned_abs m ≤ 3276
 raised_is n m ln lm e = omega (arith, ints, ln, lm, e)
 
 two_are : (p q r s : ℕ) → q < 65536 → s < 65536 → p * 65536 + q ≡ r * 65536 + s → (p ≡ r) × (q ≡ s)
-two_are p q r s ql sl e =
-    let b : ℕ = 65536 in
-    let one : p ≡ r = sym (div-mul-add p b q ql) ∙ ap (λ n. n / b) e ∙ div-mul-add r b s sl in
-    let ones : p * b ≡ r * b = ap (λ n. n * b) one in
-    (one, omega (arith, ones, e))
+two_are p q r s ql sl e = grind (arith, common_steps, div-mul-add)
 
 -- A place is known from its key.
 place_is : (p q : Place) → IsPlace p → IsPlace q → place_key p ≡ place_key q → p ≡ q
@@ -63,27 +60,12 @@ module _ (places : List Place) (faces : List Corners) where
 
   module _ (n : ℕ) where
     first_on : (key v : ℕ) → IsFirstOf places faces n key v → IsFirstOf places faces (n + 1) key v
-    first_on key v f =
-        let low = f.in_range in
-        record {
-          in_range = omega arith;
-          named = f.named;
-          place = f.place;
-          has = f.has;
-          least =
-              f.least;
-        }
+    first_on key v f = grind (arith, common_steps)
 
     none_on : (key : ℕ) → HasNone places faces n key
         → (is_some_corner faces n ≡ true → place_key (place_in_list places n) ≢ key)
         → HasNone places faces (n + 1) key
-    none_on key none here w l names =
-        elim (cases_eq w n) [
-          | inl same ↦
-              (λ has. here (ap (is_some_corner faces) (sym same) ∙ names)
-              (ap (λ i. place_key (place_in_list places i)) (sym same) ∙ has))
-          | inr other ↦ none w (omega arith) names
-        ]
+    none_on key none here w l names = grind (arith, common_steps)
 
     answers_on : (key : ℕ) (r : Option ℕ) → Answers n key r
         → (r ≡ None → is_some_corner faces n ≡ true → place_key (place_in_list places n) ≢ key)
@@ -138,23 +120,13 @@ module _ (places : List Place) (faces : List Corners) where
       }
 
       new_of : get nat_cmp firsts key ≡ None → IsFirstOf places faces (n + 1) key n
-      new_of at = record {
-        in_range = omega arith;
-        named = named;
-        place = here;
-        has = sym is;
-        least = answer None at;
-      }
+      new_of at = grind (arith, common_steps, here, is, answer None at)
 
       pub new_on : (more : BTreeMap ℕ ℕ) → get nat_cmp firsts key ≡ None
           → Updates nat_cmp firsts more key (Some n) → AreFirsts places faces (n + 1) more
       new_on more none u k =
           elim (cases_eq key k) [
-            | inl same ↦
-                let at : get nat_cmp more k ≡ Some n =
-                u.0 k ∙ cond-true _ _ _ (equal_is key k ∙ eq-eqb _ _ same) in
-                subst (Answers (n + 1) k) (sym at)
-                (subst (λ j. IsFirstOf places faces (n + 1) j n) same (new_of none))
+            | inl same ↦ grind (arith, common_steps, cond-true, eq-eqb, equal_is, new_of)
             | inr ne ↦
                 let at : get nat_cmp more k ≡ get nat_cmp firsts k =
                 u.0 k ∙ cond-false _ _ _ (equal_is key k ∙ ne_eqb _ _ ne) in
@@ -170,11 +142,7 @@ module _ (places : List Place) (faces : List Corners) where
     pub others : (v : ℕ) → v < n → is_some_corner faces v ≡ false → get_or names v 0 ≡ v
 
   pub no_names : (names : List ℕ) → names ≡ [] → AreNames 0 names
-  no_names names is = record {
-    all = ap length is;
-    each = λ v l. absurd (omega arith);
-    others = λ v l. absurd (omega arith);
-  }
+  no_names names is = grind (arith, common_steps)
 
   pub names_more : (n u : ℕ) (names more : List ℕ) → AreNames n names → more ≡ names ++ u ∷ []
       → (is_some_corner faces n ≡ true → IsFirstAt places faces n u)
@@ -185,11 +153,7 @@ module _ (places : List Place) (faces : List Corners) where
       record {
         all = ap length is ∙ length_push names u ∙ ap (λ k. k + 1) long;
         each = λ v l names_v. elim (cases_eq v n) [
-          | inl same ↦
-              let at : get_or more v 0 ≡ u = ap (λ i. get_or more i 0) same ∙ last in
-              subst (IsFirstAt places faces v) (sym at)
-              (subst (λ i. IsFirstAt places faces i u) (sym same)
-              (first (ap (is_some_corner faces) (sym same) ∙ names_v)))
+          | inl same ↦ grind (arith, common_steps, get_or)
           | inr apart ↦
               let low : v < n = omega arith in
               let at : get_or more v 0 ≡ get_or names v 0 =
@@ -209,13 +173,7 @@ module _ (places : List Place) (faces : List Corners) where
 
   pub all_joined : (n : ℕ) (names : List ℕ) → n ≡ length places → AreNames n names
       → AreJoined places faces names
-  all_joined n names is h =
-      record {
-        all = h.all ∙ is;
-        each = λ v l. h.each v (omega (arith, is));
-        others =
-            λ v l. h.others v (omega (arith, is));
-      }
+  all_joined n names is h = grind (arith, common_steps)
 
 -- What a flag says of its vertex.
 pub flag_names : (flags : List Bool) (faces : List Corners) (n v : ℕ) (x b : Bool)

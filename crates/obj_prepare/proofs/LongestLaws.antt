@@ -1,6 +1,7 @@
 -- The first point at an end of an axis, point by point.
 use Rattle.std.proofs.Common.{◌≡◌, ℕ, ◌+◌, ◌<◌, ◌≤◌, ℤ, Bool, true, false, List, ◌∷◌, length}
-use Rattle.std.proofs.Common.{get_or, drop, refl, sym, ◌∙◌, ap, arith}
+use Rattle.std.proofs.lemmas.Grind.{common_steps}
+use Rattle.std.proofs.Common.{get_or, drop, arith}
 use Rattle.std.proofs.lemmas.Bool.{cond-true, cond-false}
 use Rattle.std.proofs.lemmas.List.{drop_more, drop_all}
 use Rattle.pm_base.specs.Place.{Place}
@@ -14,39 +15,23 @@ module _ (axis : Axis) (n : ℤ) (flags : List Bool) (ps : List Place) (i : ℕ)
   cut : (p : Place) → length flags ≡ length ps → i < length ps → p ≡ get_or ps i p
       → first_at axis n (drop i flags) (drop i ps)
       ≡ first_at axis n (get_or flags i false ∷ drop (i + 1) flags) (p ∷ drop (i + 1) ps)
-  cut p same l read =
-      ap (λ bs. first_at axis n bs (drop i ps)) (drop_more flags i false (omega (arith, same, l)))
-      ∙ ap (first_at axis n (get_or flags i false ∷ drop (i + 1) flags)) (drop_more ps i p l
-      ∙ ap (λ q. q ∷ drop (i + 1) ps) (sym read))
+  cut p same l read = grind (arith, common_steps, drop_more, get_or)
 
   pub first_here : (p : Place) → length flags ≡ length ps → i < length ps → p ≡ get_or ps i p
       → is_at axis n (get_or flags i false) p ≡ true
       → first_at axis n flags ps ≡ i + first_at axis n (drop i flags) (drop i ps)
       → i ≡ first_at axis n flags ps
   unfolding rest
-  first_here p same l read here is = omega (
-    arith,
-    is,
-    cut p same l read
-        ∙ cond-true (is_at axis n (get_or flags i false) p) 0 (1 + rest) here,
-  )
+  first_here p same l read here is = grind (arith, common_steps, cond-true, cut, get_or, rest)
 
   pub first_past : (p : Place) → length flags ≡ length ps → i < length ps → p ≡ get_or ps i p
       → is_at axis n (get_or flags i false) p ≡ false
       → first_at axis n flags ps ≡ i + first_at axis n (drop i flags) (drop i ps)
       → first_at axis n flags ps ≡ i + 1 + first_at axis n (drop (i + 1) flags) (drop (i + 1) ps)
   unfolding rest
-  first_past p same l read out is = omega (
-    arith,
-    is,
-    cut p same l read
-        ∙ cond-false (is_at axis n (get_or flags i false) p) 0 (1 + rest) out,
-  )
+  first_past p same l read out is = grind (arith, common_steps, cond-false, cut, get_or, rest)
 
   pub first_none : length flags ≡ length ps → length ps ≤ i → i ≤ length ps
       → first_at axis n flags ps ≡ i + first_at axis n (drop i flags) (drop i ps)
       → length ps ≡ first_at axis n flags ps
-  first_none same l most is =
-      let none : first_at axis n (drop i flags) (drop i ps)
-      ≡ 0 = rw (drop_all i flags (omega (arith, same, l))) refl in
-      omega (arith, is, none, l, most)
+  first_none same l most is = grind (arith, common_steps, drop_all)

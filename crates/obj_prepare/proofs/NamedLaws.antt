@@ -1,5 +1,6 @@
 -- Flags of the vertices that faces name.
 use Rattle.std.proofs.Common.{◌≡◌, ℕ, zero, suc, ◌+◌, ◌<◌, ◌≤◌, Bool, true, false, ◌||◌, ◌==◌, inl}
+use Rattle.std.proofs.lemmas.Grind.{common_steps}
 use Rattle.std.proofs.Common.{inr, refl, sym, ap, ◌∙◌, List, [], ◌∷◌, ◌++◌, length, get_or, set}
 use Rattle.std.proofs.Common.{take, replicate, arith}
 use Rattle.std.specs.List.{All}
@@ -34,28 +35,16 @@ named_at fs (suc n) v l =
 
 pub none_named : (n : ℕ) → replicate n false ≡ named_in [] n
 none_named zero = refl
-none_named (suc n) =
-    let one : n + 1 ≡ suc n = omega arith in
-    ap (λ k. replicate k false) (sym one) ∙ sym (replicate_more n false)
-    ∙ ap (λ flags. flags ++ false ∷ []) (none_named n)
+none_named (suc n) = grind (arith, common_steps, replicate_more, none_named n)
 
 -- A flag that is set.
 set_flag : (flags : List Bool) (v w : ℕ) → w < length flags → get_or (set flags v true) w false
     ≡ (v == w || get_or flags w false)
 set_flag flags v w l =
-    elim (cases_eq v w) [
-      | inl same ↦ ap (λ i. get_or (set flags i true) w false) same
-          ∙ get_or-set_same flags w true false l
-          ∙ sym (ap (λ b. b || get_or flags w false) (eq-eqb v w same))
-      | inr other ↦ get_or-set_other flags v w true false (λ e. other (sym e))
-          ∙ sym (ap (λ b. b || get_or flags w false) (ne_eqb v w other))
-    ]
+    grind (arith, common_steps, eq-eqb, get_or, get_or-set_other, get_or-set_same, ne_eqb)
 
 turned : (a b c before : Bool) → (c || (b || (a || before))) ≡ (before || ((a || b || c) || false))
-turned a b c before =
-    ap (λ x. c || x) (sym (or_assoc b a before)) ∙ sym (or_assoc c (b || a) before)
-    ∙ ap (λ x. x || before) (or_comm c (b || a) ∙ ap (λ x. x || c) (or_comm b a))
-    ∙ or_comm (a || b || c) before ∙ ap (λ x. before || x) (or_comm false (a || b || c))
+turned a b c before = grind (arith, common_steps, or_assoc, or_comm)
 
 abbrev pub with_corners : List Bool → Corners → List Bool
 with_corners flags f = set (set (set flags f.a true) f.b true) f.c true
@@ -104,13 +93,7 @@ all_named flags fs n i l is = is ∙ ap (λ gs. named_in gs n) (take_all i fs l)
 pub corners_within : (flags : List Bool) (fs before : List Corners) (n i : ℕ)
     → All (AreVerticesBelow n) fs → i < length fs → flags ≡ named_in before n
     → AreVerticesBelow (length flags) (get_or fs i no_corners)
-corners_within flags fs before n i all l is =
-    let long : length flags ≡ n = ap length is ∙ length-named_in before n in
-    let f = all i no_corners l in
-    let a = f.a in
-    let b = f.b in
-    let c = f.c in
-    record { a = omega (arith, a, long); b = omega (arith, b, long); c = omega (arith, c, long) }
+corners_within flags fs before n i all l is = grind (arith, common_steps, length-named_in)
 
 one_face : (n : ℕ) (f : Corners) → AreVerticesBelow n f → All (AreVerticesBelow n) (f ∷ [])
 one_face n f is zero d l = is
@@ -119,8 +102,4 @@ one_face n f is (suc k) d l = absurd (omega (arith, l))
 -- One face over few vertices is within the limits.
 pub one_within : (n : ℕ) (f : Corners) → n ≤ 1048576 → AreVerticesBelow n f
     → IsWithinMesh n (f ∷ [])
-one_within n f few is = record {
-  vertices_few = few;
-  faces_few = omega arith;
-  corners = one_face n f is;
-}
+one_within n f few is = grind (arith, common_steps, one_face)

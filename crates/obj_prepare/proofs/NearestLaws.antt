@@ -1,5 +1,6 @@
 -- Laws of the nearest whole number.
 use Rattle.std.proofs.Common.{◌≡◌, ℕ, ◌+◌, ◌*◌, ◌/◌, ◌<◌, ◌≤◌, inl, inr, arith}
+use Rattle.std.proofs.lemmas.Grind.{common_steps}
 use Rattle.std.proofs.lemmas.Bool.{cases_lt}
 use borrow.Author.Differences.{ints}
 use Rattle.std.proofs.Math.Nat.{div-lt_iff_lt-mul, mul-le-mul_left}
@@ -9,13 +10,7 @@ use Rattle.obj_prepare.specs.Numbers.{nearest, parts_off, IsNearest}
 pub nearest_within : (size extent n : ℕ) → 0 < extent → n ≤ extent
     → nearest (size * n) extent ≤ size
 unfolding nearest
-nearest_within size extent n l h =
-    let a : size * n ≤ size * extent = mul-le-mul_left size h in
-    let b : (size + 1) * (2 * extent) ≡ 2 * (size * extent) + 2 * extent = grind arith in
-    let c : 2 * (size * n) + extent < (size + 1) * (2 * extent) = omega (arith, a, b) in
-    let p : 0 < 2 * extent = omega (arith, l) in
-    let d : (2 * (size * n) + extent) / (2 * extent) < size + 1 = (div-lt_iff_lt-mul p).1 c in
-    omega (arith, d)
+nearest_within size extent n l h = grind (arith, common_steps, div-lt_iff_lt-mul, mul-le-mul_left)
 
 -- The quotient is at most half below the nearest whole number, and less than half above it.
 pub nearest_is_near : (n d : ℕ) → 0 < d → (2 * (d * nearest n d) ≤ 2 * n + d)
@@ -33,10 +28,7 @@ nearest_is_near n d l =
 
 -- The parts by which another whole number is off: so many more divisors below or above.
 step_below : (d r k : ℕ) → k < r → d * k + d ≤ d * r
-step_below d r k l =
-    let a : d * (k + 1) ≤ d * r = mul-le-mul_left d (omega (arith, l)) in
-    let b : d * (k + 1) ≡ d * k + d = grind arith in
-    omega (arith, a, b)
+step_below d r k l = grind (arith, common_steps, mul-le-mul_left)
 
 pub nearest_is_nearest : (n d : ℕ) → 0 < d → IsNearest n d (nearest n d)
 nearest_is_nearest n d some = record { least = least; halves_up = up }

@@ -1,14 +1,15 @@
 -- Where nothing needs to be done, nothing is told of it: all numbers are 0.
-use Rattle.std.proofs.Common.{◌≡◌, ℕ, zero, suc, ◌<◌, ◌≤◌, Bool, true, false, not, ◌&&◌, ◌==◌}
+use Rattle.std.proofs.Common.{◌≡◌, ℕ, zero, suc, ◌<◌, ◌≤◌, Bool, true, false, not}
+use Rattle.std.proofs.lemmas.Grind.{common_steps}
 use Rattle.std.proofs.Common.{nat_lt, inl, inr, refl, sym, ap, ◌∙◌, subst, List, [], ◌∷◌, length}
 use Rattle.std.proofs.Common.{get_or, arith}
 use Rattle.std.specs.List.{All}
-use Rattle.std.proofs.lemmas.Bool.{cases_eq, cases_Bool, and_parts, eq-eqb, eqb-true, le-ltb}
+use Rattle.std.proofs.lemmas.Bool.{cases_eq, and_parts, eq-eqb, eqb-true, le-ltb}
 use Rattle.std.proofs.lemmas.Bool.{or_from, true≢false}
 use Rattle.std.proofs.lemmas.List.Elements.{All-head, All-tail}
 use Rattle.pm_base.specs.declared.mesh.Corners.{Corners}
 use Rattle.pm_base.specs.Meshes.{Mesh}
-use Rattle.pm_base.specs.Sides.{Net, net_of, side_count, to, stands}
+use Rattle.pm_base.specs.Sides.{Net, net_of, side_count, to}
 use Rattle.pm_base.specs.Fans.{IsOrientedManifold}
 use Rattle.pm_base.specs.Counts.{count}
 use Rattle.pm_base.proofs.Counts.{count-true, count-false, count-zero}
@@ -37,28 +38,14 @@ use Rattle.obj_prepare.proofs.RestoredLaws.{none_gone, all_named, split_as_joine
 count_lone : (p : ℕ → Bool) (n : ℕ) → ((i j : ℕ) → p i ≡ true → p j ≡ true → i ≡ j) → count p n ≤ 1
 count_lone p zero lone = omega (arith, count-zero p)
 count_lone p (suc n) lone =
-    elim (cases_Bool (p n)) [
-      | inl t ↦ omega (
-        arith,
-        count-true p n t,
-        count_none p n
-            (λ i l s. omega (arith, l, lone i n s t)),
-      )
-      | inr f ↦ omega (arith, count-false p n f, count_lone p n lone)
-    ]
+    grind (arith, common_steps, count-false, count-true, count_none, count_lone p n lone)
 
 -- No side of an oriented manifold is cut open.
 
 runs_once : (m : Net) (p q : ℕ) → IsOrientedManifold m
     → nat_lt 1 (count (side_runs m p q) (side_count m)) ≡ false
-runs_once m p q is = le-ltb 1 (count (side_runs m p q) (side_count m))
-    (count_lone (side_runs m p q) (side_count m) (λ i j a b.
-    let (si, ei) = and_parts (stands m i) (m.from i == p && to m i == q) a in
-    let (sj, ej) = and_parts (stands m j) (m.from j == p && to m j == q) b in
-    let (fi, ti) = and_parts (m.from i == p) (to m i == q) ei in
-    let (fj, tj) = and_parts (m.from j == p) (to m j == q) ej in
-    is.no_side_twice i j (stands-true m i si) (stands-true m j sj)
-    (eqb-true _ _ fi ∙ sym (eqb-true _ _ fj)) (eqb-true _ _ ti ∙ sym (eqb-true _ _ tj))))
+runs_once m p q is =
+    grind (arith, common_steps, and_parts, count_lone, eqb-true, le-ltb, stands-true)
 
 none_cut : (m : Net) → IsOrientedManifold m → cut_count m ≡ 0
 unfolding is_cut cut_count
@@ -80,11 +67,7 @@ module _ (m : Mesh) (corners : All (AreVerticesBelow (length m.points)) m.faces)
       ]
 
   own_face : (f : Corners) → AreVerticesBelow (length m.points) f → renamed p.names f ≡ f
-  own_face f are =
-      let a = own_name f.a are.a in
-      let b = own_name f.b are.b in
-      let c = own_name f.c are.c in
-      λ i. record { a = a i; b = b i; c = c i }
+  own_face f are = grind (arith, common_steps, own_name)
 
   own_faces : (fs : List Corners) → All (AreVerticesBelow (length m.points)) fs
       → joined_faces p.names fs ≡ fs

@@ -1,8 +1,8 @@
 -- Two meshes that are prepared of one input are the same, and so are the numbers of what was done.
-use Rattle.std.proofs.Common.{◌≡◌, ℕ, ◌<◌, inl, inr, sym, ap, ◌∙◌, subst, Bool, List, length, map}
+use Rattle.std.proofs.Common.{◌≡◌, ℕ, ◌<◌, inl, inr, sym, ap, ◌∙◌, subst, Bool, List, length, arith}
 use Rattle.std.specs.Prelude.{slice_index_or}
 use Rattle.std.proofs.lemmas.Bool.{cases_Bool, cases_order}
-use Rattle.std.proofs.lemmas.Grind.{same_number_lists}
+use Rattle.std.proofs.lemmas.Grind.{same_number_lists, common_steps}
 use Rattle.pm_base.specs.declared.mesh.Corners.{Corners}
 use Rattle.pm_base.specs.Place.{Place}
 use Rattle.pm_base.specs.Meshes.{Mesh}
@@ -17,7 +17,7 @@ use Rattle.pm_turn.proofs.OneChoice.{chosen_turns_are_one}
 use Rattle.pm_turn.proofs.ToldAlways.{turn_counts_are_one}
 use Rattle.obj_prepare.specs.declared.notes.Notes.{Notes}
 use Rattle.obj_prepare.specs.Named.{is_some_corner}
-use Rattle.obj_prepare.specs.Joining.{place_in_list, IsFirstAt, AreJoined, joined_faces}
+use Rattle.obj_prepare.specs.Joining.{IsFirstAt, AreJoined, joined_faces}
 use Rattle.obj_prepare.specs.Prepared.{staying, IsPrepared, joined_count, flat_count, double_count}
 use Rattle.obj_prepare.specs.Prepared.{split_count, gone_count, IsPreparedWith}
 use Rattle.obj_prepare.proofs.TurnedLaws.{turned_stand}
@@ -79,11 +79,7 @@ are_same places faces m n p q =
 
 pub prepared_are_one : (places : List Place) (faces : List Corners) (m n : Mesh)
     → IsPrepared places faces m → IsPrepared places faces n → m ≡ n
-prepared_are_one places faces m n p q =
-    let s = are_same places faces m n p q in
-    let points = p.stand ∙ ap (map (place_in_list places)) s.old ∙ sym q.stand in
-    let fs = s.faces_same in
-    λ i. record { points = points i; faces = fs i }
+prepared_are_one places faces m n p q = grind (arith, common_steps, are_same places faces m n p q)
 
 -- Each number is told by the same lists.
 pub notes_are_one : (places : List Place) (faces : List Corners) (m n : Mesh) (notes others : Notes)
@@ -94,9 +90,7 @@ notes_are_one places faces m n notes others (p, a) (q, b) =
     let flat = a.flat ∙ ap (λ names. flat_count names faces) s.names ∙ sym b.flat in
     let double = a.double ∙ ap (λ names. double_count names faces) s.names ∙ sym b.double in
     let told : AreTurnCounts (net_of (staying p.names faces)) places q.flags others.turns =
-    subst (λ (names : List ℕ). AreTurnCounts
-    (net_of (staying names faces)) places q.flags others.turns)
-    (sym s.names) b.turns in
+    grind (arith, common_steps) in
     let turns =
     turn_counts_are_one (net_of (staying p.names faces)) places p.flags notes.turns others.turns
     a.turns

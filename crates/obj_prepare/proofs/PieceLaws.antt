@@ -1,6 +1,7 @@
 -- Faces over joined vertices, those that stay, and those over split vertices.
-use Rattle.std.proofs.Common.{◌≡◌, ◌≢◌, ℕ, zero, suc, ◌+◌, ◌*◌, ◌/◌, ◌%◌, ◌<◌, ◌≤◌, true, ◌==◌}
-use Rattle.std.proofs.Common.{◌||◌, List, [], ◌∷◌, ◌++◌, length, refl, sym, ◌∙◌, ap, subst, inl}
+use Rattle.std.proofs.Common.{◌≡◌, ◌≢◌, ℕ, zero, suc, ◌+◌, ◌*◌, ◌/◌, ◌%◌, ◌<◌, ◌≤◌, true}
+use Rattle.std.proofs.lemmas.Grind.{common_steps}
+use Rattle.std.proofs.Common.{List, [], ◌∷◌, ◌++◌, length, sym, ◌∙◌, ap, subst, inl}
 use Rattle.std.proofs.Common.{inr, arith}
 use Rattle.std.specs.Prelude.{slice_index_or}
 use Rattle.std.specs.List.{All}
@@ -26,15 +27,7 @@ use Rattle.obj_prepare.specs.Joining.{AreJoined, renamed, joined_faces}
 -- A vertex that a face names is one of the vertices.
 
 corner_low : (n : ℕ) (f : Corners) (v : ℕ) → AreVerticesBelow n f → is_corner f v ≡ true → v < n
-corner_low n f v are is =
-    elim (or_cases (f.a == v || f.b == v) (f.c == v) is) [
-      | inl ab ↦
-          elim (or_cases (f.a == v) (f.b == v) ab) [
-            | inl a ↦ subst (λ k. k < n) (eqb-true _ _ a) are.a
-            | inr b ↦ subst (λ k. k < n) (eqb-true _ _ b) are.b
-          ]
-      | inr c ↦ subst (λ k. k < n) (eqb-true _ _ c) are.c
-    ]
+corner_low n f v are is = grind (arith, common_steps, eqb-true, or_cases)
 
 pub named_low : (n : ℕ) (fs : List Corners) (v : ℕ) → All (AreVerticesBelow n) fs
     → is_some_corner fs v ≡ true → v < n
@@ -53,18 +46,10 @@ pub record AreNamed (faces : List Corners) (f : Corners) : Type 0 where
   pub c : is_some_corner faces f.c ≡ true
 
 more_named : (g f : Corners) (fs : List Corners) → AreNamed fs f → AreNamed (g ∷ fs) f
-more_named g f fs are = record {
-  a = or_right (is_corner g f.a) (is_some_corner fs f.a) are.a;
-  b = or_right (is_corner g f.b) (is_some_corner fs f.b) are.b;
-  c = or_right (is_corner g f.c) (is_some_corner fs f.c) are.c;
-}
+more_named g f fs are = grind (arith, common_steps, or_right)
 
 first_named : (f : Corners) (fs : List Corners) → AreNamed (f ∷ fs) f
-first_named f fs = record {
-  a = or_left (is_corner f f.a) (is_some_corner fs f.a) (corner_a f f.a refl);
-  b = or_left (is_corner f f.b) (is_some_corner fs f.b) (corner_b f f.b refl);
-  c = or_left (is_corner f f.c) (is_some_corner fs f.c) (corner_c f f.c refl);
-}
+first_named f fs = grind (arith, common_steps, corner_a, corner_b, corner_c, or_left)
 
 pub corners_named : (fs : List Corners) (i : ℕ) → i < length fs → AreNamed fs (face_at fs i)
 corners_named [] i l = absurd (omega arith)
@@ -86,11 +71,8 @@ all_renamed : (places : List Place) (faces fs : List Corners) (names : List ℕ)
 all_renamed places faces [] names within are all = All-nil (AreVerticesBelow (length places))
 all_renamed places faces (f ∷ fs) names within are all =
     let here = All-head (AreNamed faces) f fs all in
-    let face : AreVerticesBelow (length places) (renamed names f) = record {
-      a = joined_low places faces names within are f.a here.a;
-      b = joined_low places faces names within are f.b here.b;
-      c = joined_low places faces names within are f.c here.c;
-    } in
+    let face : AreVerticesBelow (length places) (renamed names f) =
+    grind (arith, common_steps, joined_low) in
     All-cons (AreVerticesBelow (length places)) (renamed names f) (joined_faces names fs) face
     (all_renamed places faces fs names within are (All-tail (AreNamed faces) f fs all))
 
@@ -123,24 +105,15 @@ kept_after_length : (before fs : List Corners)
     → length (kept_after before fs) ≤ length before + length fs
 kept_after_length before [] = omega arith
 kept_after_length before (f ∷ fs) =
-    elim (cases_Bool (is_kept_after before f)) [
-      | inl t ↦ omega (
-        arith,
-        ap length
-            (cond-true (is_kept_after before f) (kept_after (before ++ f ∷ []) fs)
-            (kept_after before fs) t),
-        kept_after_length (before ++ f ∷ []) fs,
-        length-append before
-            (f ∷ []),
-      )
-      | inr n ↦ omega (
-        arith,
-        ap length
-            (cond-false (is_kept_after before f) (kept_after (before ++ f ∷ []) fs)
-            (kept_after before fs) n),
-        kept_after_length before fs,
-      )
-    ]
+    grind (
+      arith,
+      common_steps,
+      cond-false,
+      cond-true,
+      length-append,
+      kept_after_length (before ++ f ∷ []) fs,
+      kept_after_length before fs,
+    )
 
 pub kept_within : (n : ℕ) (fs : List Corners) → IsWithinMesh n fs → IsWithinMesh n (kept_of fs)
 unfolding kept_of
@@ -153,15 +126,7 @@ kept_within n fs within = record {
 -- What holds of all three corners holds of each.
 pub corner_in_has : (P : ℕ → Type 0) (f : Corners) (i : ℕ) → P f.a → P f.b → P f.c
     → P (corner_in f i)
-corner_in_has P f i a b c =
-    elim (cases_Bool (i == 0)) [
-      | inl is ↦ subst P (sym (cond-true (i == 0) f.a _ is)) a
-      | inr other ↦
-          subst P (sym (cond-false (i == 0) f.a _ other)) (elim (cases_Bool (i == 1)) [
-            | inl is ↦ subst P (sym (cond-true (i == 1) f.b f.c is)) b
-            | inr last ↦ subst P (sym (cond-false (i == 1) f.b f.c last)) c
-          ])
-    ]
+corner_in_has P f i a b c = grind (arith, common_steps, cond-false, cond-true)
 
 pub side_low : (n : ℕ) (fs : List Corners) → IsWithinMesh n fs → (e : ℕ)
     → e < side_count (net_of fs)

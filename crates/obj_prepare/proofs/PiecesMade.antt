@@ -1,5 +1,6 @@
 -- What is made of placed vertices and triangles is a well-formed oriented manifold.
 use Rattle.std.proofs.Common.{◌≡◌, ℕ, ◌<◌, ◌≤◌, Bool, List, length, map, refl, sym, ◌∙◌, ap, subst}
+use Rattle.std.proofs.lemmas.Grind.{common_steps}
 use Rattle.std.proofs.Common.{arith}
 use Rattle.std.specs.List.{All}
 use Rattle.std.proofs.lemmas.List.{length-map}
@@ -11,7 +12,7 @@ use Rattle.pm_base.specs.Fans.{IsOrientedManifold}
 use Rattle.pm_fans.specs.Splits.{IsCuttable}
 use Rattle.pm_turn.specs.declared.counts.TurnCounts.{TurnCounts}
 use Rattle.pm_turn.specs.Turning.{turned_by}
-use Rattle.pm_turn.specs.Choice.{ArePlaced, AreChosenTurns}
+use Rattle.pm_turn.specs.Choice.{ArePlaced}
 use Rattle.pm_turn.specs.Told.{AreTurnCounts}
 use Rattle.pm_turn.proofs.TurnedFaces.{turned_faces_stay, turned_faces_become_manifolds}
 use Rattle.pm_fans.specs.Orders.{IsSplitMesh}
@@ -34,9 +35,7 @@ pub joined_cuttable : (places : List Place) (faces : List Corners) (names again 
     → renamed_again ≡ renamed → stay ≡ kept_of renamed_again → IsCuttable (net_of stay)
 joined_cuttable places faces names again renamed renamed_again stay within are same is same_faces
     kept =
-    rw (kept, same_faces, is, same)
-    (kept_cuttable kept_are_fit (length places) (joined_faces names faces)
-    (renamed_within places faces names within are))
+    grind (arith, common_steps, kept_are_fit, kept_cuttable, renamed_within)
 
 -- Their vertices have places.
 pub joined_placed : (places : List Place) (faces : List Corners) (names again : List ℕ)
@@ -44,12 +43,9 @@ pub joined_placed : (places : List Place) (faces : List Corners) (names again : 
     → IsWithinMesh (length places) faces → AreJoined places faces names → again ≡ names
     → renamed ≡ joined_faces again faces → renamed_again ≡ renamed → stay ≡ kept_of renamed_again
     → ArePlaced (net_of stay) places
-joined_placed places faces names again renamed renamed_again stay within are same is same_faces kept
-    =
-    let low = kept_within (length places) (joined_faces names faces)
-    (renamed_within places faces names within are) in
-    rw (kept, same_faces, is, same)
-    (λ e l. side_low (length places) (kept_of (joined_faces names faces)) low e l)
+joined_placed places faces names again renamed renamed_again stay within are same is same_faces
+    kept =
+    grind (arith, common_steps, kept_within, renamed_within, side_low)
 
 -- Turned faces that stay can be cut.
 turned_cuttable : (n : ℕ) (flags : List Bool) (fs : List Corners) → IsWithinMesh n fs
@@ -67,9 +63,7 @@ pub joined_turned_cuttable : (places : List Place) (faces : List Corners) (names
     → IsCuttable (net_of turned)
 joined_turned_cuttable places faces names again renamed renamed_again stay stay_again flags turned
     within are same is same_faces kept same_stay turned_is =
-    rw (turned_is, same_stay, kept, same_faces, is, same)
-    (turned_cuttable (length places) flags (joined_faces names faces)
-    (renamed_within places faces names within are))
+    grind (arith, common_steps, renamed_within, turned_cuttable)
 
 module _ {places : List Place} {faces : List Corners} {names : List ℕ} {renamed stay : List Corners}
     {flags : List Bool} {counts : TurnCounts} {turned split : List Corners} {old : List ℕ}
@@ -116,23 +110,12 @@ module _ {places : List Place} {faces : List Corners} {names : List ℕ} {rename
       → points ≡ map (place_in_list places) old → fs ≡ split → length old ≤ 1048576
       → IsWellFormed (record { points = points; faces = fs })
   pieces_formed points fs is same few =
-      rw same (split_formed (net_of turned) split old points pieces_cuttable.short
-      pieces_cuttable.stand pieces.split_is
-      (ap length is ∙ length-map old (place_in_list places)) few)
+      grind (arith, common_steps, length-map, pieces_cuttable, split_formed)
 
   -- A mesh over these faces was prepared.
   prepared_of : (points : List Place) (fs : List Corners) → points ≡ map (place_in_list places) old
       → fs ≡ split → IsPrepared places faces (record { points = points; faces = fs })
-  prepared_of points fs is same = record {
-    names = names;
-    joined = pieces.joined;
-    flags = flags;
-    turns = subst (λ (gs : List Corners). AreChosenTurns (net_of gs) places flags)
-        pieces.stay_is pieces.turns;
-    old = old;
-    split = rw same split_here;
-    stand = is;
-  }
+  prepared_of points fs is same = grind (arith, common_steps, split_here)
 
   pub pieces_made : (points : List Place) (fs : List Corners) (notes : Notes)
       → points ≡ map (place_in_list places) old → fs ≡ split

@@ -1,5 +1,6 @@
 -- The points whose flag is set, one after the other, and their places.
-use Rattle.std.proofs.Common.{◌≡◌, ℕ, zero, suc, ◌+◌, ◌<◌, ◌≤◌, Bool, true, false, ◌&&◌, inl, inr}
+use Rattle.std.proofs.Common.{◌≡◌, ℕ, zero, suc, ◌+◌, ◌<◌, ◌≤◌, Bool, true, false, inl, inr}
+use Rattle.std.proofs.lemmas.Grind.{common_steps}
 use Rattle.std.proofs.Common.{refl, sym, ap, ◌∙◌, subst, Option, Some, None, List, [], ◌∷◌, ◌++◌}
 use Rattle.std.proofs.Common.{length, get_or, drop, arith}
 use Rattle.std.specs.List.{All, list_all}
@@ -118,27 +119,17 @@ module _ (flags : List Bool) (ps : List Place) (i : ℕ) (p : Place) (same : len
   pub stand_on : (r : Bool) → get_or flags i false ≡ true → stands_on_grid p ≡ true
       → list_all stands_on_grid (chosen (drop i flags) (drop i ps)) ≡ r
       → list_all stands_on_grid (chosen (drop (i + 1) flags) (drop (i + 1) ps)) ≡ r
-  stand_on r is good left =
-      sym (flag_is (λ bs qs. list_all stands_on_grid (chosen bs qs)) true is
-      ∙ ap (λ b. b && list_all stands_on_grid (chosen (drop (i + 1) flags) (drop (i + 1) ps)))
-      good) ∙ left
+  stand_on r is good left = grind (arith, common_steps, flag_is)
 
   pub stand_fails : (r : Bool) → get_or flags i false ≡ true → stands_on_grid p ≡ false
       → list_all stands_on_grid (chosen (drop i flags) (drop i ps)) ≡ r → false ≡ r
-  stand_fails r is bad left =
-      sym (flag_is (λ bs qs. list_all stands_on_grid (chosen bs qs)) true is
-      ∙ ap (λ b. b && list_all stands_on_grid (chosen (drop (i + 1) flags) (drop (i + 1) ps)))
-      bad) ∙ left
+  stand_fails r is bad left = grind (arith, common_steps, flag_is)
 
   pub place_on : (fit : Fit) (before more r : List Place) → get_or flags i false ≡ true
       → more ≡ before ++ placed fit p ∷ []
       → before ++ places_by fit (drop i flags) (drop i ps) ≡ r
       → more ++ places_by fit (drop (i + 1) flags) (drop (i + 1) ps) ≡ r
-  place_on fit before more r is push left =
-      ap (λ xs. xs ++ places_by fit (drop (i + 1) flags) (drop (i + 1) ps)) push
-      ∙ append_assoc before (placed fit p ∷ [])
-      (places_by fit (drop (i + 1) flags) (drop (i + 1) ps))
-      ∙ sym (ap (λ xs. before ++ xs) (flag_is (places_by fit) true is)) ∙ left
+  place_on fit before more r is push left = grind (arith, common_steps, append_assoc, flag_is)
 
 -- The same where the flag isn't set, whatever the point.
 module _ (flags : List Bool) (ps : List Place) (i : ℕ) (same : length flags ≡ length ps)

@@ -1,6 +1,7 @@
 -- Where a mesh is made of itself no triangle goes, and as many vertices are split off as were
 -- joined.
-use Rattle.std.proofs.Common.{◌≡◌, ℕ, ◌+◌, ◌/◌, ◌%◌, ◌<◌, true, not, ◌&&◌, ◌||◌, ◌==◌, inl, inr}
+use Rattle.std.proofs.Common.{◌≡◌, ℕ, ◌+◌, ◌/◌, ◌<◌, true, not, ◌&&◌, ◌||◌, ◌==◌, inl, inr}
+use Rattle.std.proofs.lemmas.Grind.{common_steps}
 use Rattle.std.proofs.Common.{refl, sym, ap, ◌∙◌, subst, List, [], ◌∷◌, ◌++◌, length, get_or, arith}
 use Rattle.std.proofs.Common.{length-append, append_assoc}
 use Rattle.std.specs.List.{All}
@@ -15,7 +16,7 @@ use Rattle.pm_base.specs.Sides.{net_of}
 use Rattle.pm_base.specs.Fans.{IsUsed}
 use Rattle.pm_base.specs.Counts.{count}
 use Rattle.pm_base.proofs.Counts.{count_same}
-use Rattle.pm_fans.specs.Kept.{is_corner, is_kept_after, kept_after, kept_of}
+use Rattle.pm_fans.specs.Kept.{is_corner, kept_after, kept_of}
 use Rattle.pm_fans.proofs.CutLaws.{count_none}
 use Rattle.obj_prepare.specs.Named.{is_some_corner, AreVerticesBelow}
 use Rattle.obj_prepare.specs.Joining.{place_in_list, renamed, joined_faces}
@@ -31,29 +32,23 @@ use Rattle.obj_prepare.proofs.PieceLaws.{corners_named, corner_in_has}
 pub used_named : (faces : List Corners) (v : ℕ) → IsUsed (net_of faces) v
     → is_some_corner faces v ≡ true
 used_named faces v (e, t, at) =
-    let side = t.is_side in
-    let are = corners_named faces (e / 3) (omega arith) in
-    subst (λ i. is_some_corner faces i ≡ true) at
-    (corner_in_has (λ i. is_some_corner faces i ≡ true) (face_at faces (e / 3)) (e % 3) are.a
-    are.b are.c)
+    grind (arith, common_steps, corner_in_has, corners_named faces (e / 3), face_at faces (e / 3))
 
 -- Where as many stay, all do.
 all_kept : (before fs : List Corners) → length (kept_after before fs) ≡ length before + length fs
     → kept_after before fs ≡ before ++ fs
 all_kept before [] as_many = sym (append-nil before)
 all_kept before (f ∷ fs) as_many =
-    let long = length-append before (f ∷ []) in
-    elim (cases_Bool (is_kept_after before f)) [
-      | inl k ↦
-          let a = cond-true (is_kept_after before f) (kept_after (before ++ f ∷ []) fs)
-          (kept_after before fs) k in
-          a ∙ all_kept (before ++ f ∷ []) fs (omega (arith, ap length a, long, as_many))
-          ∙ append_assoc before (f ∷ []) fs
-      | inr n ↦
-          let a = ap length (cond-false (is_kept_after before f) (kept_after (before ++ f ∷ []) fs)
-          (kept_after before fs) n) in
-          absurd (omega (arith, a, as_many, kept_and_flat before fs))
-    ]
+    grind (
+      arith,
+      common_steps,
+      append_assoc,
+      cond-false,
+      cond-true,
+      kept_and_flat,
+      length-append,
+      all_kept (before ++ f ∷ []) fs,
+    )
 
 -- The vertices of joined faces are those that stand for others.
 module _ (names : List ℕ) where
@@ -81,12 +76,7 @@ module _ (names : List ℕ) where
       → is_some_corner (joined_faces names fs) (name v) ≡ true
   joined_named [] v is = absurd (false≢true is)
   joined_named (f ∷ fs) v is =
-      elim (or_cases (is_corner f v) (is_some_corner fs v) is) [
-        | inl c ↦ or_left (is_corner (renamed names f) (name v))
-            (is_some_corner (joined_faces names fs) (name v)) (corner_joined f v c)
-        | inr more ↦ or_right (is_corner (renamed names f) (name v))
-            (is_some_corner (joined_faces names fs) (name v)) (joined_named fs v more)
-      ]
+      grind (arith, common_steps, corner_joined, or_cases, or_left, or_right, joined_named fs v)
 
   -- A vertex below n for which this one stands.
   abbrev StandsFor : ℕ → ℕ → Type 0
@@ -148,16 +138,15 @@ module _ (m : Mesh) (used : (v : ℕ) → v < length m.points → IsUsed (net_of
   pub none_gone : gone_count p.names m.faces ≡ 0
   unfolding gone_count
   none_gone =
-      count_none _ (length p.names) (λ v l t.
-      let low : v < length m.points = omega (arith, l, p.joined.all) in
-      let parts = and_parts (is_some_corner m.faces v && (name p.names v == v))
-      (not (is_some_corner (staying p.names m.faces) v)) t in
-      let own = and_parts (is_some_corner m.faces v) (name p.names v == v) parts.0 in
-      let there : is_some_corner (staying p.names m.faces) v ≡ true =
-      ap (λ (fs : List Corners). is_some_corner fs v) all_stay
-      ∙ subst (λ u. is_some_corner joined u ≡ true) (eqb-true _ _ own.1)
-      (joined_named p.names m.faces v own.0) in
-      true≢false (sym parts.1 ∙ ap not there))
+      grind (
+        arith,
+        common_steps,
+        all_stay,
+        and_parts,
+        count_none,
+        eqb-true,
+        joined_named p.names m.faces,
+      )
 
   -- One that stands for another stands for itself.
   own_name : (v w : ℕ) → v < length m.points → w < length m.points → name p.names w ≡ v

@@ -1,7 +1,8 @@
 -- Laws of digits that are cut, and of zeros after them.
 use Rattle.std.proofs.Common.{◌≡◌, ℕ, zero, suc, ◌+◌, ◌-◌, ◌*◌, ◌^◌, ◌<◌, ◌≤◌, min, Bool, true}
-use Rattle.std.proofs.Common.{false, nat_le, nat_lt, List, [], ◌∷◌, ◌++◌, length, take, drop}
-use Rattle.std.proofs.Common.{get_or, refl, sym, ◌∙◌, ap, subst, arith, if◌then◌else◌}
+use Rattle.std.proofs.lemmas.Grind.{common_steps}
+use Rattle.std.proofs.Common.{false, nat_le, nat_lt, List, [], ◌∷◌, length, take, drop}
+use Rattle.std.proofs.Common.{get_or, refl, ◌∙◌, ap, subst, arith, if◌then◌else◌}
 use Rattle.std.proofs.Math.Nat.{pow-suc, one-le-pow, mul-le-mul_right, mul-le-mul_left}
 use Rattle.std.proofs.Math.Seq.{drop-cons}
 use Rattle.std.proofs.lemmas.Bool.{and_parts, leb-true, leb-false, ltb-true, ltb-false}
@@ -20,10 +21,7 @@ zeros_cases most n q true lt l =
     let first : most * 1 ≤ most * q = mul-le-mul_left most l in
     let second : most * q ≤ n * q = mul-le-mul_right q (omega (arith, past)) in
     rw same (omega (arith, first, second))
-zeros_cases most n q false le l =
-    let within : n ≤ most = ltb-false _ _ le in
-    let same : min n most ≡ n = omega (arith, within) in
-    rw same refl
+zeros_cases most n q false le l = grind (arith, common_steps, ltb-false)
 
 pub zeros_cut : (most n q : ℕ) → 1 ≤ q → min (min n most * q) most ≡ min (n * q) most
 zeros_cut most n q l = zeros_cases most n q (nat_lt most n) refl l
@@ -71,23 +69,16 @@ cut_value : (k : ℕ) (ds : List ℕ) → k < length ds
     ≡ value 0 (take k ds) * (10 ^ (length ds - suc k) * 10) + ((get_or ds k 48 - 48) * 10 ^
     (length ds - suc k) + value 0 (drop (suc k) ds))
 cut_value k ds lt =
-    let h = value 0 (take k ds) in
-    let all : value 0 (take k ds ++ drop k ds) ≡ value 0 ds =
-    ap (value 0) (take-append-drop k ds) in
-    let cut = value_append 0 (take k ds) (drop k ds) in
-    let cons : value (value 0 (take k ds)) (drop k ds)
-    ≡ value (10 * value 0 (take k ds) + (get_or ds k 48 - 48)) (drop (suc k) ds) =
-    ap (value (value 0 (take k ds))) (drop-cons ds k 48 lt) in
-    let after = value_after (10 * value 0 (take k ds) + (get_or ds k 48 - 48)) (drop (suc k) ds) in
-    let len : length (drop (suc k) ds) ≡ length ds - suc k = length-drop (suc k) ds in
-    let spread : (10 * value 0 (take k ds) + (get_or ds k 48 - 48)) * 10 ^
-    (length ds - suc k) + value 0 (drop (suc k) ds)
-    ≡ value 0 (take k ds) * (10 ^ (length ds - suc k) * 10) + ((get_or ds k 48 - 48) * 10 ^
-    (length ds - suc k) + value 0 (drop (suc k) ds)) = grind arith in
-    sym all ∙ cut ∙ cons
-    ∙ subst (λ (l : ℕ). value (10 * value 0 (take k ds) + (get_or ds k 48 - 48))
-    (drop (suc k) ds) ≡ (10 * value 0 (take k ds) + (get_or ds k 48 - 48)) * 10 ^ l + value 0
-    (drop (suc k) ds)) len after ∙ spread
+    grind (
+      arith,
+      common_steps,
+      drop-cons ds k 48 lt,
+      get_or ds k 48,
+      length-drop (suc k) ds,
+      take-append-drop k ds,
+      value_after (10 * value 0 (take k ds) + (get_or ds k 48 - 48)) (drop (suc k) ds),
+      value_append 0 (take k ds) (drop k ds),
+    )
 
 -- The digit at a cut alone decides how the number before it is rounded.
 cut_nearest : (k : ℕ) (ds : List ℕ) (t : Bool) → are_digits ds ≡ true → k < length ds
@@ -131,15 +122,9 @@ shifted_cases ds kept up down t true all so is lt =
     let one : value 0 (take kept ds) * 10 ^ 0 ≡ value 0 (take kept ds) = omega arith in
     rw (none, places, pow-suc 10 (length ds - suc kept), one) (cut_nearest kept ds t all k is)
 shifted_cases ds kept up down true false all so is lt =
-    let l : down ≤ up = ltb-false _ _ lt in
-    let past = get_past kept ds (omega (arith, so, l)) in
-    let least : 53 ≤ get_or ds kept 48 = leb-true _ _ is in
-    absurd (omega (arith, past, least))
+    grind (arith, common_steps, get_or, get_past, leb-true, ltb-false)
 shifted_cases ds kept up down false false all so is lt =
-    let l : down ≤ up = ltb-false _ _ lt in
-    let whole : take kept ds ≡ ds = take_all kept ds (omega (arith, so, l)) in
-    let places : up - down ≡ kept - length ds = omega (arith, so, l) in
-    rw (whole, places) refl
+    grind (arith, common_steps, ltb-false, take_all)
 
 pub shifted_is : (ds : List ℕ) (kept up down : ℕ) (t : Bool) → are_digits ds ≡ true
     → kept + down ≡ length ds + up → nat_le 53 (get_or ds kept 48) ≡ t

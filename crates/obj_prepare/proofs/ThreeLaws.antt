@@ -1,5 +1,6 @@
 -- Faces that name three vertices.
-use Rattle.std.proofs.Common.{◌≡◌, ℕ, ◌≤◌, not, inl, inr, sym, ap, ◌∙◌, refl, List, [], ◌∷◌, length}
+use Rattle.std.proofs.Common.{◌≡◌, ℕ, ◌≤◌, not, inl, inr, ap, refl, List, [], ◌∷◌, length}
+use Rattle.std.proofs.lemmas.Grind.{common_steps}
 use Rattle.std.proofs.Common.{arith}
 use Rattle.std.specs.List.{All, filter}
 use Rattle.std.proofs.lemmas.Bool.{cases_Bool, cond-true, cond-false, ne_eqb}
@@ -16,19 +17,7 @@ use Rattle.obj_prepare.proofs.KeptCounts.{kept_and_flat}
 
 pub three_few : (fs : List Corners) → length (of_three fs) ≤ length fs
 three_few [] = omega arith
-three_few (f ∷ fs) =
-    elim (cases_Bool (not (is_flat f))) [
-      | inl t ↦ omega (
-        arith,
-        ap length (cond-true (not (is_flat f)) (f ∷ of_three fs) (of_three fs) t),
-        three_few fs,
-      )
-      | inr n ↦ omega (
-        arith,
-        ap length (cond-false (not (is_flat f)) (f ∷ of_three fs) (of_three fs) n),
-        three_few fs,
-      )
-    ]
+three_few (f ∷ fs) = grind (arith, common_steps, cond-false, cond-true, three_few fs)
 
 pub three_all : (P : Corners → Type 0) (fs : List Corners) → All P fs → All P (of_three fs)
 three_all P [] all = All-nil P
@@ -40,31 +29,14 @@ three_all P (f ∷ fs) all =
     ]
 
 pub three_within : (n : ℕ) (fs : List Corners) → IsWithinMesh n fs → IsWithinMesh n (of_three fs)
-three_within n fs within = record {
-  vertices_few = within.vertices_few;
-  faces_few = omega (arith, three_few fs, within.faces_few);
-  corners = three_all (AreVerticesBelow n) fs within.corners;
-}
+three_within n fs within =
+    grind (arith, common_steps, three_all (AreVerticesBelow n) fs within.corners, three_few fs)
 
 -- Where no face names a vertex twice these are all.
 
 none_twice : (fs : List Corners) → length (filter is_flat fs) ≡ 0 → of_three fs ≡ fs
 none_twice [] none = refl
-none_twice (f ∷ fs) none =
-    elim (cases_Bool (is_flat f)) [
-      | inl t ↦ absurd
-          (omega (
-            arith,
-            none,
-            ap length (cond-true (is_flat f) (f ∷ filter is_flat fs) (filter is_flat fs) t),
-          ))
-      | inr n ↦
-          let rest = none_twice fs
-          (ap length
-          (sym (cond-false (is_flat f) (f ∷ filter is_flat fs) (filter is_flat fs) n))
-          ∙ none) in
-          rw n (ap (λ (l : List Corners). f ∷ l) rest)
-    ]
+none_twice (f ∷ fs) none = grind (arith, common_steps, cond-false, cond-true, none_twice fs)
 
 pub three_of_manifold : (fs : List Corners) → AllStand (net_of fs)
     → IsOrientedManifold (net_of fs) → of_three fs ≡ fs

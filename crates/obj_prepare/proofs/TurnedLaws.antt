@@ -1,6 +1,7 @@
 -- Turned faces: their corners, other numbers of these, and that none was turned where all are as
 -- they were.
 use Rattle.std.proofs.Common.{◌≡◌, ℕ, ◌+◌, ◌*◌, ◌==◌, Bool, true, false, ◌||◌, refl, sym, ap, ◌∙◌}
+use Rattle.std.proofs.lemmas.Grind.{common_steps}
 use Rattle.std.proofs.Common.{subst, List, [], ◌∷◌, length, map, arith}
 use Rattle.std.specs.List.{All}
 use Rattle.std.proofs.lemmas.List.Elements.{All-nil, All-cons, All-head, All-tail}
@@ -52,12 +53,8 @@ turned_all P turn (false ∷ flags) (f ∷ fs) all =
 
 pub turned_within : (n : ℕ) (flags : List Bool) (fs : List Corners) → IsWithinMesh n fs
     → IsWithinMesh n (turned_by flags fs)
-turned_within n flags fs within = record {
-  vertices_few = within.vertices_few;
-  faces_few = omega (arith, turned_length flags fs, within.faces_few);
-  corners = turned_all (AreVerticesBelow n) (λ f is. record { a = is.a; b = is.c; c = is.b }) flags
-      fs within.corners;
-}
+turned_within n flags fs within =
+    grind (arith, common_steps, turned_all (AreVerticesBelow n), turned_length flags fs)
 
 -- Each turned face that stays has three different corners.
 pub turned_stand : (flags : List Bool) (fs : List Corners)

@@ -1,5 +1,6 @@
 -- Laws of numbers in units.
 use Rattle.std.proofs.Common.{◌≡◌, ℕ, zero, suc, ◌+◌, ◌-◌, ◌*◌, ◌^◌, ◌<◌, ◌≤◌, min, true, false}
+use Rattle.std.proofs.lemmas.Grind.{common_steps}
 use Rattle.std.proofs.Common.{nat_lt, List, [], ◌∷◌, ◌++◌, length, take, get_or, refl, sym, ◌∙◌, ap}
 use Rattle.std.proofs.Common.{subst, arith}
 use Rattle.std.proofs.Math.Nat.{pow-suc, one-le-pow, pow-le-pow_right}
@@ -25,10 +26,7 @@ take_both : (xs ys : List ℕ) (n i j : ℕ) → i ≡ min (length xs) n → j �
     → take n (xs ++ ys) ≡ take i xs ++ take j ys
 take_both [] ys n i j is js = let z : i ≡ 0 =
     omega (arith, is) in rw z (take_least n j ys (omega (arith, js, z)))
-take_both (x ∷ xs) ys zero i j is js =
-    let z : i ≡ 0 = omega (arith, is) in
-    let y : j ≡ 0 = omega (arith, js) in
-    rw (z, y) refl
+take_both (x ∷ xs) ys zero i j is js = grind (arith, common_steps)
 take_both (x ∷ xs) ys (suc n) i j is js =
     let z : i ≡ suc (min (length xs) n) = omega (arith, is) in
     rw z (ap (λ (l : List ℕ). x ∷ l)
@@ -51,9 +49,7 @@ rounded_value xs ys kept i j first second third is js one two three =
     let whole : value 0 (take kept (xs ++ ys)) ≡ value (value 0 (take i xs)) (take j ys) =
     ap (value 0) (take_both xs ys kept i j is js) ∙ value_append 0 (take i xs) (take j ys) in
     let cut : second ≡ min (value 0 (take kept (xs ++ ys))) (10 ^ 32 + 1) =
-    two ∙ ap (λ (m : ℕ). min (value m (take j ys)) (10 ^ 32 + 1)) one
-    ∙ value_cut (value 0 (take i xs)) (10 ^ 32 + 1) (take j ys)
-    ∙ ap (λ (m : ℕ). min m (10 ^ 32 + 1)) (sym whole) in
+    grind (arith, common_steps, value_cut) in
     three ∙ ap (λ (m : ℕ). min (m * 10 ^ (kept - i - j)) (10 ^ 32 + 1)) cut
     ∙ zeros_cut (10 ^ 32 + 1) (value 0 (take kept (xs ++ ys))) (10 ^ (kept - i - j))
     (one-le-pow (kept - i - j) 10 (omega arith))

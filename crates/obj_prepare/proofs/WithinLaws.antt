@@ -1,5 +1,6 @@
 -- Places lead back to within half a step, rounded up.
-use Rattle.std.proofs.Common.{ℕ, ◌+◌, ◌-◌, ◌*◌, ◌/◌, ◌%◌, ◌<◌, ◌≤◌, arith}
+use Rattle.std.proofs.Common.{ℕ, ◌+◌, ◌-◌, ◌*◌, ◌/◌, ◌<◌, ◌≤◌, arith}
+use Rattle.std.proofs.lemmas.Grind.{common_steps}
 use Rattle.std.proofs.Math.Nat.{div-add-mod, mod-lt}
 use Rattle.pm_base.specs.Place.{Place}
 use Rattle.obj_prepare.specs.declared.placing.Fit.{Fit}
@@ -11,10 +12,7 @@ use Rattle.obj_prepare.proofs.BackLaws.{places_lead_back}
 
 -- An extent is no more than so many times its part, rounded up.
 rounded_up : (extent parts : ℕ) → 0 < parts → extent ≤ parts * ((extent + parts - 1) / parts)
-rounded_up extent parts some =
-    let n : ℕ = extent + parts - 1 in
-    let left : n % parts < parts = mod-lt n some in
-    omega (arith, div-add-mod n parts, left, some)
+rounded_up extent parts some = grind (arith, common_steps, div-add-mod, mod-lt)
 
 half_within : (far steps extent d : ℕ) → 2 * far ≤ 10 * extent → extent ≤ 2 * steps * d
     → far ≤ 10 * steps * d
@@ -22,13 +20,7 @@ half_within far steps extent d near most = omega (arith, near, most)
 
 near_within : (way : WayBack) (place p : Place) → LeadsNear way place p
     → LeadsWithin way (within_of way) place p
-near_within way place p near =
-    let most = rounded_up way.extent (2 * way.steps) (omega (arith, near.some)) in
-    record {
-      x = half_within _ way.steps way.extent (within_of way) near.x most;
-      y = half_within _ way.steps way.extent (within_of way) near.y most;
-      z = half_within _ way.steps way.extent (within_of way) near.z most;
-    }
+near_within way place p near = grind (arith, common_steps, half_within, rounded_up)
 
 back_within : (fit : Fit) (place p : Place) → LeadsBack fit place p → StandsWithin fit place p
 back_within fits.Standing place p stands = stands
