@@ -1,27 +1,25 @@
 -- Points that are brought onto the grid stand on it, and the box by which they are is no larger
 -- than they are.
-use Rattle.std.proofs.Common.{◌≡◌, ℕ, zero, suc, ◌*◌, ◌/◌, ◌%◌, ◌^◌, ◌<◌, ◌≤◌, Bool, true, false}
-use Rattle.std.proofs.Common.{◌&&◌, ◌==◌, nat_le, inl, inr, refl, sym, length, subst, Option, Some}
-use Rattle.std.proofs.Common.{None, List, [], ◌∷◌, map, get_or, ℤ, pos, arith}
+use Rattle.std.proofs.Common.{◌≡◌, ℕ, zero, suc, ◌<◌, ◌≤◌, Bool, true, false}
+use Rattle.std.proofs.lemmas.Grind.{common_steps}
+use Rattle.std.proofs.Common.{◌==◌, nat_le, refl, length, Option, Some}
+use Rattle.std.proofs.Common.{None, List, [], ◌∷◌, map, get_or, ℤ, arith}
 use Rattle.std.specs.Prelude.{unsigned_abs}
-use Rattle.std.specs.Int.Signed.{lt_z}
-use Rattle.std.specs.List.{All, list_all}
-use Rattle.std.proofs.lemmas.Bool.{cases_Bool, cond-true, cond-false, and_parts, leb-true}
+use Rattle.std.specs.List.{All}
+use Rattle.std.proofs.lemmas.Bool.{cond-true, cond-false, and_parts, leb-true}
 use Rattle.std.proofs.lemmas.Bool.Decides.{nat_tests}
 use Rattle.std.proofs.lemmas.Int.{clamps}
 use Rattle.std.proofs.lemmas.List.Elements.{All-nil, All-cons, All-head, All-tail, All-map}
-use borrow.Author.Differences.{ints}
 use Rattle.pm_base.specs.declared.mesh.Corners.{Corners}
 use Rattle.pm_base.specs.Place.{Place, IsPlace, origin}
 use Rattle.obj_read.proofs.DecimalLaws.{with_sign_abs}
 use Rattle.obj_prepare.specs.declared.extents.PointBox.{PointBox}
 use Rattle.obj_prepare.specs.declared.placing.Fit.{Fit}
 use Rattle.obj_prepare.specs.declared.placing.Fit.TheVariants as fits
-use Rattle.obj_prepare.specs.Numbers.{nearest}
 use Rattle.obj_prepare.specs.Exact.{lower, upper, AreExact}
-use Rattle.obj_prepare.specs.Boxes.{along, off_middle, least_of_places, greatest_of_places}
+use Rattle.obj_prepare.specs.Boxes.{along, least_of_places, greatest_of_places}
 use Rattle.obj_prepare.specs.Boxes.{box_of_points, IsInBox, extent, scaled}
-use Rattle.obj_prepare.specs.Whole.{is_whole_coordinate, whole_part_of, stands_on_grid}
+use Rattle.obj_prepare.specs.Whole.{is_whole_coordinate, whole_part_of}
 use Rattle.obj_prepare.specs.Named.{chosen, named_in}
 use Rattle.obj_prepare.specs.Placing.{fit_for, Suits, placed, places_by, fit_of, prepared_places_of}
 use Rattle.obj_prepare.specs.Placing.{IsSize}
@@ -34,42 +32,20 @@ along_within : (size extent : ℕ) (off : ℤ) → 0 < extent → unsigned_abs o
     → unsigned_abs (along size extent off) ≤ size
 unfolding along
 along_within size extent off some within =
-    omega (
-      arith,
-      with_sign_abs (lt_z off (pos 0)) (nearest (size * unsigned_abs off) extent),
-      nearest_within size extent (unsigned_abs off) some within,
-    )
+    grind (arith, common_steps, nearest_within, with_sign_abs)
 
 scaled_case : (size : ℕ) (b : PointBox) (p : Place) (flat : Bool) → (extent b == 0) ≡ flat
     → size ≤ 32767 → IsInBox b p → IsPlace (scaled size b p)
 unfolding scaled
 scaled_case size b p true is few inside = rw is (omega arith, omega arith, omega arith)
 scaled_case size b p false is few inside =
-    let e : ℕ = extent b in
-    let some : 0 < e = grind (arith, nat_tests, is) in
-    let (x, y, z) = extent_most b in
-    let in_x = along_within size e (off_middle p.x b.low.x b.high.x) some
-    (omega (arith, x, off_within p.x b.low.x b.high.x inside.low_x inside.high_x)) in
-    let in_y = along_within size e (off_middle p.y b.low.y b.high.y) some
-    (omega (arith, y, off_within p.y b.low.y b.high.y inside.low_y inside.high_y)) in
-    let in_z = along_within size e (off_middle p.z b.low.z b.high.z) some
-    (omega (arith, z, off_within p.z b.low.z b.high.z inside.low_z inside.high_z)) in
-    rw is (omega (arith, in_x, few), omega (arith, in_y, few), omega (arith, in_z, few))
+    grind (arith, common_steps, nat_tests, off_within, along_within size, extent_most b)
 
 whole_small : (n : ℤ) → is_whole_coordinate n ≡ true → unsigned_abs (whole_part_of n) ≤ 32767
-whole_small n is =
-    let k : ℕ = unsigned_abs n in
-    let few = leb-true k (32767 * 10 ^ 18)
-    (and_parts (k % 10 ^ 18 == 0) (nat_le k (32767 * 10 ^ 18)) is).1 in
-    omega (arith, few, with_sign_abs (lt_z n (pos 0)) (k / 1000000000000000000))
+whole_small n is = grind (arith, common_steps, and_parts, leb-true, nat_le, with_sign_abs)
 
 placed_on_grid : (fit : Fit) (p : Place) → Suits fit p → IsPlace (placed fit p)
-placed_on_grid fits.Standing p is =
-    let (xy, z) =
-    and_parts (is_whole_coordinate p.x && is_whole_coordinate p.y) (is_whole_coordinate p.z)
-    is in
-    let (x, y) = and_parts (is_whole_coordinate p.x) (is_whole_coordinate p.y) xy in
-    (whole_small p.x x, whole_small p.y y, whole_small p.z z)
+placed_on_grid fits.Standing p is = grind (arith, common_steps, and_parts, whole_small)
 placed_on_grid (fits.Scaled size b) p (few, inside) =
     scaled_case size b p (extent b == 0) refl few inside
 
@@ -109,18 +85,10 @@ taken_on_grid places old all =
 -- The box of points of which each is exact.
 
 lower_exact : (p q : Place) → AreExact p → AreExact q → AreExact (lower p q)
-lower_exact p q (a, b, c) (d, e, f) = (
-  omega (arith, ints, clamps, a, d),
-  omega (arith, ints, clamps, b, e),
-  omega (arith, ints, clamps, c, f),
-)
+lower_exact p q (a, b, c) (d, e, f) = grind (arith, common_steps, clamps)
 
 upper_exact : (p q : Place) → AreExact p → AreExact q → AreExact (upper p q)
-upper_exact p q (a, b, c) (d, e, f) = (
-  omega (arith, ints, clamps, a, d),
-  omega (arith, ints, clamps, b, e),
-  omega (arith, ints, clamps, c, f),
-)
+upper_exact p q (a, b, c) (d, e, f) = grind (arith, common_steps, clamps)
 
 least_exact : (p : Place) (ps : List Place) → AreExact p → All AreExact ps
     → AreExact (least_of_places p ps)
@@ -152,15 +120,7 @@ fit_measured : (size : Option ℕ) (ps : List Place) → IsSize size → All Are
     → IsMeasured (fit_for size ps)
 fit_measured size [] is all = tt
 fit_measured (Some n) (p ∷ ps) is all = boxed n p ps is.1 all
-fit_measured None (p ∷ ps) is all =
-    elim (cases_Bool (list_all stands_on_grid (p ∷ ps))) [
-      | inl t ↦ subst IsMeasured
-          (sym (cond-true (list_all stands_on_grid (p ∷ ps)) fits.Standing
-          (fits.Scaled 32767 (box_of_points p ps)) t)) tt
-      | inr f ↦ subst IsMeasured
-          (sym (cond-false (list_all stands_on_grid (p ∷ ps)) fits.Standing
-          (fits.Scaled 32767 (box_of_points p ps)) f)) (boxed 32767 p ps (omega arith) all)
-    ]
+fit_measured None (p ∷ ps) is all = grind (arith, common_steps, boxed, cond-false, cond-true)
 
 pub chosen_all : (P : Place → Type 0) (flags : List Bool) (ps : List Place) → All P ps
     → All P (chosen flags ps)

@@ -1,5 +1,6 @@
 -- What a text gives is what its mesh is made of.
 use Rattle.std.proofs.Common.{◌≡◌, ℕ, ◌<◌, ◌≤◌, List, ◌++◌, length, Option, Some, None, IfSome}
+use Rattle.std.proofs.lemmas.Grind.{common_steps}
 use Rattle.std.proofs.Common.{Result, Ok, Err, refl, sym, ◌∙◌, ap, subst, arith}
 use Rattle.std.specs.List.{All}
 use Rattle.pm_base.specs.declared.mesh.Corners.{Corners}
@@ -15,7 +16,6 @@ use Rattle.obj_scan.specs.Judged.{Scanned}
 use Rattle.obj_scan.specs.Meaning.{scan_meaning_of, IsWithinLimits}
 use Rattle.obj_scan.specs.Fails.{ScanFailsBefore}
 use Rattle.obj_prepare.specs.declared.notes.Notes.{Notes}
-use Rattle.obj_prepare.specs.declared.placing.Fit.{Fit}
 use Rattle.obj_prepare.specs.Prepared.{IsPreparedWith}
 use Rattle.obj_prepare.proofs.PlacingLaws.{length-places_of}
 use Rattle.obj_fit.specs.Texts.{head_line, notes_text}
@@ -25,7 +25,7 @@ use Rattle.obj_fit.specs.declared.fault.Fault.{Fault}
 use Rattle.obj_fit.specs.declared.fault.Fault.TheVariants as faults
 use Rattle.obj_fit.specs.declared.fault.InputFail.{InputFail}
 use Rattle.obj_fit.specs.declared.fault.InputFail.TheVariants as input
-use Rattle.obj_fit.specs.Outcome.{Done, MakesPrepared, cut_in, places_in, counts_of, warning_for}
+use Rattle.obj_fit.specs.Outcome.{Done, MakesPrepared, cut_in, counts_of, warning_for}
 use Rattle.obj_fit.specs.Outcome.{rounded_for, IsPreparedText, bad_line, too_many, no_face, made}
 use Rattle.obj_fit.specs.declared.laying.Laid.{Laid}
 use Rattle.obj_fit.specs.Making.{IsMakeFail, IsLaid}
@@ -34,11 +34,7 @@ use Rattle.obj_fit.specs.Fails.{HasPreparedFault, PlaceUnreached, StopsPreparing
 
 pub named_within : (s : Scanned) → IsWithinLimits s
     → IsNamedWithin (length s.points) (of_three s.faces)
-named_within s within = three_within (length s.points) s.faces (record {
-  vertices_few = within.points;
-  faces_few = within.faces;
-  corners = within.corners;
-})
+named_within s within = grind (arith, common_steps, three_within (length s.points) s.faces)
 
 pub lent_within : (s : Scanned) (points : List Place) (faces : List Corners) → IsWithinLimits s
     → points ≡ s.points → faces ≡ of_three s.faces → IsNamedWithin (length points) faces
@@ -74,9 +70,7 @@ pub laid_lent : (size : Option ℕ) (s : Scanned) (laid : Laid) (places : List P
     → places ≡ laid.placing.places.items → three ≡ laid.three.items
     → IsNamedWithin (length places) three
 laid_lent size s laid places three within is places_are three_are =
-    let n : length places
-    ≡ length s.points = ap length places_are ∙ laid_places size s laid is in
-    rw (n, three_are) (laid_three size s laid within is)
+    grind (arith, common_steps, laid_places, laid_three)
 
 pub laid_few : (size : Option ℕ) (s : Scanned) (laid : Laid) → IsWithinLimits s
     → IsLaid size s laid → length laid.cut.faces.items ≤ 1048576
@@ -95,23 +89,7 @@ pub makes_done : (size : Option ℕ) (s : Scanned) (laid : Laid) (places : List 
     → MakesPrepared size s (record { text = head ++ canonical_text 0 m; notes = said })
 makes_done size s laid places three m notes shown head said is places_are three_are prepared formed
     manifold shown_is some head_is said_is =
-    let Said : List Corners → ℕ → List Place → List Corners → List Corners → Fit → List ℕ =
-    λ cut n ps fs fans f. notes_text (counts_of s cut n m) notes
-    (rounded_for s.points ps fs notes.joined) f (warning_for f s.points fans notes.flat) in
-    record {
-      mesh = m;
-      notes = notes;
-      prepared = subst (λ fs. IsPreparedWith (places_in size s) fs m notes)
-          (three_are ∙ is.three)
-          (subst (λ ps. IsPreparedWith ps three m notes) (places_are ∙ is.places) prepared);
-      formed = formed;
-      manifold = manifold;
-      some = subst (λ (fs : List Corners). 0 < length fs) shown_is some;
-      text_is = ap (λ h. h ++ canonical_text 0 m) (head_is ∙ ap head_line is.fit);
-      notes_are = said_is
-          ∙ (λ i. Said (is.cut i) (is.overlapping i) (is.places i) (is.three i) (is.fans i)
-          (is.fit i));
-    }
+    grind (arith, common_steps)
 
 -- What follows where the source tells its bytes.
 module _ (size : Option ℕ) where

@@ -1,5 +1,6 @@
 -- What is said where nothing needs to be done.
-use Rattle.std.proofs.Common.{◌≡◌, ℕ, ◌<◌, false, ◌*◌, None, nat_le, refl, ap, ◌∙◌, List, [], ◌++◌}
+use Rattle.std.proofs.Common.{◌≡◌, ℕ, ◌<◌, false, ◌*◌, None, nat_le, refl, ◌∙◌, List, [], ◌++◌}
+use Rattle.std.proofs.lemmas.Grind.{common_steps}
 use Rattle.std.proofs.Common.{length, arith}
 use Rattle.std.specs.Prelude.{codes}
 use Rattle.std.proofs.lemmas.Bool.{eq-eqb}
@@ -24,10 +25,7 @@ four_ends line =
 pub no_account : (c : Counts) → c.vertices_in ≡ c.vertices_out → c.triangles_in ≡ c.triangles_out
     → account_line c ≡ []
 unfolding account_line
-no_account c vertices triangles = rw (
-  eq-eqb c.vertices_in c.vertices_out vertices,
-  eq-eqb c.triangles_in c.triangles_out triangles,
-) refl
+no_account c vertices triangles = grind (arith, common_steps, eq-eqb)
 
 -- Only polygons that were cut, weights, closed surfaces inside out and faces without area are told.
 pub nothing_said : (c : Counts) (rounded k : ℕ) (fit : Fit) → account_line c ≡ [] → c.twice ≡ 0
@@ -38,16 +36,7 @@ pub nothing_said : (c : Counts) (rounded k : ℕ) (fit : Fit) → account_line c
     ++ note_line (codes "faces without area") c.thin ++ last_note fit
 unfolding notes_text face_notes line_notes joined_line turn_notes vertex_notes note_line
     warning_line
-nothing_said c rounded k fit same none =
-    let line = note_line (codes "polygons cut") c.polygons
-    ++ note_line (codes "polygons whose triangles overlap") c.overlapping
-    ++ note_line (codes "weights passed over") c.weights in
-    let inward = note_line (codes "closed surfaces inside out") k in
-    let thin = note_line (codes "faces without area") c.thin in
-    let ends : List ℕ = line ++ [] ++ [] ++ [] ++ [] in
-    rw (same, none) (append-nil ((((ends ++ inward) ++ []) ++ thin) ++ last_note fit)
-    ∙ ap (λ (l : List ℕ). (l ++ thin) ++ last_note fit) (append-nil (ends ++ inward))
-    ∙ ap (λ (l : List ℕ). ((l ++ inward) ++ thin) ++ last_note fit) (four_ends line))
+nothing_said c rounded k fit same none = grind (arith, common_steps, append-nil, four_ends)
 
 -- Where no triangle became an edge nothing is warned of.
 pub no_warning : (fit : Fit) (points : List Place) (triangles : List Corners)

@@ -1,5 +1,6 @@
 -- The numerals of the first line spell their numbers.
 use Rattle.std.proofs.Common.{ℕ, suc, ◌*◌, ◌/◌, ◌^◌, ◌<◌, ◌≤◌, List, ◌∷◌, ◌++◌, ℤ, pos, negsuc}
+use Rattle.std.proofs.lemmas.Grind.{common_steps}
 use Rattle.std.proofs.Common.{neg_ℤ, refl, arith}
 use Rattle.std.specs.Prelude.{unsigned_abs, codes}
 use Rattle.std.specs.Fmt.{decimal}
@@ -20,11 +21,7 @@ use Rattle.obj_fit.proofs.HeadLaws.{extent_few}
 
 spells_plain : (d n : ℕ) (number : List ℕ) → IsNumberOf d number n → Spells d number (pos n)
 unfolding without_sign
-spells_plain d n number is = record {
-  form = rw is.plain is.form;
-  zeros = rw is.plain is.zeros;
-  worth = rw (is.plain, is.worth, not_negative number is.plain) refl;
-}
+spells_plain d n number is = grind (arith, common_steps, not_negative)
 
 spells_minus : (d n : ℕ) (number : List ℕ) → IsNumberOf d number n
     → Spells d (45 ∷ number) (neg_ℤ (pos n))

@@ -1,7 +1,7 @@
 -- What polygons that are cut anew leave as it was.
-use Rattle.std.proofs.Common.{◌≡◌, ℕ, ◌<◌, ◌==◌, Bool, true, false, not, List, [], ◌∷◌, length}
-use Rattle.std.proofs.Common.{Option, refl, sym, ap, ◌∙◌, subst, inl, inr, arith}
-use Rattle.std.specs.Prelude.{◌||◌}
+use Rattle.std.proofs.Common.{◌≡◌, ℕ, ◌<◌, Bool, true, false, not, List, [], ◌∷◌, length}
+use Rattle.std.proofs.lemmas.Grind.{common_steps}
+use Rattle.std.proofs.Common.{Option, refl, sym, ap, ◌∙◌, inl, inr, arith}
 use Rattle.std.specs.List.{All}
 use Rattle.std.proofs.lemmas.Bool.{cases_Bool, and_parts, cond-true, cond-false, eqb-true, or_cases}
 use Rattle.std.proofs.lemmas.Bool.{or_right, true≢false}
@@ -42,23 +42,12 @@ cut_below size s within =
 
 pub cut_within : (size : Option ℕ) (s : Scanned) → IsWithinLimits s
     → IsWithinMesh (length s.points) (cut_in size s)
-cut_within size s within = record {
-  vertices_few = within.points;
-  faces_few = omega (arith, cut_long size s within, within.faces);
-  corners = cut_below size s within;
-}
+cut_within size s within =
+    grind (arith, common_steps, cut_below size s within, cut_long size s within)
 
 -- Vertices that triangles of three vertices name then were named by such ones before.
 corner_has : (P : ℕ → Type 0) (f : Corners) (v : ℕ) → HasCorners P f → is_corner f v ≡ true → P v
-corner_has P f v has is =
-    elim (or_cases (f.a == v || f.b == v) (f.c == v) is) [
-      | inl ab ↦
-          elim (or_cases (f.a == v) (f.b == v) ab) [
-            | inl a ↦ subst P (eqb-true _ _ a) has.a
-            | inr b ↦ subst P (eqb-true _ _ b) has.b
-          ]
-      | inr c ↦ subst P (eqb-true _ _ c) has.c
-    ]
+corner_has P f v has is = grind (arith, common_steps, eqb-true, or_cases)
 
 -- Where each triangle of three vertices has corners of a kind, so has each vertex that they name.
 three_has : (P : ℕ → Type 0) (fs : List Corners)

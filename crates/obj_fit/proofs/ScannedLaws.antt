@@ -1,32 +1,29 @@
 -- What a text spells is within the limits, and each of its points is at most 10^32 units away from
 -- 0 on each axis.
-use Rattle.std.proofs.Common.{◌≡◌, ℕ, ◌+◌, ◌-◌, ◌^◌, ◌<◌, ◌≤◌, Bool, true, false, not, ◌==◌, ◌||◌}
+use Rattle.std.proofs.Common.{◌≡◌, ℕ, ◌+◌, ◌-◌, ◌^◌, ◌<◌, ◌≤◌, Bool, true, false, ◌==◌}
+use Rattle.std.proofs.lemmas.Grind.{common_steps}
 use Rattle.std.proofs.Common.{nat_lt, List, [], ◌∷◌, length, ℤ, Option, Some, None, Result, Ok, Err}
-use Rattle.std.proofs.Common.{IfOk, if◌then◌else◌, refl, subst, arith}
+use Rattle.std.proofs.Common.{IfOk, refl, subst, arith}
 use Rattle.std.specs.Prelude.{nat_le, unsigned_abs}
 use Rattle.std.specs.List.{All}
 use Rattle.std.proofs.lemmas.Bool.{ltb-false, or_parts}
 use Rattle.std.proofs.lemmas.Bool.Decides.{nat_tests}
 use Rattle.std.proofs.lemmas.List.Elements.{All-nil, All-cons, All-push}
-use Rattle.obj_lines.specs.Text.{until, lines, is_continued}
+use Rattle.obj_lines.specs.Text.{lines}
 use Rattle.obj_read.specs.declared.fault.ObjFault.{ObjFault}
 use Rattle.obj_read.specs.declared.fault.ObjFault.TheVariants as faults
 use Rattle.obj_read.specs.Fields.{fields}
-use Rattle.obj_read.specs.Coordinates.{with_sign, without_sign, is_negative}
 use Rattle.obj_read.specs.Indices.{index_text}
-use Rattle.obj_scan.specs.Forms.{line_content}
 use Rattle.obj_scan.specs.Refusals.{Refused}
 use Rattle.obj_read.proofs.FormedLaws.{Gives, given, then_gives, unless, either, index_within}
 use Rattle.obj_read.proofs.FormedLaws.{not_full}
 use Rattle.obj_read.proofs.DecimalLaws.{with_sign_abs}
 use Rattle.obj_prepare.specs.Exact.{AreExact}
-use Rattle.pm_ears.specs.Recutting.{IsPolygonWithin}
-use Rattle.obj_prepare.specs.Named.{AreVerticesBelow}
-use Rattle.obj_prepare.specs.Numbers.{units_of_text, exponent, is_decimal, decimal_coordinate}
+use Rattle.obj_prepare.specs.Numbers.{decimal_coordinate}
 use Rattle.obj_scan.specs.Judged.{Scanned, Found, nothing, vertex, polygon, scanned_vertex_line}
 use Rattle.obj_scan.specs.Judged.{indices, polygon_of, polygon_line, scanned_fields, scanned_line}
 use Rattle.obj_scan.specs.Judged.{has_weight, with_scanned}
-use Rattle.obj_scan.specs.Meaning.{ScannedSoFar, nothing_scanned, joined_text, and_continued}
+use Rattle.obj_scan.specs.Meaning.{ScannedSoFar, nothing_scanned, and_continued}
 use Rattle.obj_scan.specs.Meaning.{and_scanned_line, judged_length, then_found, line_judged}
 use Rattle.obj_scan.specs.Meaning.{then_scanned_lines, at_end, scan_meaning_from, scan_meaning_of}
 use Rattle.obj_scan.specs.Reading.{IsScanning}
@@ -38,20 +35,7 @@ IsExact z = unsigned_abs z ≤ 10 ^ 32
 coordinate_exact : (field : List ℕ) → Gives IsExact (decimal_coordinate field)
 unfolding decimal_coordinate
 coordinate_exact field =
-    let number = without_sign field in
-    let n = units_of_text number in
-    let z = with_sign (is_negative field) n in
-    let far = nat_lt 999 (exponent number) || nat_lt (10 ^ 32) n in
-    unless IsExact (not (is_decimal number)) faults.BadNumber (if far then Err faults.OutOfRange
-    else Ok z)
-    (λ digits_are. unless IsExact far faults.OutOfRange (Ok z)
-    (λ small. given IsExact z
-    (omega (
-      arith,
-      with_sign_abs (is_negative field) n,
-      ltb-false (10 ^ 32) n
-          (or_parts (nat_lt 999 (exponent number)) (nat_lt (10 ^ 32) n) small).1,
-    ))))
+    grind (arith, common_steps, given, ltb-false, nat_lt, or_parts, unless, with_sign_abs)
 
 -- After n vertices and k triangles there is room for what a line gives.
 Suits : ℕ → ℕ → Found → Type 0
@@ -82,10 +66,7 @@ indices_within n (field ∷ more) =
 polygon_suits : (n k : ℕ) (corners : List ℕ) → All (λ (c : ℕ). c < n) corners
     → Gives (Suits n k) (polygon_of k corners)
 unfolding Suits
-polygon_suits n k corners all =
-    unless (Suits n k) (nat_lt 1048576 (k + (length corners - 2))) faults.TooMany
-    (Ok (polygon corners))
-    (λ room. given (Suits n k) (polygon corners) (all, grind (arith, nat_tests, room)))
+polygon_suits n k corners all = grind (arith, common_steps, Suits, given, nat_lt, nat_tests, unless)
 
 face_suits : (n k : ℕ) (fs : List (List ℕ)) → Gives (Suits n k) (polygon_line n k fs)
 face_suits n k [] = record { so = tt }
@@ -116,11 +97,8 @@ with_found_sound : (s : Scanned) (f : Found) → IsSound s
     → Suits (length s.points) (length s.faces) f → IsSound (with_scanned s f)
 unfolding Suits
 with_found_sound s nothing sound suits = sound
-with_found_sound s (vertex p weighted) sound suits = record {
-  exact = All-push AreExact s.points p sound.exact suits.1;
-  scanning = vertex_scanning s (with_scanned s
-      (vertex p weighted)) p weighted sound.scanning suits.0 refl;
-}
+with_found_sound s (vertex p weighted) sound suits =
+    grind (arith, common_steps, All-push AreExact s.points p sound.exact suits.1, vertex_scanning s)
 with_found_sound s (polygon corners) sound suits = record {
   exact = sound.exact;
   scanning = polygon_scanning s (with_scanned s (polygon corners)) corners sound.scanning suits.0
@@ -140,12 +118,7 @@ then_found_sound (Err e) s line suits sound = record { so = tt }
 judged_sound : (s : ScannedSoFar) (line : List ℕ) → AfterSound s
     → Gives AfterSound (line_judged s line)
 unfolding line_judged and_continued
-judged_sound s line sound =
-    either AfterSound (is_continued (line_content s.number (until 10 line))) _ _
-    (given AfterSound (and_continued s line) sound)
-    (then_found_sound
-    (scanned_line (length s.scanned.points) (length s.scanned.faces) (joined_text s line)) s
-    line (line_suits _ _ (joined_text s line)) sound)
+judged_sound s line sound = grind (arith, common_steps, either, given, line_suits, then_found_sound)
 
 then_lines_sound : (r : Option Refused) (next : Result ScannedSoFar ObjFault) (s : ScannedSoFar)
     (line : List ℕ) (more : ScannedSoFar → Result Scanned Refused) → Gives AfterSound next
@@ -169,20 +142,7 @@ meaning_from_sound s (line ∷ more) sound =
     (λ t keeps. meaning_from_sound t more keeps)
 
 nothing_sound : IsSound (record { points = []; faces = []; polygons = []; weights = 0 })
-nothing_sound = record {
-  exact = All-nil AreExact;
-  scanning = record {
-    within = record {
-      points = omega arith;
-      faces = omega arith;
-      corners = All-nil
-          (AreVerticesBelow 0);
-      polygons = All-nil (IsPolygonWithin 0);
-      polygons_few = omega arith;
-    };
-    weights = omega arith;
-  };
-}
+nothing_sound = grind (arith, common_steps, All-nil)
 
 pub meaning_sound : (bytes : List ℕ) (s : Scanned) → scan_meaning_of bytes ≡ Ok s → IsSound s
 unfolding scan_meaning_of

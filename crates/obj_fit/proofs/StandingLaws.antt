@@ -1,6 +1,7 @@
 -- Places of the grid, spelled in units of 10^-18, stand on the grid as they are where faces use all
 -- of them.
-use Rattle.std.proofs.Common.{◌≡◌, ℕ, suc, ◌*◌, ◌/◌, ◌%◌, ◌^◌, ◌<◌, ◌≤◌, Bool, true, false, ◌==◌}
+use Rattle.std.proofs.Common.{◌≡◌, ℕ, suc, ◌*◌, ◌^◌, ◌<◌, ◌≤◌, Bool, true, false}
+use Rattle.std.proofs.lemmas.Grind.{common_steps}
 use Rattle.std.proofs.Common.{nat_le, refl, sym, ap, ◌∙◌, None, List, [], ◌∷◌, length, map, get_or}
 use Rattle.std.proofs.Common.{ℤ, pos, negsuc, arith}
 use Rattle.std.specs.Prelude.{unsigned_abs}
@@ -30,12 +31,7 @@ up_abs : (n : ℤ) → unsigned_abs (in_units n) ≡ 10 ^ 18 * unsigned_abs n
 up_abs n = omega (arith, ints)
 
 up_whole : (n : ℤ) → unsigned_abs n ≤ 32767 → is_whole_coordinate (in_units n) ≡ true
-up_whole n few =
-    let k : ℕ = unsigned_abs (in_units n) in
-    let is : k ≡ 10 ^ 18 * unsigned_abs n = up_abs n in
-    and_from (k % 10 ^ 18 == 0) (nat_le k (32767 * 10 ^ 18))
-    (eq-eqb (k % 10 ^ 18) 0 (omega (arith, is)))
-    (le-leb k (32767 * 10 ^ 18) (omega (arith, is, few)))
+up_whole n few = grind (arith, common_steps, and_from, eq-eqb, le-leb, nat_le, up_abs)
 
 sign_back : (n : ℤ) → with_sign (lt_z n (pos 0)) (unsigned_abs n) ≡ n
 sign_back (pos n) = rw (le-ltb n 0 (omega arith)) refl
@@ -45,12 +41,7 @@ up_sign : (n : ℤ) → lt_z (in_units n) (pos 0) ≡ lt_z n (pos 0)
 up_sign n = grind (arith, ints)
 
 up_back : (n : ℤ) → whole_part_of (in_units n) ≡ n
-up_back n =
-    let k : ℕ = unsigned_abs (in_units n) in
-    let is : k ≡ 10 ^ 18 * unsigned_abs n = up_abs n in
-    let same : k / 10 ^ 18 ≡ unsigned_abs n = omega (arith, is) in
-    ap (λ b. with_sign b (k / 10 ^ 18)) (up_sign n) ∙ ap (with_sign (lt_z n (pos 0))) same
-    ∙ sign_back n
+up_back n = grind (arith, common_steps, sign_back, up_abs, up_sign)
 
 place_stands : (p : Place) → IsPlace p → stands_on_grid (scaled_up p) ≡ true
 place_stands p (x, y, z) =

@@ -1,8 +1,8 @@
 -- A text that needs nothing comes back as it is.
-use Rattle.std.proofs.Common.{◌≡◌, ℕ, ◌-◌, ◌<◌, true, List, [], ◌∷◌, ◌++◌, length, map, Option}
+use Rattle.std.proofs.Common.{◌≡◌, ℕ, ◌-◌, ◌<◌, List, [], ◌∷◌, ◌++◌, length, map, Option}
+use Rattle.std.proofs.lemmas.Grind.{common_steps}
 use Rattle.std.proofs.Common.{None, Ok, refl, sym, ap, ◌∙◌, subst, arith}
 use Rattle.std.specs.List.{All}
-use Rattle.std.proofs.lemmas.Bool.{true≢false}
 use Rattle.std.proofs.lemmas.List.{length-map}
 use Rattle.pm_base.specs.Place.{Place, IsPlace}
 use Rattle.pm_base.specs.declared.mesh.Corners.{Corners}
@@ -20,7 +20,7 @@ use Rattle.obj_scan.specs.Laws.{scanned_mesh, with_weights, weights_in, scaled_u
 use Rattle.obj_scan.proofs.ReadLaws.{read_scanned}
 use Rattle.obj_prepare.specs.declared.placing.Fit.TheVariants as fits
 use Rattle.obj_scan.specs.Meaning.{IsWithinLimits}
-use Rattle.obj_prepare.specs.Named.{IsWithinMesh, is_some_corner, of_three}
+use Rattle.obj_prepare.specs.Named.{IsWithinMesh, of_three}
 use Rattle.obj_prepare.specs.Joining.{place_in_list, joined_faces}
 use Rattle.obj_prepare.specs.Placing.{fit_of, prepared_places_of}
 use Rattle.obj_prepare.specs.Prepared.{staying, IsPrepared, IsPreparedWith}
@@ -69,11 +69,7 @@ some_fans : (size : Option ℕ) (s : Scanned) (fans cut : List Corners) → fans
 some_fans size s (f ∷ fans) cut is are some = omega arith
 some_fans size s [] [] is are some = absurd (omega (arith, some))
 some_fans size s [] (f ∷ cut) is are some =
-    let named : is_some_corner (of_three (cut_in size s)) f.a ≡ true =
-    subst (λ (l : List Corners). is_some_corner l f.a ≡ true) are
-    (corners_named (f ∷ cut) 0 (omega arith)).a in
-    absurd (true≢false (sym (cut_named size s f.a named)
-    ∙ ap (λ (l : List Corners). is_some_corner l f.a) (sym is)))
+    grind (arith, common_steps, corners_named (f ∷ cut) 0, cut_named size s f.a)
 
 stays_made : (size : Option ℕ) (bytes : List ℕ) (s : Scanned) → scan_meaning_of bytes ≡ Ok s
     → NeedsNothing size s → (k : ℕ) × AreInsideOut (net_of (cut_in size s)) (places_in size s) k

@@ -1,5 +1,6 @@
 -- Laws of text that is put together.
 use Rattle.std.proofs.Common.{◌≡◌, ℕ, suc, ◌+◌, ◌-◌, ◌*◌, ◌/◌, ◌%◌, ◌^◌, ◌<◌, ◌≤◌, List, [], ◌∷◌}
+use Rattle.std.proofs.lemmas.Grind.{common_steps}
 use Rattle.std.proofs.Common.{◌++◌, append_assoc, sym, ◌∙◌, ap, arith}
 use Rattle.std.proofs.Math.Nat.{pow-suc, one-le-pow, div-le_self}
 use Rattle.std.proofs.lemmas.List.{append-nil}
@@ -12,10 +13,7 @@ pub power_some : (power : ℕ) → 0 < 10 ^ power
 power_some power = one-le-pow power 10 (omega arith)
 
 pub tenth_is : (power unit : ℕ) → unit ≡ 10 ^ (power + 1) → unit / 10 ≡ 10 ^ power
-tenth_is power unit is =
-    let k : power + 1 ≡ suc power = omega arith in
-    let tenfold : unit ≡ 10 ^ power * 10 = is ∙ ap (λ n. 10 ^ n) k ∙ pow-suc 10 power in
-    omega (arith, tenfold)
+tenth_is power unit is = grind (arith, common_steps, pow-suc)
 
 -- A number above 0 is one more than the number before it.
 pub whole_power : (left unit : ℕ) → 0 < left → unit ≡ 10 ^ left → unit ≡ 10 ^ (left - 1 + 1)
