@@ -1,20 +1,19 @@
 -- Where the numbers of a run's faces lie in its hierarchy, and that each is taken once.
-use Rattle.std.proofs.Common.{suc, ◌≡◌, ℕ, ◌+◌, ◌-◌, ◌*◌, ◌%◌, ◌<◌, ◌≤◌, eqb, true, false, cond}
+use Rattle.std.proofs.Common.{suc, ◌≡◌, ℕ, ◌+◌, ◌-◌, ◌*◌, ◌%◌, ◌<◌, ◌≤◌, true, false}
+use Rattle.std.proofs.lemmas.Grind.{common_steps}
 use Rattle.std.proofs.Common.{is_none, is_some, unwrap_or, Option, Some, None, length, get_or, inl}
 use Rattle.std.proofs.Common.{inr, sym, ap, ◌∙◌, arith}
-use Rattle.std.proofs.lemmas.Bool.{cases_eq, cases_order, cases_Bool, and_from, and_left, and_right}
+use Rattle.std.proofs.lemmas.Bool.{cases_Bool, and_from, and_left, and_right}
 use Rattle.std.proofs.lemmas.Bool.{eq-eqb, ne_eqb, cond-true, cond-false, false≢true}
 use Rattle.std.proofs.lemmas.Option.{none-some, same_Some}
 use Rattle.std.proofs.lemmas.List.{get_or-map}
 use Rattle.pm_base.proofs.Search.{option_cases}
 use Rattle.pm_base.specs.Counts.{one_if}
-use Rattle.pm_base.specs.Sides.{face_of}
 use Rattle.pm_base.specs.declared.log.Gone.{Gone}
 use Rattle.pm_forest.proofs.FaceNumbers.{first_face-mono, revealed-parts, revealed-from, which_face}
 use Rattle.pm_forest.specs.Faces.{no_face_corners, no_face, first_face, face_count, revealed_by}
 use Rattle.pm_forest.specs.Faces.{is_left, corners_told_by, corners_of, from_leaf}
 use Rattle.pm_forest.specs.Forest.{record_count, record_at}
-use Rattle.pm_forest.specs.declared.parts.Face.{Face}
 use Rattle.pm_number.proofs.NodeNumbers.{count, record-at}
 use Rattle.pm_number.proofs.Positions.{at_place, place-once, picked-at}
 use Rattle.pm_number.proofs.Stages.{side-face, base-first}
@@ -87,16 +86,7 @@ module _ (r : Run) (run : IsMerging r) where
   same-record : (j k n : ℕ) → first_face (hierarchy_of r) j ≤ n
       → n < first_face (hierarchy_of r) (suc j) → first_face (hierarchy_of r) k ≤ n
       → n < first_face (hierarchy_of r) (suc k) → j ≡ k
-  same-record j k n a b c d =
-      let h = hierarchy_of r in
-      elim (cases_order j k) [
-        | inl is ↦ is
-        | inr other ↦
-            elim other [
-              | inl l ↦ (let m = first_face-mono h (suc j) k l in absurd (omega arith))
-              | inr l ↦ (let m = first_face-mono h (suc k) j l in absurd (omega arith))
-            ]
-      ]
+  same-record j k n a b c d = grind (arith, common_steps, first_face-mono)
 
   pub face-once : (f g : ℕ) → f < r.net.faces → g < r.net.faces → face_number r f ≡ face_number r g
       → f ≡ g
@@ -170,11 +160,7 @@ module _ (r : Run) (run : IsMerging r) where
             picked-at (λ f. is_none (dropped_by r f)) 0 r.net.faces f (omega arith) in
             let v = get_or (base_faces r) f 0 in
             let free : dropped_by r v ≡ None =
-            elim (option_cases (dropped_by r v)) [
-              | inl z ↦ z
-              | inr (i, z) ↦
-                  absurd (false≢true (sym (ap is_none z) ∙ passes))
-            ] in
+            grind (arith, common_steps, false≢true, is_none, option_cases) in
             (v, omega arith, none-number r run v free ∙ place)
         | inr (k, e) ↦
             let k_lt = (revealed-parts h f k l e).0 in
@@ -265,24 +251,14 @@ module _ (r : Run) (run : IsMerging r) where
       → from_leaf (hierarchy_of r) (side_by (face_number r) e) ≡ leaf_number r (r.net.from e)
   unfolding from_leaf
   corner e l =
-      let h = hierarchy_of r in
-      let f = face_of e in
-      let o = side_by (face_number r) e in
-      let same : corners_of h (face_of o) ≡ numbered_face r f =
-      ap (corners_of h) (side-face (face_number r) e) ∙ corners f (omega arith) in
-      let m = side-corner e in
-      let pick : Face → ℕ = λ k. cond (eqb (o % 3) 0) k.a (cond (eqb (o % 3) 1) k.b k.c) in
-      let k = numbered_face r f in
-      ap pick same
-      ∙ elim (cases_eq (o % 3) 0) [
-        | inl z ↦ cond-true _ k.a (cond (eqb (o % 3) 1) k.b k.c) (eq-eqb _ _ z)
-            ∙ ap (λ x. leaf_number r (r.net.from x)) (omega arith)
-        | inr n0 ↦
-            cond-false _ k.a (cond (eqb (o % 3) 1) k.b k.c) (ne_eqb _ _ n0)
-            ∙ elim (cases_eq (o % 3) 1) [
-              | inl z ↦ cond-true _ k.b k.c (eq-eqb _ _ z)
-                  ∙ ap (λ x. leaf_number r (r.net.from x)) (omega arith)
-              | inr n1 ↦ cond-false _ k.b k.c (ne_eqb _ _ n1)
-                  ∙ ap (λ x. leaf_number r (r.net.from x)) (omega arith)
-            ]
-      ]
+      grind (
+        arith,
+        common_steps,
+        cond-false,
+        cond-true,
+        corners,
+        eq-eqb,
+        ne_eqb,
+        side-corner,
+        side-face,
+      )

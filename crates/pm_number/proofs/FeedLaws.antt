@@ -1,7 +1,8 @@
 -- What a shaper has taken in of the hierarchy of a run, one unit more at a time.
-use Rattle.std.proofs.Common.{suc, ◌≡◌, ℕ, ◌+◌, ◌*◌, ◌<◌, ◌⊎◌, eqb, true, false, cond, not, List}
+use Rattle.std.proofs.Common.{◌≡◌, ℕ, ◌+◌, ◌*◌, ◌<◌, ◌⊎◌, eqb, true, false, cond, not, List}
+use Rattle.std.proofs.lemmas.Grind.{common_steps}
 use Rattle.std.proofs.Common.{[], ◌∷◌, ◌++◌, length, get_or, take, Option, None, Some, Ok, Err}
-use Rattle.std.proofs.Common.{Result, is_some, inl, inr, refl, sym, ap, ◌∙◌, subst, arith}
+use Rattle.std.proofs.Common.{Result, is_some, inl, inr, refl, sym, ap, ◌∙◌, arith}
 use Rattle.std.specs.Prelude.{ℤ, IfErr, OnOk, IfSome}
 use Rattle.std.proofs.lemmas.Bool.{lt-ltb, le-ltb}
 use Rattle.std.proofs.lemmas.Option.{none-some}
@@ -16,7 +17,6 @@ use Rattle.pm_forest.specs.declared.parts.Head.{Head}
 use Rattle.pm_forest.specs.declared.parts.NewFace.{NewFace}
 use Rattle.pm_forest.specs.declared.parts.Record.{Record}
 use Rattle.pm_forest.specs.declared.parts.Shape.{Shape}
-use Rattle.pm_forest.specs.declared.parts.Unfinished.{Unfinished}
 use Rattle.pm_forest.specs.declared.parts.UnitKind.TheVariants as kinds
 use Rattle.pm_forest.specs.Forest.{Hierarchy, record_at, record_count}
 use Rattle.pm_forest.specs.Faces.{no_face_corners}
@@ -27,14 +27,13 @@ use Rattle.pm_forest.specs.Shaping.{Shaping, expects, so_far, next_root, next_fa
 use Rattle.pm_forest.specs.Shaping.{settled, with_face}
 use Rattle.pm_forest.proofs.Prefix.{cut, cut-more}
 use Rattle.pm_forest.proofs.FacesTaken.{side_of-word}
-use Rattle.pm_runs.specs.Merged.{StandsAcross}
 use Rattle.pm_number.specs.Stages.{Run, steps, net_of_run_after, IsGone, IsMerging}
 use Rattle.pm_number.specs.Numbering.{step_of, place_number, width_number, input_number}
 use Rattle.pm_number.specs.Numbering.{numbered_root, numbered_face, numbered_side, numbered_gone}
 use Rattle.pm_number.specs.Numbering.{hierarchy_of}
 use Rattle.pm_number.proofs.NodeNumbers.{record-at}
 use Rattle.pm_number.proofs.FacePositions.{gone-lt}
-use Rattle.pm_number.specs.Tables.{coordinates, took_roots, took_bases, first_records, took_records}
+use Rattle.pm_number.specs.Tables.{coordinates, took_roots, took_bases, took_records}
 use Rattle.pm_number.specs.Tables.{with_head_taken, took_left}
 use Rattle.pm_beyond.specs.Walks.{number_of}
 
@@ -60,23 +59,13 @@ pub root_taken : (h : Hierarchy) (s new : Shaping) (i : ℕ) (x : Root)
     OnOk result (new ≡ record s { h = record s.h { roots = s.h.roots ++ x ∷ [] } })
     → new ≡ took_roots h (i + 1)
 root_taken h s new i x result is l x_is fits err ok =
-    let none : root_fault s.counts s.h.roots x ≡ None = rw (is, x_is) fits in
-    ok_only (new ≡ record s { h = record s.h { roots = s.h.roots ++ x ∷ [] } }) result
-    (root_fault s.counts s.h.roots x) none err ok
-    ∙ rw (is, x_is, take_more h.roots i no_root l) refl
+    grind (arith, common_steps, ok_only, take_more)
 
 -- Base faces
 
 pub expects_base : (h : Hierarchy) (s : Shaping) (i : ℕ) → s ≡ took_bases h i → i < length h.bases
     → expects s ≡ kinds.Base
-expects_base h s i is l =
-    let len = length-take-le i h.bases (omega arith) in
-    rw (
-      is,
-      le-ltb (length h.roots) (length h.roots) (omega arith),
-      lt-ltb (length (take i h.bases))
-          (length h.bases) (omega arith),
-    ) refl
+expects_base h s i is l = grind (arith, common_steps, le-ltb, length-take-le, lt-ltb)
 
 pub base_taken : (h : Hierarchy) (s new : Shaping) (i : ℕ) (x : Face)
     (result : Result (Unit {0}) Shape) → s ≡ took_bases h i → i < length h.bases →
@@ -86,25 +75,13 @@ pub base_taken : (h : Hierarchy) (s new : Shaping) (i : ℕ) (x : Face)
     OnOk result (new ≡ record s { h = record s.h { bases = s.h.bases ++ x ∷ [] } })
     → new ≡ took_bases h (i + 1)
 base_taken h s new i x result is l x_is fits err ok =
-    let none : base_fault s.h.roots s.h.bases x ≡ None = rw (is, x_is) fits in
-    ok_only (new ≡ record s { h = record s.h { bases = s.h.bases ++ x ∷ [] } }) result
-    (base_fault s.h.roots s.h.bases x) none err ok
-    ∙ rw (is, x_is, take_more h.bases i no_face_corners l) refl
+    grind (arith, common_steps, ok_only, take_more)
 
 -- Heads
 
 pub expects_head : (h : Hierarchy) (s : Shaping) (k : ℕ) → s ≡ took_records h k → k < record_count h
     → expects s ≡ kinds.Head
-expects_head h s k is l =
-    let len = length-take-le k h.records (omega arith) in
-    rw (
-      is,
-      le-ltb (length h.roots) (length h.roots) (omega arith),
-      le-ltb (length h.bases)
-          (length h.bases) (omega arith),
-      lt-ltb (length (take k h.records)) (length h.records)
-          (omega arith),
-    ) refl
+expects_head h s k is l = grind (arith, common_steps, le-ltb, length-take-le, lt-ltb)
 
 due_is : (l r : Option NewFace) → presence_is_bad (one_if (is_some l) + 2 * one_if (is_some r))
     ≡ false →
@@ -152,10 +129,7 @@ left_settled : (c : Counts) (g whole : Hierarchy) (x : Record) (n : NewFace) (o 
       coming = Some (record { split = left_only x; left_due = false; right_due = true });
     })
     (record { counts = c; h = whole; coming = None })
-left_settled c g whole x n None left right all =
-    let same : record (bare x) { left = Some n }
-    ≡ x = sym (λ i. record x { left = left i; right = right i }) in
-    rw (same, all) refl
+left_settled c g whole x n None left right all = grind (arith, common_steps)
 left_settled c g whole x n (Some m) left right all = rw left refl
 
 pub left_taken : (h : Hierarchy) (s new : Shaping) (k : ℕ) (f : Face) (first second : ℕ)
@@ -172,27 +146,7 @@ pub left_taken : (h : Hierarchy) (s new : Shaping) (k : ℕ) (f : Face) (first s
     (λ p. OnOk result (new ≡ settled s.counts s.h (with_face p (next_face f first second))))
     → new ≡ took_left h k
 left_taken h s new k f first second n result is l left next f_is first_is second_is fits err ok =
-    let x = record_at h k in
-    let p : Unfinished = record {
-      split = bare x;
-      left_due = is_some x.left;
-      right_due = is_some x.right;
-    } in
-    let there : is_some x.left ≡ true = ap is_some left in
-    let err' : IfErr result (λ e. new_face_fault (with_record (cut h k) (bare x)) (is_some x.left) f
-    first second ≡ Some e) = rw is at err in
-    let ok' : OnOk result
-    (new ≡ settled (counts_of h) (cut h k) (with_face p (next_face f first second))) =
-    rw is at ok in
-    let none : new_face_fault (with_record (cut h k) (bare x)) (is_some x.left) f first second
-    ≡ None = rw (there, f_is, first_is, second_is) fits in
-    let more : k + 1 ≡ suc k = omega arith in
-    let whole : with_record (cut h k) x ≡ first_records h (k + 1) =
-    rw more (sym (cut-more h k l)) in
-    ok_only (new ≡ settled (counts_of h) (cut h k) (with_face p (next_face f first second))) result
-    _ none err' ok'
-    ∙ rw (next, there) (left_settled (counts_of h) (cut h k) (first_records h (k + 1)) x n x.right
-    left refl whole)
+    grind (arith, common_steps, cut, cut-more, is_some, left_settled, ok_only)
 
 -- a record without a left face has its right one still to come
 pub no_left : (h : Hierarchy) (k : ℕ) (o : Option NewFace) → (record_at h k).right ≡ o
@@ -221,26 +175,7 @@ pub right_taken : (h : Hierarchy) (s new : Shaping) (k : ℕ) (f : Face) (first 
     (λ p. OnOk result (new ≡ settled s.counts s.h (with_face p (next_face f first second))))
     → new ≡ took_records h (k + 1)
 right_taken h s new k f first second n result is l right next f_is first_is second_is fits err ok =
-    let x = record_at h k in
-    let p : Unfinished = record { split = left_only x; left_due = false; right_due = true } in
-    let there : is_some x.right ≡ true = ap is_some right in
-    let at : s ≡ record { counts = counts_of h; h = first_records h k; coming = Some p } =
-    is ∙ rw there refl in
-    let err' : IfErr result (λ e. new_face_fault (with_record (cut h k) (left_only x)) false f first
-    second ≡ Some e) = rw at at err in
-    let ok' : OnOk result
-    (new ≡ settled (counts_of h) (cut h k) (with_face p (next_face f first second))) =
-    rw at at ok in
-    let none : new_face_fault (with_record (cut h k) (left_only x)) false f first second ≡ None =
-    rw (f_is, first_is, second_is) fits in
-    let more : k + 1 ≡ suc k = omega arith in
-    let whole : with_record (cut h k) x ≡ first_records h (k + 1) =
-    rw more (sym (cut-more h k l)) in
-    let same : record (left_only x) { right = Some n } ≡ x =
-    sym (λ i. record x { right = right i }) in
-    ok_only (new ≡ settled (counts_of h) (cut h k) (with_face p (next_face f first second))) result
-    _ none err' ok'
-    ∙ rw (next, same, whole) refl
+    grind (arith, common_steps, cut, cut-more, is_some, ok_only)
 
 pub no_right : (h : Hierarchy) (k : ℕ) → (record_at h k).right ≡ None
     → took_left h k ≡ took_records h (k + 1)
@@ -250,11 +185,7 @@ no_right h k none = rw none refl
 pub sides_inside : (m : Net) (p q : ℕ) (o : Option Gone) (g : Gone) → o ≡ Some g → IsGone m p q o
     → (e : ℕ) → ((number_of g.first ≡ Some e) → e < 3 * m.faces)
     × ((number_of g.second ≡ Some e) → e < 3 * m.faces)
-sides_inside m p q o g is gone e =
-    let (x, runs, on, first, second) = subst (IsGone m p q) is gone in (
-      λ at. (subst (StandsAcross m (next x)) at first).stands.is_side,
-      λ at. (subst (StandsAcross m (next (next x))) at second).stands.is_side,
-    )
+sides_inside m p q o g is gone e = grind (arith, common_steps)
 
 -- What is sent of a dropped face.
 pub record Sent (r : Run) (o : Option Gone) (g : Gone) : Type 0 where

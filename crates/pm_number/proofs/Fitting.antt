@@ -1,5 +1,6 @@
 -- The roots and the heads of the records of a run's hierarchy pass the rules of shape.
 use Rattle.std.proofs.Common.{suc, ◌≡◌, ℕ, ◌+◌, ◌-◌, ◌*◌, ◌<◌, ◌≤◌, true, false, List, [], ◌∷◌}
+use Rattle.std.proofs.lemmas.Grind.{common_steps}
 use Rattle.std.proofs.Common.{◌++◌, length, sum, get_or, take, Option, None, Some, is_some, is_none}
 use Rattle.std.proofs.Common.{inl, inr, refl, sym, ap, ◌∙◌, arith}
 use Rattle.std.proofs.lemmas.Bool.{cases_lt, false≢true}
@@ -24,7 +25,7 @@ use Rattle.pm_forest.proofs.Prefix.{cut, record_count-cut, s_of-cut, interval_of
 use Rattle.pm_forest.proofs.FaceNumbers.{first_face-mono}
 use Rattle.pm_forest.proofs.InputLaws.{node_inputs-length, input-root, input-cut}
 use Rattle.pm_number.specs.Stages.{Run, steps, entry_at, net_of_run_after, IsGone, IsMerging}
-use Rattle.pm_number.specs.Numbering.{taken_by, left_over, step_of, node_number, width_number}
+use Rattle.pm_number.specs.Numbering.{left_over, step_of, node_number, width_number}
 use Rattle.pm_number.specs.Numbering.{leaf_number, place_number, input_number, numbered_root}
 use Rattle.pm_number.specs.Numbering.{hierarchy_of}
 use Rattle.pm_number.proofs.RunLaws.{ends_given}
@@ -82,9 +83,7 @@ module _ (r : Run) (run : IsMerging r) where
               unused-from used (input_number r v) (λ k m same.
                   let top = node-there r run v l in
                   let (w, w_lt, w_is) = node-back r run k (omega arith) in
-                  let other : input_number r w ≡ v + 1 =
-                  sym (node-input r run w w_lt) ∙ ap (input_of_node h) w_is ∙ sym (are k m)
-                  ∙ same ∙ number in
+                  let other : input_number r w ≡ v + 1 = grind (arith, common_steps, node-input) in
                   elim (cases_lt w r.vertices) [
                     | inl a ↦ (let its = input-first r run w a in let one : w ≡ v =
                         omega arith in let node = ap (node_number r) one in omega arith)
@@ -109,19 +108,16 @@ module _ (r : Run) (run : IsMerging r) where
       × (get_or (hierarchy_of r).roots i no_root ≡ numbered_root r v)
   unfolding left_over
   root_vertex i l =
-      let v = get_or (left_over r) i 0 in
-      let (passes, low, high, place) =
-      picked-at (λ v. is_none (taken_by r v)) 0 (r.vertices + steps r) i l in
-      let free : taken_by r v ≡ None =
-      elim (option_cases (taken_by r v)) [
-        | inl z ↦ z
-        | inr (j, z) ↦
-            absurd (false≢true (sym (ap is_none z) ∙ passes))
-      ] in (
-        omega arith,
-        none-left r run v free
-            ∙ place,
-        get_or-map (numbered_root r) (left_over r) i 0 no_root l,
+      grind (
+        arith,
+        common_steps,
+        false≢true,
+        get_or,
+        get_or-map,
+        is_none,
+        none-left,
+        option_cases,
+        picked-at,
       )
 
   wide : (i : ℕ) → i < length (widths (hierarchy_of r)) → 0 < get_or (widths (hierarchy_of r)) i 0
@@ -213,15 +209,7 @@ module _ (r : Run) (run : IsMerging r) where
     some_face (Some g) (Some g') left right = refl
 
     pub presence_fits : presence_is_bad (head_of (record_at (hierarchy_of r) k)).presence ≡ false
-    presence_fits =
-        let c = step_of r k in
-        let is = record-at r k l in
-        let logged = run.logged (steps r - suc k) (omega arith) in
-        let left : is_some (record_at h k).left ≡ is_some c.left =
-        ap (λ (x : Record). is_some x.left) is ∙ numbered-some r c.left in
-        let right : is_some (record_at h k).right ≡ is_some c.right =
-        ap (λ (x : Record). is_some x.right) is ∙ numbered-some r c.right in
-        rw (left, right) (some_face c.left c.right logged.left logged.right)
+    presence_fits = grind (arith, common_steps, is_some, numbered-some, record-at, some_face)
 
     -- the numbers of the nodes before
     used_are : (j : ℕ) → j < length (node_inputs (cut (hierarchy_of r) k))
@@ -282,11 +270,7 @@ module _ (r : Run) (run : IsMerging r) where
         (omega (arith, length_push used (input_number r c.t)))
         (λ n m. elim (cases_lt n (length used)) [
           | inl a ↦ get_or_append_left used (input_number r c.t ∷ []) 0 n a ∙ used_are n a
-          | inr a ↦
-              let n_is : length used ≡ n = omega (arith, length_push used (input_number r c.t)) in
-              let n_node : n ≡ node_number r c.t = omega arith in
-              get_or_push used (input_number r c.t) 0 n n_is ∙ sym (node-input r run c.t t_lt)
-              ∙ ap (input_of_node h) (sym n_node)
+          | inr a ↦ grind (arith, common_steps, get_or_push, length_push, node-input)
         ]) in
         head_pass g (head_of x) (split_pass g (s_of h k) x.width split_fits) presence_fits
         (rw t_place place_t) (rw u_place place_u)

@@ -1,5 +1,6 @@
 -- The hierarchy of a log, whole.
-use Rattle.std.proofs.Common.{◌≡◌, ℕ, ◌≤◌, false, Some, List, length, take, refl, sym, ap, ◌∙◌}
+use Rattle.std.proofs.Common.{◌≡◌, ℕ, ◌≤◌, false, Some, List, length, refl, ap}
+use Rattle.std.proofs.lemmas.Grind.{common_steps}
 use Rattle.std.proofs.Common.{arith}
 use Rattle.std.proofs.lemmas.Bool.{le-ltb}
 use Rattle.std.proofs.lemmas.List.{length-take-le, take_all}
@@ -24,16 +25,7 @@ use Rattle.pm_number.proofs.RunCounts.{node-count}
 pub small_run : (m : Mesh) (log : List Collapse) → IsStartOfRun m → IsRun m log
     → IsSmallRun (run_of m log)
 small_run m log start run =
-    let told = merging m log start run in
-    let nodes = node-count (run_of m log) told in
-    let few = start.formed.points in
-    record {
-      merging = told;
-      few_vertices = few;
-      few_steps = omega arith;
-      few_faces =
-          start.formed.faces;
-    }
+    grind (arith, common_steps, merging m log start run, node-count (run_of m log))
 
 pub counts_are : (h : Hierarchy) (leaves roots bases records : ℕ) → leaves ≡ leaf_count h
     → roots ≡ length h.roots → bases ≡ length h.bases → records ≡ record_count h →
@@ -43,16 +35,7 @@ counts_are h leaves roots bases records a b c d = rw (a, b, c, d) refl
 
 pub expects_nothing : (h : Hierarchy) (s : Shaping) (k : ℕ) → s ≡ took_records h k
     → k ≡ record_count h → expects s ≡ kinds.Nothing
-expects_nothing h s k is all =
-    let len = length-take-le k h.records (omega arith) in
-    rw (
-      is,
-      le-ltb (length h.roots) (length h.roots) (omega arith),
-      le-ltb (length h.bases)
-          (length h.bases) (omega arith),
-      le-ltb (length (take k h.records)) (length h.records)
-          (omega arith),
-    ) refl
+expects_nothing h s k is all = grind (arith, common_steps, le-ltb, length-take-le)
 
 pub all_records : (h : Hierarchy) (k : ℕ) → record_count h ≤ k → first_records h k ≡ h
 all_records h k l = ap (λ rs. record h { records = rs }) (take_all k h.records l)
@@ -62,10 +45,7 @@ pub whole_is : (m : Mesh) (log slice : List Collapse) (s : Shaping) (h : Hierarc
     → s ≡ took_records (hierarchy_of (run_of m slice)) (length slice) → h ≡ s.h
     → h ≡ hierarchy_of_run m log
 unfolding hierarchy_of_run
-whole_is m log slice s h same is h_is =
-    let all = count (run_of m slice) in
-    h_is ∙ ap (λ (x : Shaping). x.h) is ∙ all_records (hierarchy_of (run_of m slice)) (length slice)
-    (omega arith) ∙ ap (λ xs. hierarchy_of (run_of m xs)) same
+whole_is m log slice s h same is h_is = grind (arith, common_steps, all_records, count)
 
 -- its counts aren't bad
 pub not_bad : (r : Run) → IsSmallRun r → (leaves roots bases records : ℕ)
@@ -80,8 +60,4 @@ not_bad r small leaves roots bases records a b c d =
 pub not_past : (r : Run) → IsSmallRun r → (log : ℕ) (s : Shaping) (e : Shape) → log ≡ steps r
     → s ≡ took_records (hierarchy_of r) log → past_fault s.h ≡ Some e → ⊥
 not_past r small log s e all is fault =
-    let whole : s.h ≡ hierarchy_of r =
-    ap (λ (x : Shaping). x.h) is ∙ all_records (hierarchy_of r) log (let n = count r in
-    omega arith) in
-    none-some e (sym (past_fits r small.merging small.few_faces) ∙ sym (ap past_fault whole)
-    ∙ fault)
+    grind (arith, common_steps, all_records, count, none-some, past_fits)

@@ -1,5 +1,6 @@
 -- The input mesh of the hierarchy of a run is the mesh that the run began with.
 use Rattle.std.proofs.Common.{◌≡◌, ℕ, ◌+◌, ◌-◌, ◌*◌, ◌<◌, List, [], length, get_or, map, refl, sym}
+use Rattle.std.proofs.lemmas.Grind.{common_steps}
 use Rattle.std.proofs.Common.{ap, ◌∙◌, arith}
 use Rattle.std.specs.List.{range_with_len}
 use Rattle.std.proofs.lemmas.List.{same_lists, get_or_default}
@@ -31,13 +32,7 @@ module _ (r : Run) (run : IsMerging r) where
   leaves_once : (x y : ℕ) → x < leaf_count (hierarchy_of r) → y < leaf_count (hierarchy_of r)
       → leaf_input (hierarchy_of r) x ≡ leaf_input (hierarchy_of r) y → x ≡ y
   leaves_once x y l m same =
-      let (v, v_lt, v_is) = leaf-back r run x l in
-      let (w, w_lt, w_is) = leaf-back r run y m in
-      let one : v + 1 ≡ w + 1 =
-      sym (leaf-input r run v v_lt) ∙ ap (leaf_input h) v_is ∙ same
-      ∙ ap (leaf_input h) (sym w_is) ∙ leaf-input r run w w_lt in
-      let vertex : v ≡ w = omega arith in
-      sym v_is ∙ ap (leaf_number r) vertex ∙ w_is
+      grind (arith, common_steps, leaf-back r run x l, leaf-back r run y m, leaf-input r run)
 
   pub leaf_of_input-is : (i : ℕ) → i < r.vertices
       → leaf_of_input (hierarchy_of r) i ≡ leaf_number r i
@@ -55,13 +50,7 @@ module _ (r : Run) (run : IsMerging r) where
   faces_once : (x y : ℕ) → x < face_count (hierarchy_of r) → y < face_count (hierarchy_of r)
       → face_input (hierarchy_of r) x ≡ face_input (hierarchy_of r) y → x ≡ y
   faces_once x y l m same =
-      let (f, f_lt, f_is) = face-back r run x l in
-      let (g, g_lt, g_is) = face-back r run y m in
-      let one : f + 1 ≡ g + 1 =
-      sym (face-input f f_lt) ∙ ap (face_input h) f_is ∙ same ∙ ap (face_input h) (sym g_is)
-      ∙ face-input g g_lt in
-      let face : f ≡ g = omega arith in
-      sym f_is ∙ ap (face_number r) face ∙ g_is
+      grind (arith, common_steps, face-input, face-back r run x l, face-back r run y m)
 
   pub face_of_input-is : (i : ℕ) → i < r.net.faces
       → face_of_input (hierarchy_of r) i ≡ face_number r i

@@ -1,12 +1,13 @@
 -- The leaves of a run's vertices: what was merged into a vertex is an interval.
-use Rattle.std.proofs.Common.{suc, zero, ◌≡◌, ◌≢◌, ℕ, ◌+◌, ◌-◌, ◌*◌, ◌<◌, ◌≤◌, eqb, true, cond, map}
-use Rattle.std.proofs.Common.{sum, length, inl, inr, refl, sym, ap, ◌∙◌, subst, arith}
+use Rattle.std.proofs.Common.{suc, zero, ◌≡◌, ◌≢◌, ℕ, ◌+◌, ◌-◌, ◌*◌, ◌<◌, ◌≤◌, true, map}
+use Rattle.std.proofs.lemmas.Grind.{common_steps}
+use Rattle.std.proofs.Common.{length, inl, inr, sym, ap, ◌∙◌, subst, arith}
 use Rattle.std.proofs.lemmas.Bool.{cases_eq, cases_lt, eq-eqb, ne_eqb, lt-ltb, cond-true}
 use Rattle.std.proofs.lemmas.Bool.{cond-false}
 use Rattle.pm_forest.proofs.Ancestors.{active-ancestor, holds-ancestor_of, there-lt}
 use Rattle.pm_forest.proofs.Nodes.{within-from, within-true, interval-t, interval-u, interval-else}
 use Rattle.pm_forest.specs.Forest.{Hierarchy, widths, record_at, leaf_count, s_of, t_of, u_of}
-use Rattle.pm_forest.specs.Forest.{within, root_interval, first_part, rest, interval_after}
+use Rattle.pm_forest.specs.Forest.{within, interval_after}
 use Rattle.pm_forest.specs.Forest.{interval_of, holds, Holds, HasForestShape}
 use Rattle.pm_forest.specs.Fronts.{ancestor_of, below}
 use Rattle.pm_number.proofs.NodeNumbers.{stays_left, as_t, as_u, node-t, node-u, node_of, node-once}
@@ -14,7 +15,7 @@ use Rattle.pm_number.proofs.NodeNumbers.{node-there, node-back, t_differs, root-
 use Rattle.pm_number.proofs.NodeNumbers.{record-at, s-of}
 use Rattle.pm_number.proofs.Positions.{interval-same, root-interval, before-within, map_map}
 use Rattle.pm_number.proofs.RunLaws.{ends_given}
-use Rattle.pm_number.specs.Numbering.{place_in, left_over, step_of, node_number, width_after}
+use Rattle.pm_number.specs.Numbering.{left_over, step_of, node_number, width_after}
 use Rattle.pm_number.specs.Numbering.{width_number, start_after, leaf_number, numbered_root}
 use Rattle.pm_number.specs.Numbering.{hierarchy_of}
 use Rattle.pm_number.specs.Stages.{Run, steps, entry_at, IsMerging}
@@ -29,12 +30,7 @@ module _ (r : Run) (run : IsMerging r) where
   width-kept i (suc n) v a b l =
       elim (cases_lt n i) [
         | inl c ↦ (let is : suc n ≡ i = omega arith in ap (λ n. width_after r n v) is)
-        | inr c ↦
-            let named = run.named n b in
-            let other : v ≢ (entry_at r n).s = omega arith in
-            cond-false _ (width_after r n (entry_at r n).t + width_after r n (entry_at r n).u)
-            (width_after r n v) (ne_eqb v (entry_at r n).s other)
-            ∙ width-kept i n v c (omega arith) l
+        | inr c ↦ grind (arith, common_steps, cond-false, ne_eqb, width-kept i n v c)
       ]
 
   pub width-step : (i : ℕ) → i < steps r
@@ -42,16 +38,15 @@ module _ (r : Run) (run : IsMerging r) where
       (entry_at r i).u
   unfolding width_after
   width-step i l =
-      let c = entry_at r i in
-      let g = ends_given r run i l in
-      let named = run.named i l in
-      let t = width-kept i (steps r) c.t (omega arith) (omega arith) g.0 in
-      let u = width-kept i (steps r) c.u (omega arith) (omega arith) g.1 in
-      let s = width-kept (suc i) (steps r) c.s l (omega arith) (omega arith) in
-      let both : width_after r (suc i) c.s ≡ width_after r i c.t + width_after r i c.u =
-      cond-true _ (width_after r i c.t + width_after r i c.u) (width_after r i c.s)
-      (eq-eqb c.s c.s refl) in
-      omega arith
+      grind (
+        arith,
+        common_steps,
+        cond-true,
+        eq-eqb,
+        ends_given r run i l,
+        width-kept i (steps r),
+        width-kept (suc i) (steps r),
+      )
 
   pub width-one : (x : ℕ) → x < r.vertices → width_number r x ≡ 1
   unfolding width_after
@@ -79,32 +74,17 @@ module _ (r : Run) (run : IsMerging r) where
 
   pub start-t : (d : ℕ) → start_after r (suc d) (step_of r d).t ≡ start_after r d (step_of r d).s
   unfolding start_after
-  start-t d =
-      let c = step_of r d in
-      cond-true _ (start_after r d c.s)
-      (cond (eqb c.t c.u) (start_after r d c.s + width_number r c.t) (start_after r d c.t))
-      (eq-eqb c.t c.t refl)
+  start-t d = grind (arith, common_steps, cond-true, eq-eqb)
 
   pub start-u : (d : ℕ) → (step_of r d).t ≢ (step_of r d).u → start_after r (suc d) (step_of r d).u
       ≡ start_after r d (step_of r d).s + width_number r (step_of r d).t
   unfolding start_after
-  start-u d n =
-      let c = step_of r d in
-      cond-false _ (start_after r d c.s)
-      (cond (eqb c.u c.u) (start_after r d c.s + width_number r c.t) (start_after r d c.u))
-      (ne_eqb c.u c.t (λ z. n (sym z)))
-      ∙ cond-true _ (start_after r d c.s + width_number r c.t) (start_after r d c.u)
-      (eq-eqb c.u c.u refl)
+  start-u d n = grind (arith, common_steps, cond-false, cond-true, eq-eqb, ne_eqb)
 
   pub start-else : (d v : ℕ) → v ≢ (step_of r d).t → v ≢ (step_of r d).u
       → start_after r (suc d) v ≡ start_after r d v
   unfolding start_after
-  start-else d v a b =
-      let c = step_of r d in
-      cond-false _ (start_after r d c.s)
-      (cond (eqb v c.u) (start_after r d c.s + width_number r c.t) (start_after r d v))
-      (ne_eqb v c.t a)
-      ∙ cond-false _ (start_after r d c.s + width_number r c.t) (start_after r d v) (ne_eqb v c.u b)
+  start-else d v a b = grind (arith, common_steps, cond-false, ne_eqb)
 
   h : Hierarchy
   h = hierarchy_of r
@@ -133,22 +113,18 @@ module _ (r : Run) (run : IsMerging r) where
       → node_number r v < length (left_over r) + 2 * d → IsAt d v
   unfolding interval_after start_after
   is_at zero v l m n =
-      elim (node_of r run v m) [
-        | stays_left a b c ↦
-            let w : ℕ → ℕ = λ v. width_number r v in
-            let all : leaf_count (hierarchy_of r) ≡ sum (map w (left_over r)) = ap sum widths-are in
-            let fits = before-within w (left_over r) v b in
-            record {
-              interval =
-                  ap (root_interval (widths (hierarchy_of r)) 0) c
-                  ∙ ap (λ ws. root_interval ws 0 (place_in v (left_over r))) widths-are
-                  ∙ root-interval w (left_over r) 0 v b
-                  ∙ interval-same _ _ _ _ (omega arith) (omega arith);
-              within_all = omega arith;
-            }
-        | as_t j j_lt is c ↦ absurd (omega arith)
-        | as_u j j_lt is c ↦ absurd (omega arith)
-      ]
+      grind (
+        arith,
+        common_steps,
+        as_t,
+        as_u,
+        before-within,
+        interval-same,
+        root-interval,
+        stays_left,
+        widths-are,
+        node_of r run,
+      )
   is_at (suc d) v l m n =
       let i = steps r - suc d in
       let i_lt : i < steps r = omega arith in
@@ -165,45 +141,11 @@ module _ (r : Run) (run : IsMerging r) where
       let both = width-step i i_lt in
       let all = at_s.within_all in
       elim (cases_eq v c.t) [
-        | inl is ↦
-            let node_is : node_number r v ≡ t_of k d =
-            ap (node_number r) is ∙ node-t r run i i_lt ∙ omega arith in
-            let start_is : start_after r (suc d) v ≡ start_after r d c.s =
-            ap (start_after r (suc d)) is ∙ start-t d in
-            let same : width_number r v ≡ width_number r c.t = ap (width_number r) is in
-            record {
-              interval =
-                  ap (interval_after k (suc d)) node_is ∙ interval-t k d
-                  ∙ ap (λ x. first_part x (record_at k d).width) s_interval
-                  ∙ ap (first_part
-                  (record {
-                    from = start_after r d c.s;
-                    until =
-                        start_after r d c.s + width_number r c.s;
-                  })) width_is
-                  ∙ interval-same _ _ _ _ (omega arith) (omega arith);
-              within_all = omega arith;
-            }
+        | inl is ↦ grind (arith, common_steps, interval-same, interval-t, node-t, start-t)
         | inr not_t ↦
             elim (cases_eq v c.u) [
               | inl is ↦
-                  let node_is : node_number r v ≡ u_of k d =
-                  ap (node_number r) is ∙ node-u r run i i_lt ∙ omega arith in
-                  let start_is : start_after r (suc d) v
-                  ≡ start_after r d c.s + width_number r c.t =
-                  ap (start_after r (suc d)) is ∙ start-u d (t_differs r run i i_lt) in
-                  let same : width_number r v ≡ width_number r c.u = ap (width_number r) is in
-                  record {
-                    interval =
-                        ap (interval_after k (suc d)) node_is ∙ interval-u k d
-                        ∙ ap (λ x. rest x (record_at k d).width) s_interval
-                        ∙ ap (rest (record {
-                          from = start_after r d c.s;
-                          until = start_after r d c.s + width_number r c.s;
-                        })) width_is
-                        ∙ interval-same _ _ _ _ (omega arith) (omega arith);
-                    within_all = omega arith;
-                  }
+                  grind (arith, common_steps, interval-same, interval-u, node-u, start-u, t_differs)
               | inr not_u ↦
                   let t_node = node-t r run i i_lt in
                   let u_node = node-u r run i i_lt in
@@ -276,10 +218,7 @@ module _ (r : Run) (run : IsMerging r) where
 
   pub held : (x : ℕ) → x < r.vertices → Holds (hierarchy_of r) (node_number r x) (leaf_number r x)
   unfolding holds
-  held x l =
-      let w = width-one x l in
-      subst (λ i. within i (leaf_number r x) ≡ true) (sym (interval-end x (omega arith)))
-      (within-from _ (leaf_number r x) (omega arith) (omega arith))
+  held x l = grind (arith, common_steps, interval-end, width-one, within-from)
 
   pub leaf-there : (x : ℕ) → x < r.vertices → leaf_number r x < leaf_count (hierarchy_of r)
   leaf-there x l = let a = (at_end x (omega arith)).within_all in let w =
@@ -313,9 +252,7 @@ module _ (r : Run) (run : IsMerging r) where
             let j_lt : j < steps r = omega arith in
             let named = run.named i i_lt in
             let back : steps r - suc j ≡ i = omega arith in
-            let is : v ≡ (step_of r j).s =
-            (let q : (step_of r j).s ≡ (entry_at r i).s = ap (λ n. (entry_at r n).s) back in
-            omega arith) in
+            let is : v ≡ (step_of r j).s = grind (arith, common_steps) in
             absurd (active.1 j (omega arith) (lt-ltb j (steps r) j_lt) (s-of r j j_lt
             ∙ ap (node_number r) (sym is) ∙ v_is))
       ]

@@ -1,7 +1,8 @@
 -- Flags of the vertices that were merged and of the faces that were dropped, and what is left.
 use Rattle.std.proofs.Common.{zero, suc, ◌≡◌, ◌≢◌, ℕ, ◌+◌, ◌<◌, ◌≤◌, eqb, Bool, true, false, cond}
+use Rattle.std.proofs.lemmas.Grind.{common_steps}
 use Rattle.std.proofs.Common.{not, ◌||◌, List, [], ◌∷◌, ◌++◌, length, get_or, Option, None, Some}
-use Rattle.std.proofs.Common.{is_some, is_none, inl, inr, refl, sym, ap, ◌∙◌, arith}
+use Rattle.std.proofs.Common.{is_some, is_none, refl, sym, ap, ◌∙◌, arith}
 use Rattle.std.proofs.Common.{get_or-set_same, get_or-set_other}
 use Rattle.std.specs.List.{filter, range_with_len}
 use Rattle.std.proofs.lemmas.List.FromFn.{filter_of_map_range_with_len_more}
@@ -9,7 +10,7 @@ use Rattle.std.proofs.lemmas.List.{map-id}
 use Rattle.std.proofs.Math.ListN.{set}
 use Rattle.std.proofs.lemmas.List.{length-set, get_or_default}
 use Rattle.pm_base.specs.declared.log.Collapse.{Collapse}
-use Rattle.std.proofs.lemmas.Bool.{cases_eq, cases_Bool, eqb-true, eq-eqb, ne_eqb}
+use Rattle.std.proofs.lemmas.Bool.{eqb-true, eq-eqb, ne_eqb}
 use Rattle.pm_base.specs.Sides.{find_below}
 use Rattle.pm_base.specs.declared.log.Gone.{Gone}
 use Rattle.pm_number.specs.Stages.{Run, no_collapse, steps, entry_at, net_of_run_after, IsGone}
@@ -25,20 +26,11 @@ use Rattle.pm_number.proofs.NodeNumbers.{t_differs}
 pub flag_set : (flags : List Bool) (w v : ℕ) → w < length flags → get_or (set flags w true) v false
     ≡ (eqb w v || get_or flags v false)
 flag_set flags w v l =
-    elim (cases_eq w v) [
-      | inl is ↦ (rw (eq-eqb w v is, ← is) (get_or-set_same flags w true false l))
-      | inr other ↦ (let apart : v ≢ w = λ e. other (sym e) in
-          rw (ne_eqb w v other) (get_or-set_other flags w v true false apart))
-    ]
+    grind (arith, common_steps, eq-eqb, get_or-set_other, get_or-set_same, ne_eqb)
 
 pub is_some-next : (p : ℕ → Bool) (n : ℕ)
     → is_some (find_below p (n + 1)) ≡ (p n || is_some (find_below p n))
-is_some-next p n =
-    let next : n + 1 ≡ suc n = omega arith in
-    elim (cases_Bool (p n)) [
-      | inl t ↦ (rw (next, t) refl)
-      | inr f ↦ (rw (next, f) refl)
-    ]
+is_some-next p n = grind (arith, common_steps)
 
 or_turned : (a b c : Bool) → (a || (b || c)) ≡ (b || a || c)
 or_turned true true c = refl
@@ -139,15 +131,7 @@ pub record EntryFits (r : Run) (i : ℕ) (c : Collapse) : Type 0 where
 pub entry_fits : (r : Run) (i : ℕ) (c : Collapse) → IsMerging r → i < steps r → c ≡ entry_at r i
     → EntryFits r i c
 entry_fits r i c run l is =
-    let ends = ends_given r run i l in
-    rw is (record {
-      made = run.named i l;
-      first = ends.0;
-      second = ends.1;
-      differ = t_differs r run i l;
-      left = λ f. (gone_inside r i run l f).0;
-      right = λ f. (gone_inside r i run l f).1;
-    })
+    grind (arith, common_steps, ends_given r run i l, gone_inside r i run l, t_differs r run i l)
 
 -- one number more is picked where it passes
 pub picked_more : (p : ℕ → Bool) (k : ℕ) → picked p 0 (k + 1) ≡ picked p 0 k

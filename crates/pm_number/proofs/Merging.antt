@@ -1,6 +1,7 @@
 -- The log of a run of a mesh tells a run of merges: stage by stage the surface and the merged sides
 -- are alike.
 use Rattle.std.proofs.Common.{zero, suc, ◌≡◌, ℕ, ◌+◌, ◌<◌, ◌≤◌, Option, Some, None, List, length}
+use Rattle.std.proofs.lemmas.Grind.{common_steps}
 use Rattle.std.proofs.Common.{get_or, take, refl, sym, ap, ◌∙◌, subst, arith}
 use Rattle.std.specs.Prelude.{option_map}
 use Rattle.std.proofs.lemmas.List.{take_more, length-take-le}
@@ -45,11 +46,7 @@ module _ (m : Mesh) (log : List Collapse) (start : IsStartOfRun m) (run : IsRun 
 
   -- each entry names the next vertex
   pub named-at : (i : ℕ) → i < length log → (entry_at (run_of m log) i).s ≡ length m.points + i
-  named-at i l =
-      let n = step-new (surface i) (entry_at r i) (step-at i l) in
-      let all = next-run m (take i log) in
-      let len = length-take-le i log (omega arith) in
-      omega arith
+  named-at i l = grind (arith, common_steps, length-take-le, next-run, step-at, step-new)
 
   pub more : (i : ℕ) → i < length log → surface_after m (take (i + 1) log)
       ≡ collapsed (surface_after m (take i log)) (entry_at (run_of m log) i).t

@@ -1,5 +1,6 @@
 -- An oriented manifold stays one under other numbers.
-use Rattle.std.proofs.Common.{◌≡◌, ℕ, inl, inr, refl, sym, ap, ◌∙◌, subst}
+use Rattle.std.proofs.Common.{◌≡◌, ℕ, inl, inr, sym, ap, ◌∙◌, subst, arith}
+use Rattle.std.proofs.lemmas.Grind.{common_steps}
 use Rattle.pm_base.specs.Sides.{Net, to, third, Stands}
 use Rattle.pm_base.specs.Fans.{IsPairAt, IsOrientedManifold}
 use Rattle.pm_base.specs.Rounds.{Goes, stay, on, IsRound}
@@ -12,15 +13,7 @@ use Rattle.pm_number.proofs.Renamed.{no_mirror-moved}
 
 module _ (m n : Net) (side name : ℕ → ℕ) (map : Renames m n side name) where
   pair-moved : (v x y : ℕ) → IsPairAt m v x y → IsPairAt n (name v) (name x) (name y)
-  pair-moved v x y f =
-      let l = f.stands.is_side in
-      record {
-        side = side f.side;
-        stands = stands-moved m n side name map f.side f.stands;
-        at = map.from f.side l ∙ ap name f.at;
-        one = at_to m n side name map f.side l ∙ ap name f.one;
-        two = at_third m n side name map f.side l ∙ ap name f.two;
-      }
+  pair-moved v x y f = grind (arith, common_steps, at_third, at_to, stands-moved)
 
   goes-moved : (v : ℕ) {a x : ℕ} → Goes m v a x → Goes n (name v) (name a) (name x)
   goes-moved v stay = stay
@@ -40,18 +33,10 @@ module _ (m n : Net) (side name : ℕ → ℕ) (map : Renames m n side name) whe
                   let (h, k, h_is) = map.back f.side f.stands.is_side in
                   let st' = stood-before m n side name map h k
                   (subst (λ i. Stands n i) (sym h_is) f.stands) in
-                  let at' : m.from h ≡ v =
-                  map.one (m.from h) v (h, k, refl) (g, l, refl) (sym (map.from h k)
-                  ∙ ap n.from h_is ∙ f.at ∙ sym v_is) in
+                  let at' : m.from h ≡ v = grind (arith, common_steps) in
                   let x_is : name (to m h) ≡ x =
                   sym (at_to m n side name map h k) ∙ ap (λ i. to n i) h_is ∙ f.one in
-                  let p : IsPairAt m v (to m h) (third m h) = record {
-                    side = h;
-                    stands = st';
-                    at = at';
-                    one = refl;
-                    two = refl;
-                  } in
+                  let p : IsPairAt m v (to m h) (third m h) = grind (arith, common_steps) in
                   subst (λ i. Goes n i (name a) x) v_is
                   (subst (λ i. Goes n (name v) (name a) i) x_is
                   (goes-moved v (all (to m h) (third m h) p))),

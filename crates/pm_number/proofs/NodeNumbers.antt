@@ -1,7 +1,8 @@
 -- The nodes of a run's vertices.
 use Rattle.std.proofs.Common.{suc, ◌≡◌, ◌≢◌, ℕ, ◌+◌, ◌-◌, ◌*◌, ◌/◌, ◌%◌, ◌<◌, eqb, true, cond}
+use Rattle.std.proofs.lemmas.Grind.{common_steps}
 use Rattle.std.proofs.Common.{is_none, Some, None, length, get_or, ◌⊎◌, inl, inr, refl, sym, ap}
-use Rattle.std.proofs.Common.{◌∙◌, subst, arith}
+use Rattle.std.proofs.Common.{◌∙◌, arith}
 use Rattle.std.proofs.lemmas.List.{length-map}
 use Rattle.std.proofs.lemmas.List.FromFn.{get_or-map-range_with_len, length-map-range_with_len}
 use Rattle.std.proofs.lemmas.Bool.{cases_eq, cases_lt, cases_order, or_cases, or_left, or_right}
@@ -35,10 +36,7 @@ module _ (r : Run) (run : IsMerging r) where
 
   taken_used : (i v : ℕ) → i < steps r → takes r v i ≡ true → BeginsSide (net_of_run_after r i) v
   taken_used i v l e =
-      elim (takes-parts r v i e) [
-        | inl z ↦ subst (BeginsSide (net_of_run_after r i)) z (used_t r run i l)
-        | inr z ↦ subst (BeginsSide (net_of_run_after r i)) z (used_u r run i l)
-      ]
+      grind (arith, common_steps, takes-parts r v i e, used_t r run i l, used_u r run i l)
 
   takes-same : (i j v : ℕ) → i < steps r → j < steps r → takes r v i ≡ true → takes r v j ≡ true
       → i ≡ j
@@ -63,22 +61,13 @@ module _ (r : Run) (run : IsMerging r) where
   taken-parts i v e = let p = find_below-some (takes r v) (steps r) i e in (p.1, p.0)
 
   pub t_differs : (i : ℕ) → i < steps r → (entry_at r i).t ≢ (entry_at r i).u
-  t_differs i l z =
-      elim (run.linkable i l).joined [
-        | inl (e, w) ↦ w.stands.first (w.begins ∙ z ∙ sym w.ends)
-        | inr (e, w) ↦ w.stands.first (w.begins ∙ sym z ∙ sym w.ends)
-      ]
+  t_differs i l z = grind (arith, common_steps)
 
   -- The nodes of the two ends
   pub node-t : (i : ℕ) → i < steps r
       → node_number r (entry_at r i).t ≡ length (left_over r) + 2 * (steps r - suc i)
   unfolding node_number
-  node-t i l =
-      let v = (entry_at r i).t in
-      let base = length (left_over r) + 2 * (steps r - suc i) in
-      let none : cond (eqb (entry_at r i).t v) 0 1 ≡ 0 = cond-true _ 0 1 (eq-eqb v v refl) in
-      ap (node_at r v) (taken-by i v l (takes-t r i)) ∙ ap (λ n. base + n) none
-      ∙ (let plain : base + 0 ≡ base = omega arith in plain)
+  node-t i l = grind (arith, common_steps, cond-true, eq-eqb, taken-by i, takes-t r i)
 
   pub node-u : (i : ℕ) → i < steps r
       → node_number r (entry_at r i).u ≡ length (left_over r) + 2 * (steps r - suc i) + 1
@@ -150,12 +139,7 @@ module _ (r : Run) (run : IsMerging r) where
 
   pub node-there : (v : ℕ) → v < r.vertices + steps r
       → node_number r v < length (left_over r) + 2 * steps r
-  node-there v l =
-      elim (node_of v l) [
-        | stays_left a b c ↦ omega arith
-        | as_t i i_lt is c ↦ omega arith
-        | as_u i i_lt is c ↦ omega arith
-      ]
+  node-there v l = grind (arith, common_steps, node_of v l)
 
   -- every number of a node is that of a vertex
   pub node-back : (n : ℕ) → n < length (left_over r) + 2 * steps r
@@ -168,11 +152,7 @@ module _ (r : Run) (run : IsMerging r) where
             picked-at (λ v. is_none (taken_by r v)) 0 (r.vertices + steps r) n a in
             let v = get_or (left_over r) n 0 in
             let free : taken_by r v ≡ None =
-            elim (option_cases (taken_by r v)) [
-              | inl z ↦ z
-              | inr (i, z) ↦
-                  absurd (false≢true (sym (ap is_none z) ∙ passes))
-            ] in
+            grind (arith, common_steps, false≢true, is_none, option_cases) in
             (v, omega arith, none-left v free ∙ place)
         | inr a ↦
             let k = (n - length (left_over r)) / 2 in

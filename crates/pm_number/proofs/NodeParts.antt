@@ -1,5 +1,6 @@
 -- The places and the input numbers of a run's nodes, and the node of each leaf.
-use Rattle.std.proofs.Common.{zero, suc, ◌≡◌, ℕ, ◌+◌, ◌-◌, ◌/◌, ◌<◌, ◌≤◌, ltb, [], length, get_or}
+use Rattle.std.proofs.Common.{zero, suc, ◌≡◌, ℕ, ◌+◌, ◌-◌, ◌<◌, ◌≤◌, ltb, [], length, get_or}
+use Rattle.std.proofs.lemmas.Grind.{common_steps}
 use Rattle.std.proofs.Common.{refl, sym, ap, ◌∙◌, arith}
 use Rattle.std.proofs.lemmas.Bool.{lt-ltb, le-ltb, cond-true, cond-false}
 use Rattle.std.proofs.lemmas.List.{get_or-map, get_or_default}
@@ -25,16 +26,10 @@ use Rattle.pm_number.proofs.Whole.{numbered}
 -- The places of a record's children
 
 place-at_t : (h : Hierarchy) (k : ℕ) → place_of_node h (t_of h k) ≡ (record_at h k).t.place
-place-at_t h k =
-    let number : (t_of h k - length h.roots) / 2 ≡ k = omega arith in
-    sym (place-t h (t_of h k) (omega arith) (omega arith))
-    ∙ ap (λ j. (record_at h j).t.place) number
+place-at_t h k = grind (arith, common_steps, place-t h (t_of h k))
 
 place-at_u : (h : Hierarchy) (k : ℕ) → place_of_node h (u_of h k) ≡ (record_at h k).u.place
-place-at_u h k =
-    let number : (u_of h k - length h.roots) / 2 ≡ k = omega arith in
-    sym (place-u h (u_of h k) (omega arith) (omega arith))
-    ∙ ap (λ j. (record_at h j).u.place) number
+place-at_u h k = grind (arith, common_steps, place-u h (u_of h k))
 
 -- the records below their number are all
 every-below : (h : Hierarchy) (k n x : ℕ) → n ≤ k

@@ -1,18 +1,18 @@
 -- The tables of a run's numbers, one entry more at a time.
-use Rattle.std.proofs.Common.{suc, ◌≡◌, ◌≢◌, ℕ, ◌+◌, ◌-◌, ◌*◌, ◌<◌, ◌≤◌, eqb, List, [], ◌∷◌, length}
-use Rattle.std.proofs.Common.{sum, map, get_or, take, is_none, inl, inr, refl, sym, ap, ◌∙◌, subst}
+use Rattle.std.proofs.Common.{suc, ◌≡◌, ◌≢◌, ℕ, ◌+◌, ◌-◌, ◌*◌, ◌<◌, ◌≤◌, List, [], ◌∷◌, length}
+use Rattle.std.proofs.lemmas.Grind.{common_steps}
+use Rattle.std.proofs.Common.{sum, map, get_or, take, is_none, inl, inr, sym, ap, ◌∙◌, subst}
 use Rattle.std.proofs.Common.{arith, get_or-set_same, get_or-set_other}
 use Rattle.std.proofs.Math.ListN.{set}
 use Rattle.std.proofs.lemmas.Bool.{cases_eq, cases_lt, eq-eqb, ne_eqb, cond-false}
 use Rattle.std.proofs.lemmas.List.{length-set, length-map, get_or_read, get_or-map, take_more}
 use Rattle.std.proofs.lemmas.List.Sums.{sum_by-take-le, sum_by_push}
 use Rattle.pm_base.specs.declared.log.Collapse.{Collapse}
-use Rattle.pm_forest.specs.Forest.{leaf_count}
 use Rattle.pm_forest.proofs.OwnerLaws.{sum-cons}
 use Rattle.pm_number.specs.Stages.{Run, steps, entry_at, IsMerging}
-use Rattle.pm_number.specs.Numbering.{taken_by, place_in, sum_before, left_over, step_of}
+use Rattle.pm_number.specs.Numbering.{place_in, sum_before, left_over, step_of}
 use Rattle.pm_number.specs.Numbering.{width_after, width_number, node_number, start_after}
-use Rattle.pm_number.specs.Numbering.{leaf_number, hierarchy_of}
+use Rattle.pm_number.specs.Numbering.{leaf_number}
 use Rattle.pm_number.specs.Tables.{IsSmallRun, all_vertices, HasNumbers, RootsHave, HasStarts}
 use Rattle.pm_number.proofs.Positions.{at_place, picked-at}
 use Rattle.pm_number.proofs.RunLaws.{ends_given}
@@ -27,10 +27,7 @@ use Rattle.pm_number.proofs.Fitting.{root_vertex}
 pub set_keeps : (table : List ℕ) (number : ℕ → ℕ) (w x v : ℕ) → x ≡ number w
     → get_or table v 0 ≡ number v → w < length table → get_or (set table w x) v 0 ≡ number v
 set_keeps table number w x v is has l =
-    elim (cases_eq v w) [
-      | inl here ↦ (rw here (get_or-set_same table w x 0 l ∙ is))
-      | inr other ↦ get_or-set_other table w v x 0 other ∙ has
-    ]
+    grind (arith, common_steps, get_or-set_other, get_or-set_same)
 
 pub set_makes : (table : List ℕ) (number : ℕ → ℕ) (w x : ℕ) → x ≡ number w → w < length table
     → get_or (set table w x) w 0 ≡ number w
@@ -143,17 +140,7 @@ ends_more r run table i n node c is l len n_is node_is roots ends =
       λ j m. elim (cases_lt j i) [
         | inl a ↦ (let old =
             ends j a in (keeps (entry_at r j).t old.0, keeps (entry_at r j).u old.1))
-        | inr a ↦
-            let j_is : j ≡ i = omega arith in
-            let first : get_or (set middle c.u (node + 1)) c.t 0 ≡ node_number r c.t =
-            set_keeps middle (node_number r) c.u (node + 1) c.t u_is
-            (set_makes table (node_number r) c.t node t_is t_lt) u_lt in
-            let second : get_or (set middle c.u (node + 1)) c.u 0 ≡ node_number r c.u =
-            set_makes middle (node_number r) c.u (node + 1) u_is u_lt in
-            subst (λ k. EndsHave r (set middle c.u (node + 1)) k) (sym j_is)
-            (subst (λ (x : Collapse). (get_or (set middle c.u (node + 1)) x.t 0 ≡ node_number r x.t)
-            × (get_or (set middle c.u (node + 1)) x.u 0 ≡ node_number r x.u)) is
-            (first, second))
+        | inr a ↦ grind (arith, common_steps, get_or, set, set_keeps, set_makes)
       ],
     )
 
@@ -178,28 +165,14 @@ sum_before-at : (f : ℕ → ℕ) (v : ℕ) (xs : List ℕ) → place_in v xs < 
     → sum_before f v xs ≡ sum (take (place_in v xs) (map f xs))
 sum_before-at f v [] l = absurd (omega arith)
 sum_before-at f v (x ∷ xs) l =
-    elim (cases_eq v x) [
-      | inl is ↦ (rw (eq-eqb v x is) refl)
-      | inr other ↦
-          let place : place_in v (x ∷ xs) ≡ suc (place_in v xs) =
-          cond-false (eqb v x) 0 (suc (place_in v xs)) (ne_eqb v x other) in
-          let more : sum_before f v (x ∷ xs) ≡ f x + sum_before f v xs =
-          cond-false (eqb v x) 0 (f x + sum_before f v xs) (ne_eqb v x other) in
-          more ∙ ap (λ n. f x + n) (sum_before-at f v xs (omega arith))
-          ∙ sym (sum-cons (f x) (take (place_in v xs) (map f xs)))
-          ∙ sym (ap (λ n. sum (take n (f x ∷ map f xs))) place)
-    ]
+    grind (arith, common_steps, cond-false, eq-eqb, ne_eqb, sum-cons, sum_before-at f v xs)
 
 -- the first leaf of root j, where the widths of those before it are summed up
 start_root : (r : Run) → IsMerging r → (j : ℕ) → j < length (left_over r) →
     start_after r 0 (get_or (left_over r) j 0)
     ≡ sum (take j (map (λ v. width_number r v) (left_over r)))
 unfolding start_after left_over
-start_root r run j l =
-    let v = get_or (left_over r) j 0 in
-    let place = (picked-at (λ v. is_none (taken_by r v)) 0 (r.vertices + steps r) j l).3 in
-    sum_before-at (width_number r) v (left_over r) (omega arith)
-    ∙ ap (λ n. sum (take n (map (λ v. width_number r v) (left_over r)))) place
+start_root r run j l = grind (arith, common_steps, get_or, is_none, picked-at, sum_before-at)
 
 -- the widths of the roots up to one
 abbrev pub width_sum : Run → ℕ → ℕ
@@ -215,11 +188,7 @@ width_sum-next r j l =
 
 pub width_sum-le : (r : Run) → IsMerging r → (j : ℕ) → width_sum r j ≤ r.vertices
 width_sum-le r run j =
-    let ws = map (λ v. width_number r v) (left_over r) in
-    let part = sum_by-take-le (λ x. x) ws j in
-    let all = leaf-number-count r run in
-    let is : leaf_count (hierarchy_of r) ≡ sum ws = ap sum (widths-are r run) in
-    omega arith
+    grind (arith, common_steps, sum_by-take-le, leaf-number-count r run, widths-are r run)
 
 pub roots_more : (r : Run) → IsMerging r → (table : List ℕ) (j start : ℕ) → j < length (left_over r)
     → length table ≡ all_vertices r → start ≡ width_sum r j →
@@ -297,18 +266,7 @@ starts_more r run table d c start width is l len has start_is width_is =
                   let off_u : v ≢ (step_of r d).u =
                   λ z. not_u (z ∙ ap (λ (x : Collapse). x.u) (sym c_is)) in
                   let before : node_number r v < length (left_over r) + 2 * d =
-                  elim (cases_lt (node_number r v) (length (left_over r) + 2 * d)) [
-                    | inl a ↦ a
-                    | inr a ↦ elim (cases_eq (node_number r v) (length (left_over r) + 2 * d)) [
-                      | inl at ↦ (let once : v ≡ (step_of r d).t =
-                          node-once r run v (step_of r d).t v_lt (let p = given.0 in
-                          omega arith) (omega arith) in absurd (off_t once))
-                      | inr past ↦
-                          (let once : v ≡ (step_of r d).u =
-                          node-once r run v (step_of r d).u v_lt (let p = given.1 in
-                          omega arith) (omega arith) in absurd (off_u once))
-                    ]
-                  ] in
+                  grind (arith, common_steps, node-once) in
                   get_or-set_other table c.t v start 0 not_t ∙ has v v_lt before
                   ∙ sym (start-else r run d v off_t off_u)
             ]

@@ -1,5 +1,7 @@
 -- What is said of a mesh without its numbers holds under other numbers.
 use Rattle.std.proofs.Common.{◌≡◌, ℕ, ◌*◌, ◌<◌, Option, Some, None, inl, inr, refl, sym, ap, ◌∙◌}
+use Rattle.std.proofs.Common.{arith}
+use Rattle.std.proofs.lemmas.Grind.{common_steps}
 use Rattle.std.proofs.Common.{subst}
 use Rattle.pm_base.proofs.Sides.{next-lt as next-side}
 use Rattle.pm_base.specs.Sides.{next, Net, to, third, Stands, NoSideTwice}
@@ -12,10 +14,7 @@ module _ (m n : Net) (side name : ℕ → ℕ) (map : Renames m n side name) whe
   at_to e l = ap n.from (sym (map.turns e l)) ∙ map.from (next e) (next-side m.faces e l)
 
   pub at_third : (e : ℕ) → e < 3 * m.faces → third n (side e) ≡ name (third m e)
-  at_third e l =
-      let k = next-side m.faces e l in
-      ap (λ g. n.from (next g)) (sym (map.turns e l)) ∙ ap n.from (sym (map.turns (next e) k))
-      ∙ map.from (next (next e)) (next-side m.faces (next e) k)
+  at_third e l = grind (arith, common_steps, next-side m.faces e l, next-side m.faces (next e))
 
   used : (e : ℕ) → e < 3 * m.faces → BeginsSide m (m.from e)
   used e l = (e, l, refl)
@@ -27,44 +26,19 @@ module _ (m n : Net) (side name : ℕ → ℕ) (map : Renames m n side name) whe
   used_third e l = (next (next e), next-side m.faces (next e) (next-side m.faces e l), refl)
 
   pub stands-moved : (e : ℕ) → Stands m e → Stands n (side e)
-  stands-moved e st =
-      let l = st.is_side in
-      record {
-        is_side = map.is_side e l;
-        first = λ z. st.first
-            (map.one _ _ (used e l) (used_to e l) (sym (map.from e l) ∙ z ∙ at_to e l));
-        second = λ z. st.second
-            (map.one _ _ (used_to e l) (used_third e l) (sym (at_to e l) ∙ z ∙ at_third e l));
-        last = λ z. st.last
-            (map.one _ _ (used_third e l) (used e l) (sym (at_third e l) ∙ z ∙ map.from e l));
-      }
+  stands-moved e st = grind (arith, common_steps, at_third, at_to, used, used_third, used_to)
 
   pub stood-before : (e : ℕ) → e < 3 * m.faces → Stands n (side e) → Stands m e
-  stood-before e l st = record {
-    is_side = l;
-    first = λ z. st.first (map.from e l ∙ ap name z ∙ sym (at_to e l));
-    second = λ z. st.second (at_to e l ∙ ap name z ∙ sym (at_third e l));
-    last = λ z. st.last (at_third e l ∙ ap name z ∙ sym (map.from e l));
-  }
+  stood-before e l st = grind (arith, common_steps, at_third, at_to)
 
   pub runs-moved : (e p q : ℕ) → Runs m e p q → Runs n (side e) (name p) (name q)
-  runs-moved e p q r =
-      record {
-        stands = stands-moved e r.stands;
-        begins =
-            map.from e r.stands.is_side ∙ ap name r.begins;
-        ends =
-            at_to e r.stands.is_side ∙ ap name r.ends;
-      }
+  runs-moved e p q r = grind (arith, common_steps, at_to, stands-moved)
 
   -- a side of n between vertices of m
   pub runs-before : (e p q : ℕ) → e < 3 * m.faces → BeginsSide m p → BeginsSide m q
       → Runs n (side e) (name p) (name q) → Runs m e p q
-  runs-before e p q l a b r = record {
-    stands = stood-before e l r.stands;
-    begins = map.one _ _ (used e l) a (sym (map.from e l) ∙ r.begins);
-    ends = map.one _ _ (used_to e l) b (sym (at_to e l) ∙ r.ends);
-  }
+  runs-before e p q l a b r =
+      grind (arith, common_steps, at_to e l, stood-before e l r.stands, used e l, used_to e l)
 
   data Before (P : ℕ → Type 0) (e : ℕ) : Type 0 where
     was : (g : ℕ) → g < 3 * m.faces → side g ≡ e → P g → Before P e
@@ -82,11 +56,8 @@ module _ (m n : Net) (side name : ℕ → ℕ) (map : Renames m n side name) whe
         ends = map.one _ _ (used_to g' k) (used e l) (sym (at_to g' k) ∙ ap (to n) is ∙ w.ends
             ∙ map.from e l);
       })
-  across-moved e (Some g) l w = record {
-    stands = stands-moved g w.stands;
-    begins = map.from g w.stands.is_side ∙ ap name w.begins ∙ sym (at_to e l);
-    ends = at_to g w.stands.is_side ∙ ap name w.ends ∙ sym (map.from e l);
-  }
+  across-moved e (Some g) l w =
+      grind (arith, common_steps, at_to e l, at_to g w.stands.is_side, stands-moved g w.stands)
 
   pub once-moved : NoSideTwice m → NoSideTwice n
   once-moved once e g st st' a b =

@@ -1,8 +1,9 @@
 -- Numberings that are one to one keep counts.
-use Rattle.std.proofs.Common.{zero, suc, ◌≡◌, ℕ, ◌+◌, ◌*◌, ◌<◌, eqb, true, length, inl, inr, refl}
+use Rattle.std.proofs.Common.{zero, suc, ◌≡◌, ℕ, ◌+◌, ◌*◌, ◌<◌, eqb, true, length, refl}
+use Rattle.std.proofs.lemmas.Grind.{common_steps}
 use Rattle.std.proofs.Common.{sym, ap, ◌∙◌, subst, arith}
 use Rattle.std.specs.List.{list_any}
-use Rattle.std.proofs.lemmas.Bool.{eq-eqb, or_left, or_right, cases_eq}
+use Rattle.std.proofs.lemmas.Bool.{eq-eqb, or_left, or_right}
 use Rattle.std.proofs.lemmas.Map.Steps.{length-le_from_distinct_below, le-length_from_below}
 use Rattle.pm_forest.specs.Faces.{face_count}
 use Rattle.pm_forest.specs.Forest.{leaf_count}
@@ -17,11 +18,7 @@ use Rattle.pm_number.specs.Stages.{Run, steps, IsMerging}
 
 images-has : (f : ℕ → ℕ) (n x : ℕ) → x < n → list_any (eqb (f x)) (images f n) ≡ true
 images-has f zero x l = absurd (omega arith)
-images-has f (suc n) x l =
-    elim (cases_eq x n) [
-      | inl is ↦ or_left (eqb (f x) (f n)) _ (eq-eqb (f x) (f n) (ap f is))
-      | inr other ↦ or_right (eqb (f x) (f n)) _ (images-has f n x (omega arith))
-    ]
+images-has f (suc n) x l = grind (arith, common_steps, eq-eqb, or_left, or_right, images-has f n x)
 
 pub same_count : (f : ℕ → ℕ) (a b : ℕ) → ((x y : ℕ) → x < a → y < a → f x ≡ f y → x ≡ y)
     → ((x : ℕ) → x < a → f x < b) → ((y : ℕ) → y < b → (x : ℕ) × (x < a) × (f x ≡ y)) → a ≡ b

@@ -1,5 +1,6 @@
 -- What holds all along a run.
 use Rattle.std.proofs.Common.{suc, zero, ◌≡◌, ◌≢◌, ℕ, ◌+◌, ◌*◌, ◌<◌, ◌≤◌, ◌⊎◌, inl, inr, refl, sym}
+use Rattle.std.proofs.lemmas.Grind.{common_steps}
 use Rattle.std.proofs.Common.{ap, ◌∙◌, subst, arith}
 use Rattle.std.proofs.lemmas.Bool.{cases_eq, cases_lt}
 use Rattle.pm_base.proofs.Sides.{stands_next}
@@ -17,15 +18,7 @@ use Rattle.pm_runs.specs.Surfaces.{merge}
 pub merge_cases : (t u s v : ℕ) → (((v ≡ t) ⊎ (v ≡ u)) × (merge t u s v ≡ s))
     ⊎ ((v ≢ t) × (v ≢ u) × (merge t u s v ≡ v))
 merge_cases t u s v =
-    let both = merge-pair t u s t u (inl (refl, refl)) in
-    elim (cases_eq v t) [
-      | inl a ↦ inl (inl a, ap (merge t u s) a ∙ both.0)
-      | inr a ↦ elim (cases_eq v u) [
-        | inl b ↦ inl (inr b, ap (merge t u s) b ∙ both.1)
-        | inr b ↦
-            inr (a, b, merge-other t u s v a b)
-      ]
-    ]
+    grind (arith, common_steps, merge-other t u s v, merge-pair t u s t u (inl (refl, refl)))
 
 pub joined_used : (m : Net) (p q : ℕ) → Joined m p q → BeginsSide m p × BeginsSide m q
 joined_used m p q j =

@@ -1,7 +1,8 @@
 -- The hierarchy of a run has the right shape where its places are on the grid.
 use Rattle.std.proofs.Common.{suc, ◌≡◌, ℕ, ◌+◌, ◌-◌, ◌<◌, ◌≤◌, ltb, true, false, List, [], length}
-use Rattle.std.proofs.Common.{get_or, Option, None, Some, inl, inr, refl, sym, subst, arith}
-use Rattle.std.proofs.lemmas.Bool.{cases_lt, and_from, le-leb, lt-ltb, le-ltb, cond-true}
+use Rattle.std.proofs.lemmas.Grind.{common_steps}
+use Rattle.std.proofs.Common.{get_or, Option, None, Some, refl, arith}
+use Rattle.std.proofs.lemmas.Bool.{and_from, le-leb, lt-ltb, le-ltb, cond-true}
 use Rattle.std.proofs.lemmas.Bool.{cond-false}
 use Rattle.pm_base.specs.Place.{Place, is_place, IsPlace, place_of}
 use Rattle.pm_base.specs.Meshes.{Mesh}
@@ -15,7 +16,7 @@ use Rattle.pm_forest.specs.Rules.{root_fault, base_fault, new_face_fault, face_f
 use Rattle.pm_forest.specs.Rules.{record_fault_after, bare, left_only, with_record, word_of}
 use Rattle.pm_forest.specs.Rules.{first_fault_of, counts_of, HasShape}
 use Rattle.pm_forest.proofs.Prefix.{cut}
-use Rattle.pm_number.specs.Stages.{Run, run_of, steps, entry_at, no_collapse, IsMerging}
+use Rattle.pm_number.specs.Stages.{Run, run_of, steps, entry_at, IsMerging}
 use Rattle.pm_number.specs.Numbering.{left_over, step_of, place_number, hierarchy_of}
 use Rattle.pm_number.specs.Laws.{AreOnGrid}
 use Rattle.pm_number.proofs.RunLaws.{ends_given}
@@ -76,17 +77,13 @@ pub on_grid : (m : Mesh) (log : List Collapse) → AreOnGrid m log → (v : ℕ)
     → v < length m.points + length log → is_place (place_number (run_of m log) v) ≡ true
 unfolding place_number entry_at
 on_grid m log are v l =
-    let r = run_of m log in
-    place-true (place_number r v)
-    (elim (cases_lt v (length m.points)) [
-      | inl a ↦ subst IsPlace
-          (sym (cond-true (ltb v (length m.points)) (get_or m.points v (place_of []))
-          (entry_at r (v - length m.points)).place (lt-ltb v (length m.points) a)))
-          (are.points v (place_of []) a)
-      | inr a ↦
-          let i_lt : v - length m.points < length log = omega arith in
-          subst IsPlace
-          (sym (cond-false (ltb v (length m.points)) (get_or m.points v (place_of []))
-          (entry_at r (v - length m.points)).place (le-ltb v (length m.points) a)))
-          (are.merged (v - length m.points) no_collapse i_lt)
-    ])
+    grind (
+      arith,
+      common_steps,
+      place-true,
+      cond-false (ltb v (length m.points)) (get_or m.points v (place_of [])),
+      cond-true (ltb v (length m.points)) (get_or m.points v (place_of [])),
+      get_or m.points v (place_of []),
+      le-ltb v (length m.points),
+      lt-ltb v (length m.points),
+    )

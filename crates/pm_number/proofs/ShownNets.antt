@@ -1,5 +1,6 @@
 -- What one collapse makes of the mesh that a front shows.
 use Rattle.std.proofs.Common.{suc, ◌≡◌, ◌≢◌, ℕ, ◌<◌, Bool, true, inl, inr, refl, sym, ap, ◌∙◌}
+use Rattle.std.proofs.lemmas.Grind.{common_steps}
 use Rattle.std.proofs.Common.{subst, arith}
 use Rattle.std.proofs.lemmas.Bool.{cases_Bool, lt-ltb, both_ways}
 use Rattle.pm_forest.proofs.Ancestors.{active-ancestor, holds-ancestor_of, ancestor_of-unique}
@@ -80,10 +81,4 @@ module _ (h : Hierarchy) (shape : IsForest h) (k : ℕ) (l : k < record_count h)
   -- the mesh shown by the records below k is the one shown by those up to k with t and u merged
   pub shown-step : Renames (merged (shown_net h (below (suc k))) (t_of h k) (u_of h k) (s_of h k))
       (shown_net h (below k)) (λ e. e) (λ v. v)
-  shown-step = record {
-    is_side = λ e m. m;
-    turns = λ e m. refl;
-    from = λ e m. sym (shown-merged h shape.forest k l (from_leaf h e) (shape.faces.leaves e m));
-    back = λ e m. (e, m, refl);
-    one = λ v w a b is. is;
-  }
+  shown-step = grind (arith, common_steps, shown-merged)

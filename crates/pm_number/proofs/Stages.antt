@@ -1,7 +1,8 @@
 -- A hierarchy that numbers a run: stage by stage it shows the meshes of the run.
-use Rattle.std.proofs.Common.{suc, zero, ◌≡◌, ◌≢◌, ℕ, ◌+◌, ◌-◌, ◌*◌, ◌%◌, ◌<◌, leb, Some, None}
+use Rattle.std.proofs.Common.{suc, zero, ◌≡◌, ◌≢◌, ℕ, ◌+◌, ◌-◌, ◌*◌, ◌%◌, ◌<◌, None}
+use Rattle.std.proofs.lemmas.Grind.{common_steps}
 use Rattle.std.proofs.Common.{length, inl, inr, refl, sym, ap, ◌∙◌, subst, arith}
-use Rattle.std.proofs.lemmas.Bool.{cases_lt, cases_Bool, leb-false, lt-ltb, ltb-true, cond-true}
+use Rattle.std.proofs.lemmas.Bool.{cases_lt, leb-false, lt-ltb, ltb-true, cond-true}
 use Rattle.std.proofs.lemmas.Bool.{cond-false}
 use Rattle.std.proofs.lemmas.Option.{none-some}
 use Rattle.pm_base.specs.Sides.{next, face_of}
@@ -30,10 +31,7 @@ side-face face e = omega arith
 pub side-turns : (face : ℕ → ℕ) (e : ℕ) → side_by face (next e) ≡ next (side_by face e)
 unfolding side_by
 side-turns face e =
-    let a = next_cases e in
-    let f : face (face_of (next e)) ≡ face (face_of e) = ap face (face_of-next e) in
-    let b = next_cases (side_by face e) in
-    omega arith
+    grind (arith, common_steps, face_of-next e, next_cases e, next_cases (side_by face e))
 
 pub side-lt : (face : ℕ → ℕ) (e n : ℕ) → face (face_of e) < n → side_by face e < 3 * n
 unfolding side_by
@@ -41,10 +39,7 @@ side-lt face e n l = omega arith
 
 pub side-back : (face : ℕ → ℕ) (e g : ℕ) → face g ≡ face_of e → side_by face (3 * g + e % 3) ≡ e
 unfolding side_by
-side-back face e g is =
-    let f : face_of (3 * g + e % 3) ≡ g = omega arith in
-    let same : face (face_of (3 * g + e % 3)) ≡ face_of e = ap face f ∙ is in
-    omega arith
+side-back face e g is = grind (arith, common_steps)
 
 -- no record below 0
 pub root-ancestor : (h : Hierarchy) (k x : ℕ)
@@ -52,11 +47,7 @@ pub root-ancestor : (h : Hierarchy) (k x : ℕ)
 unfolding ancestor_after
 root-ancestor h zero x = refl
 root-ancestor h (suc k) x =
-    elim (move h (below 0) k x) [
-      | stays_there e _ ↦ e ∙ root-ancestor h k x
-      | to_t a b c e ↦ (let l = ltb-true k 0 a in absurd (omega arith))
-      | to_u a b c e ↦ (let l = ltb-true k 0 a in absurd (omega arith))
-    ]
+    grind (arith, common_steps, ltb-true, move, stays_there, to_t, to_u, root-ancestor h k x)
 
 -- faces that no record reveals come first
 pub base-first : (h : Hierarchy) (n f : ℕ) → f < first_face h n → revealed_after h n f ≡ None
@@ -64,11 +55,7 @@ pub base-first : (h : Hierarchy) (n f : ℕ) → f < first_face h n → revealed
 unfolding revealed_after
 base-first h zero f l e = l
 base-first h (suc n) f l e =
-    elim (cases_Bool (leb (first_face h n) f)) [
-      | inl a ↦ absurd (none-some n (sym e ∙ cond-true _ (Some n) (revealed_after h n f) a))
-      | inr a ↦ base-first h n f (leb-false _ _ a)
-          (sym (cond-false _ (Some n) (revealed_after h n f) a) ∙ e)
-    ]
+    grind (arith, common_steps, cond-false, cond-true, leb-false, none-some, base-first h n f)
 
 module _ (r : Run) (h : Hierarchy) (node leaf face : ℕ → ℕ) (run : IsMerging r)
     (num : IsNumbered r h node leaf face) where

@@ -1,6 +1,7 @@
 -- A hierarchy that undoes collapses is valid: what stands across a side in the mesh shown is what
 -- stands beyond it.
 use Rattle.std.proofs.Common.{zero, suc, ◌≡◌, ◌≢◌, ℕ, ◌+◌, ◌-◌, ◌*◌, ◌<◌, ◌≤◌, true, Option, Some}
+use Rattle.std.proofs.lemmas.Grind.{common_steps}
 use Rattle.std.proofs.Common.{None, ◌⊎◌, inl, inr, refl, sym, ap, ◌∙◌, subst, arith}
 use Rattle.std.proofs.Math.Nat.{lt-suc_self}
 use Rattle.std.proofs.lemmas.Bool.{cases_Bool, lt-ltb, both_ways}
@@ -159,25 +160,20 @@ module _ (h : Hierarchy) (un : UndoesCollapses h) where
     inner-links : (c : ℕ) → c < 3 * face_count h → record_of h c ≡ Some k
         → Links before (inner_of h k (face_of c)) (t_of h k) (u_of h k)
     inner-links c b r =
-        let i = inner_of h k (face_of c) in
-        let i_lt = inner-lt h un.shape k c b in
-        let same = ap (λ f. revealed_by h f) (inner-face h k (face_of c)) in
-        let st = stands-shown h un.shape (below (suc k)) (front (suc k)) i i_lt
-        (shown_k i (same ∙ r)) in
-        elim (inner_ends h un.shape k (face_of c) (omega arith) r) [
-          | t_first p q ↦
-              inl (record {
-                stands = st;
-                begins = at-t h un.shape.forest k l _ p;
-                ends = at-u h un.shape.forest k l _ q;
-              })
-          | u_first p q ↦
-              inr (record {
-                stands = st;
-                begins = at-u h un.shape.forest k l _ p;
-                ends = at-t h un.shape.forest k l _ q;
-              })
-        ]
+        grind (
+          arith,
+          common_steps,
+          shown_k,
+          t_first,
+          u_first,
+          at-t h un.shape.forest k l,
+          at-u h un.shape.forest k l,
+          front (suc k),
+          inner-face h k (face_of c),
+          inner-lt h un.shape k c b,
+          inner_ends h un.shape k (face_of c),
+          stands-shown h un.shape (below (suc k)) (front (suc k)),
+        )
 
     new_beyond : (a : ℕ) → a < 3 * face_count h → is_shown h (below k) a ≡ true → (q : Option ℕ)
         → twin_of before a ≡ q → (r : Option ℕ) × Beyond h (without (below (suc k)) k) a r

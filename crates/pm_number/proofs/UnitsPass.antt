@@ -1,8 +1,9 @@
 -- What the rules of shape ask of a unit, each rule from the facts that pass it.
 use Rattle.std.proofs.Common.{◌≡◌, ◌≢◌, ℕ, zero, suc, ◌+◌, ◌-◌, ◌<◌, ◌≤◌, ◌⊎◌, eqb, true, false}
-use Rattle.std.proofs.Common.{not, ◌&&◌, List, [], ◌∷◌, ◌++◌, length, sum, get_or, take, Option}
-use Rattle.std.proofs.Common.{None, is_some, inl, inr, refl, sym, ◌∙◌, subst, arith, append_assoc}
-use Rattle.std.proofs.lemmas.Bool.{cases_eq, le-ltb, lt-leb, eq-eqb, ne_eqb, or_from, and_left}
+use Rattle.std.proofs.lemmas.Grind.{common_steps}
+use Rattle.std.proofs.Common.{List, [], ◌∷◌, ◌++◌, length, sum, get_or, take, Option}
+use Rattle.std.proofs.Common.{None, is_some, refl, sym, subst, arith, append_assoc}
+use Rattle.std.proofs.lemmas.Bool.{le-ltb, lt-leb, eq-eqb, ne_eqb, or_from, and_left}
 use Rattle.std.proofs.lemmas.Bool.{and_right, cond-true, cond-false}
 use Rattle.std.proofs.lemmas.List.{append-nil}
 use Rattle.pm_base.specs.Place.{is_place, place_of}
@@ -12,8 +13,8 @@ use Rattle.pm_forest.specs.declared.parts.Face.{Face}
 use Rattle.pm_forest.specs.declared.parts.Head.{Head}
 use Rattle.pm_forest.specs.declared.parts.Shape.{Shape}
 use Rattle.pm_forest.specs.Marks.{is_used}
-use Rattle.pm_forest.specs.Forest.{Hierarchy, widths_of, node_count, leaf_count, root_of}
-use Rattle.pm_forest.specs.Forest.{interval_of, splitter_of}
+use Rattle.pm_forest.specs.Forest.{Hierarchy, widths_of, leaf_count}
+use Rattle.pm_forest.specs.Forest.{interval_of}
 use Rattle.pm_forest.specs.Rules.{counts_are_bad, root_inputs, face_inputs, node_inputs}
 use Rattle.pm_forest.specs.Rules.{vertex_input_is_bad, face_input_is_bad, width_is_bad, root_fault}
 use Rattle.pm_forest.specs.Rules.{base_is_bad, base_fault, split_is_bad, presence_is_bad}
@@ -83,34 +84,14 @@ pub counts_pass : (c : Counts) → c.leaves ≤ 1048576 → c.bases ≤ 1048576 
     c.records ≡ c.leaves - c.roots → counts_are_bad c ≡ false
 unfolding counts_are_bad
 counts_pass c leaves bases roots none records =
-    let empty : eqb c.roots 0 && not (eqb c.leaves 0) ≡ false = elim (cases_eq c.roots 0) [
-      | inl is ↦ and_right (eqb c.roots 0) (not (eqb c.leaves 0))
-          (rw (eq-eqb c.leaves 0 (none is)) refl)
-      | inr some ↦ and_left (eqb c.roots 0) (not (eqb c.leaves 0)) (ne_eqb c.roots 0 some)
-    ] in
-    rw (
-      le-ltb 1048576 c.leaves leaves,
-      le-ltb 1048576 c.bases bases,
-      le-ltb c.leaves c.roots roots,
-      empty,
-      eq-eqb c.records (c.leaves - c.roots) records,
-    ) refl
+    grind (arith, common_steps, and_left, and_right, eq-eqb, le-ltb, ne_eqb)
 
 pub width_pass : (c : Counts) (taken before width : ℕ) → 0 < width
     → taken + width + (c.roots - 1 - before) ≤ c.leaves →
     (before + 1 ≡ c.roots → taken + width ≡ c.leaves) → width_is_bad c taken before width ≡ false
 unfolding width_is_bad
 width_pass c taken before width some room last =
-    let nonzero : width ≢ 0 = λ e. omega arith in
-    let ends : eqb (before + 1) c.roots && not (eqb (taken + width) c.leaves) ≡ false =
-    elim (cases_eq (before + 1) c.roots) [
-      | inl is ↦ and_right (eqb (before + 1) c.roots) (not (eqb (taken + width) c.leaves))
-          (rw (eq-eqb (taken + width) c.leaves (last is)) refl)
-      | inr more ↦ and_left (eqb (before + 1) c.roots) (not (eqb (taken + width) c.leaves))
-          (ne_eqb (before + 1) c.roots more)
-    ] in
-    rw (ne_eqb width 0 nonzero, le-ltb c.leaves (taken + width + (c.roots - 1 - before)) room, ends)
-    refl
+    grind (arith, common_steps, and_left, and_right, eq-eqb, le-ltb, ne_eqb)
 
 -- A node of one leaf has a number of its own, and another has 0.
 abbrev pub InputPasses : ℕ → List ℕ → ℕ → ℕ → Type 0
@@ -123,13 +104,7 @@ pub input_pass : (leaves : ℕ) (used : List ℕ) (width input : ℕ)
     vertex_input_is_bad leaves used width input ≡ false
 unfolding vertex_input_is_bad
 input_pass leaves used width input passes =
-    elim passes [
-      | inl p ↦
-          let nonzero : input ≢ 0 = λ e. (let some = p.1 in omega arith) in
-          cond-true (eqb width 1) _ _ (eq-eqb width 1 p.0)
-          ∙ or_from _ _ (or_from _ _ (ne_eqb input 0 nonzero) (le-ltb leaves input p.2)) p.3
-      | inr p ↦ (cond-false (eqb width 1) _ _ (ne_eqb width 1 p.0) ∙ rw (eq-eqb input 0 p.1) refl)
-    ]
+    grind (arith, common_steps, cond-false, cond-true, eq-eqb, le-ltb, ne_eqb, or_from)
 
 pub root_pass : (c : Counts) (before : List Root) (r : Root) → is_place r.place ≡ true →
     width_is_bad c (sum (widths_of before)) (length before) r.width ≡ false →
@@ -149,37 +124,12 @@ pub base_pass : (roots : List Root) (before : List Face) (f : Face) → BaseFits
     → face_input_is_bad (face_inputs before) f.input ≡ false →
     base_fault roots before f ≡ None
 unfolding base_fault base_is_bad
-base_pass roots before f fits input =
-    let n = sum (widths_of roots) in
-    let root = root_of (widths_of roots) 0 in
-    rw (
-      lt-leb n f.a fits.a,
-      lt-leb n f.b fits.b,
-      lt-leb n f.c fits.c,
-      ne_eqb (root f.a) (root f.b)
-          fits.ab,
-      ne_eqb (root f.b) (root f.c) fits.bc,
-      ne_eqb (root f.a) (root f.c)
-          (λ e. fits.ca (sym e)),
-      input,
-    ) refl
+base_pass roots before f fits input = grind (arith, common_steps, lt-leb, ne_eqb)
 
 pub split_pass : (h : Hierarchy) (s width : ℕ) → SplitFits h s width
     → split_is_bad h s width ≡ false
 unfolding split_is_bad
-split_pass h s width fits =
-    let i = interval_of h s in
-    let first = fits.first in
-    let rest = fits.rest in
-    let nonzero : width ≢ 0 = λ e. omega arith in
-    let none : is_some (splitter_of h s) ≡ false = rw fits.unsplit refl in
-    rw (
-      lt-leb (node_count h) s fits.node,
-      none,
-      le-ltb (i.until - i.from) 2 (omega arith),
-      ne_eqb width 0 nonzero,
-      lt-leb (i.until - i.from) width (omega arith),
-    ) refl
+split_pass h s width fits = grind (arith, common_steps, is_some, le-ltb, lt-leb, ne_eqb)
 
 pub head_pass : (h : Hierarchy) (d : Head) → split_is_bad h d.s d.width ≡ false
     → presence_is_bad d.presence ≡ false →
