@@ -1,5 +1,6 @@
 -- Boxes joined in any order, and any number of times, are one box.
 use Rattle.std.proofs.Common.{◌≡◌, ℕ, ◌≤◌, Bool, ◌||◌, List, [], ◌∷◌, ◌++◌, map, Option, None, Some}
+use Rattle.std.proofs.lemmas.Grind.{common_steps}
 use Rattle.std.proofs.Common.{IfSome, inl, inr, refl, sym, ap, ◌∙◌, arith}
 use Rattle.std.specs.Prelude.{ℤ, unsigned_abs}
 use Rattle.std.specs.Int.{int_min, int_max}
@@ -42,40 +43,13 @@ max_small x y m p q = omega (arith, ints, clamps)
 -- two boxes
 
 joined-comm : (a b : NormalBox) → joined a b ≡ joined b a
-joined-comm a b =
-    rw (
-      min_comm a.low.x b.low.x,
-      min_comm a.low.y b.low.y,
-      min_comm a.low.z b.low.z,
-      max_comm a.high.x b.high.x,
-      max_comm a.high.y b.high.y,
-      max_comm a.high.z b.high.z,
-    )
-    refl
+joined-comm a b = grind (arith, common_steps, max_comm, min_comm)
 
 joined-assoc : (a b c : NormalBox) → joined (joined a b) c ≡ joined a (joined b c)
-joined-assoc a b c =
-    rw (
-      min_assoc a.low.x b.low.x c.low.x,
-      min_assoc a.low.y b.low.y c.low.y,
-      min_assoc a.low.z b.low.z c.low.z,
-      max_assoc a.high.x b.high.x c.high.x,
-      max_assoc a.high.y b.high.y c.high.y,
-      max_assoc a.high.z b.high.z c.high.z,
-    )
-    refl
+joined-assoc a b c = grind (arith, common_steps, max_assoc, min_assoc)
 
 joined-same : (a : NormalBox) → joined a a ≡ a
-joined-same a =
-    rw (
-      min_same a.low.x,
-      min_same a.low.y,
-      min_same a.low.z,
-      max_same a.high.x,
-      max_same a.high.y,
-      max_same a.high.z,
-    )
-    refl
+joined-same a = grind (arith, common_steps, max_same, min_same)
 
 joined-small : (a b : NormalBox) → IsSmallBox a → IsSmallBox b → IsSmallBox (joined a b)
 joined-small a b p q = (

@@ -1,10 +1,9 @@
 -- What lies within a node's error, radius and box.
-use Rattle.std.proofs.Common.{◌≡◌, ℕ, zero, suc, ◌+◌, ◌*◌, ◌<◌, ◌≤◌, true, get_or, Option, None}
+use Rattle.std.proofs.Common.{◌≡◌, ℕ, zero, suc, ◌+◌, ◌*◌, ◌<◌, ◌≤◌, true, get_or, None}
+use Rattle.std.proofs.lemmas.Grind.{common_steps}
 use Rattle.std.proofs.Common.{Some, ◌⊎◌, inl, inr, refl, sym, ap, ◌∙◌, subst, arith}
 use Rattle.std.specs.Prelude.{ℤ, ◌-ℤ◌, unsigned_abs}
-use Rattle.std.specs.Option.{unwrap_or}
 use Rattle.std.proofs.lemmas.Nat.{mul-le}
-use Rattle.std.proofs.lemmas.Bool.{cases_Bool}
 use borrow.Author.Differences.{ints}
 use Rattle.pm_base.specs.Place.{Place}
 use Rattle.pm_base.specs.Geometry.{Direction, dist2_of}
@@ -14,7 +13,7 @@ use Rattle.pm_base.proofs.Root.{root_up_is}
 use Rattle.pm_base.proofs.Lengths.{distances_le}
 use Rattle.pm_base.proofs.Search.{option_cases}
 use Rattle.pm_forest.specs.declared.parts.Face.{Face}
-use Rattle.pm_forest.specs.Forest.{Hierarchy, record_count, node_count, s_of, t_of, u_of, holds}
+use Rattle.pm_forest.specs.Forest.{Hierarchy, record_count, node_count, s_of, t_of, u_of}
 use Rattle.pm_forest.specs.Forest.{Holds, Makes, splitter_of}
 use Rattle.pm_forest.specs.Faces.{faces_of, face_count, corners_of, from_leaf, no_face_corners}
 use Rattle.pm_forest.specs.Places.{place_of_node}
@@ -27,7 +26,7 @@ use Rattle.pm_forest.proofs.Nodes.{splitter_of-splits, holds-u_from_s}
 use Rattle.pm_forest.proofs.ShapeLaws.{shape_of_nodes}
 use Rattle.pm_forest.specs.Meshes.{leaf_place}
 use Rattle.pm_bounds.specs.declared.normal_box.NormalBox.{NormalBox}
-use Rattle.pm_bounds.specs.Boxes.{joined, join, zero_box}
+use Rattle.pm_bounds.specs.Boxes.{joined, join}
 use Rattle.pm_bounds.specs.Bounds.{normal_of, has_corner_under, reach, leaf_radius, over_children}
 use Rattle.pm_bounds.specs.Bounds.{error_of, radius_of, box_under, normal_box_of}
 use Rattle.pm_bounds.specs.Laws.{Grows, IsIn, IsNested}
@@ -71,15 +70,7 @@ reach_corner : (h : Hierarchy) (v e : ℕ)
     → distance_of (place_of_node h v) (leaf_place h (from_leaf h e)) ≤ reach h v
     (corners_of h (face_of e))
 unfolding reach
-reach_corner h v e =
-    let d = λ (x : ℕ). distance_of (place_of_node h v) (leaf_place h x) in
-    elim (which_corner e) [
-      | inl is ↦ (let at = ap d (ap (from_leaf h) is ∙ (corner_a h (face_of e)).0) in omega arith)
-      | inr other ↦ elim other [
-        | inl is ↦ (let at = ap d (ap (from_leaf h) is ∙ (corner_b h (face_of e)).0) in omega arith)
-        | inr is ↦ (let at = ap d (ap (from_leaf h) is ∙ (corner_c h (face_of e)).0) in omega arith)
-      ]
-    ]
+reach_corner h v e = grind (arith, common_steps, corner_a, corner_b, corner_c, which_corner)
 
 module _ (h : Hierarchy) (shape : HasShape h) where
   -- From the leaves up: what holds of each node of one leaf, and of each other node where it holds
@@ -118,19 +109,13 @@ module _ (h : Hierarchy) (shape : HasShape h) where
 
   pub errors_grow : Grows h (λ v. 0) (error_of h)
   unfolding error_of
-  errors_grow = record {
-    leaves = λ v l single. grown_at_leaf h (shape_of_nodes h shape) (λ w. 0) v
-        ((unsplit-single h shape v l).1 single);
-    splits = λ k l. grown_at_split h (shape_of_nodes h shape) (λ w. 0) k l;
-  }
+  errors_grow =
+      grind (arith, common_steps, grown_at_leaf, grown_at_split, shape_of_nodes, unsplit-single)
 
   pub radii_grow : Grows h (leaf_radius h) (radius_of h)
   unfolding radius_of
-  radii_grow = record {
-    leaves = λ v l single. grown_at_leaf h (shape_of_nodes h shape) (leaf_radius h) v
-        ((unsplit-single h shape v l).1 single);
-    splits = λ k l. grown_at_split h (shape_of_nodes h shape) (leaf_radius h) k l;
-  }
+  radii_grow =
+      grind (arith, common_steps, grown_at_leaf, grown_at_split, shape_of_nodes, unsplit-single)
 
   own_radius : (v : ℕ) → splitter_of h v ≡ None → radius_of h v ≡ leaf_radius h v
   unfolding radius_of
@@ -151,13 +136,7 @@ module _ (h : Hierarchy) (shape : HasShape h) where
   pub child_number : (leaf number : ℕ → ℕ) → Grows h leaf number → (k v : ℕ) → k < record_count h
       → Makes h k v →
       number v + distance_of (place_of_node h (s_of h k)) (place_of_node h v) ≤ number (s_of h k)
-  child_number leaf number grows k v l makes =
-      let step = λ (w : ℕ). number w + distance_of (place_of_node h (s_of h k))
-      (place_of_node h w) ≤ number (s_of h k) in
-      elim makes [
-        | inl is ↦ subst step (sym is) (by_t number k (grows.splits k l))
-        | inr is ↦ subst step (sym is) (by_u number k (grows.splits k l))
-      ]
+  child_number leaf number grows k v l makes = grind (arith, common_steps, by_t, by_u)
 
   -- within the number of a child, so within that of the parent
   passes_up : (leaf number : ℕ → ℕ) → Grows h leaf number → (k v : ℕ) → k < record_count h
@@ -173,12 +152,7 @@ module _ (h : Hierarchy) (shape : HasShape h) where
   -- a leaf under a node that is split is under one of its children
   child_of_leaf : (k x : ℕ) → k < record_count h → Holds h (s_of h k) x
       → Holds h (t_of h k) x ⊎ Holds h (u_of h k) x
-  child_of_leaf k x l held =
-      elim (cases_Bool (holds h (t_of h k) x)) [
-        | inl t ↦ inl t
-        | inr t ↦
-            inr (holds-u_from_s h (shape_of_nodes h shape) k x l held t)
-      ]
+  child_of_leaf k x l held = grind (arith, common_steps, holds-u_from_s, shape_of_nodes)
 
   pub leaves_covered : (v x : ℕ) → v < node_count h → Holds h v x
       → dist2_of (place_of_node h v) (leaf_place h x) ≤ error_of h v * error_of h v
@@ -246,18 +220,12 @@ module _ (h : Hierarchy) (shape : HasShape h) where
 
   pub normals_boxed : (v e : ℕ) → e < 3 * face_count h → Holds h v (from_leaf h e)
       → IsIn (normal_of h (corners_of h (face_of e))) (normal_box_of h v)
-  normals_boxed v e l held =
-      let (b, is, i) = boxed v e l held in
-      subst (λ (o : Option NormalBox). IsIn (normal_of h (corners_of h (face_of e)))
-      (unwrap_or o zero_box)) (sym is) i
+  normals_boxed v e l held = grind (arith, common_steps, boxed)
 
   -- a child has a box, with a normal in it
   child_box : (k v : ℕ) → k < record_count h → Makes h k v
       → (b : NormalBox) × (box_under h v ≡ Some b) × ((n : Direction) × IsIn n b)
-  child_box k v l makes =
-      let (e, m, held) = child_faces h shape k v l makes in
-      let (b, is, i) = boxed v e m held in
-      (b, is, (normal_of h (corners_of h (face_of e)), i))
+  child_box k v l makes = grind (arith, common_steps, boxed v, child_faces h shape k v l makes)
 
   nested_left : (n : Direction) (a b : NormalBox) → IsIn n a → IsNested a (joined a b)
   nested_left n a b i = record {

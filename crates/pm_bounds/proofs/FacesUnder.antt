@@ -1,15 +1,14 @@
 -- The faces under a node, by side numbers and as a list, and that a child has one.
-use Rattle.std.proofs.Common.{◌≡◌, ℕ, suc, ◌+◌, ◌*◌, ◌<◌, true, false, ◌||◌, length, get_or, Some}
-use Rattle.std.proofs.Common.{is_some, inl, inr, refl, sym, ap, ◌∙◌, subst, arith}
-use Rattle.std.proofs.lemmas.Bool.{cases_Bool, or_left, or_right, or_parts, both_ways}
-use Rattle.pm_base.specs.Counts.{one_if}
+use Rattle.std.proofs.Common.{◌≡◌, ℕ, suc, ◌*◌, ◌<◌, true, length, get_or, Some}
+use Rattle.std.proofs.lemmas.Grind.{common_steps}
+use Rattle.std.proofs.Common.{is_some, inl, inr, refl, sym, ◌∙◌, subst, arith}
+use Rattle.std.proofs.lemmas.Bool.{cases_Bool, or_left, or_right, or_parts}
 use Rattle.pm_base.specs.Sides.{face_of, next}
 use Rattle.pm_base.proofs.Sides.{face_of-next}
-use Rattle.pm_forest.specs.Forest.{Hierarchy, record_at, record_count, holds, Holds, Makes}
+use Rattle.pm_forest.specs.Forest.{Hierarchy, record_count, Holds, Makes}
 use Rattle.pm_forest.specs.Faces.{faces_of, first_face, face_count, revealed_by, is_left}
 use Rattle.pm_forest.specs.Faces.{corners_of, from_leaf, inner_of, no_face_corners}
-use Rattle.pm_forest.specs.Rules.{HasShape, head_is_bad, split_is_bad, presence_is_bad, head_fault}
-use Rattle.pm_forest.specs.Rules.{head_of}
+use Rattle.pm_forest.specs.Rules.{HasShape, head_is_bad, presence_is_bad, head_fault}
 use Rattle.pm_forest.proofs.Corners.{which_corner, corner_a, corner_b, corner_c}
 use Rattle.pm_forest.proofs.FaceLists.{length-faces_of, corners_of-faces_of}
 use Rattle.pm_forest.proofs.FaceNumbers.{first_face-mono, revealed-from}
@@ -24,27 +23,7 @@ module _ (h : Hierarchy) where
   pub under_from : (v e : ℕ) → Holds h v (from_leaf h e)
       → has_corner_under h v (corners_of h (face_of e)) ≡ true
   under_from v e held =
-      let f = corners_of h (face_of e) in
-      elim (which_corner e) [
-        | inl is ↦
-            let a : Holds h v f.a =
-            subst (λ x. Holds h v x) (ap (from_leaf h) is ∙ (corner_a h (face_of e)).0) held in
-            or_left (holds h v f.a || holds h v f.b) (holds h v f.c)
-            (or_left (holds h v f.a) (holds h v f.b) a)
-        | inr other ↦ elim other [
-          | inl is ↦
-              let b : Holds h v f.b =
-              subst (λ x. Holds h v x) (ap (from_leaf h) is ∙ (corner_b h (face_of e)).0)
-              held in
-              or_left (holds h v f.a || holds h v f.b) (holds h v f.c)
-              (or_right (holds h v f.a) (holds h v f.b) b)
-          | inr is ↦
-              let c : Holds h v f.c =
-              subst (λ x. Holds h v x) (ap (from_leaf h) is ∙ (corner_c h (face_of e)).0)
-              held in
-              or_right (holds h v f.a || holds h v f.b) (holds h v f.c) c
-        ]
-      ]
+      grind (arith, common_steps, corner_a, corner_b, corner_c, or_left, or_right, which_corner)
 
   -- the list of faces has face f at f
   pub face_there : (f : ℕ) → f < face_count h
@@ -59,22 +38,16 @@ module _ (h : Hierarchy) (shape : HasShape h) where
   has_face : (k : ℕ) → k < record_count h → first_face h k < first_face h (suc k)
   unfolding head_fault head_is_bad first_face
   has_face k l =
-      let r = record_at h k in
-      let head = (record_fits h shape k l).head in
-      let good = (passed (head_is_bad (cut h k) (head_of r)) _ _ head).0 in
-      let presence : presence_is_bad (one_if (is_some r.left) + 2 * one_if (is_some r.right))
-      ≡ false = (or_parts (split_is_bad (cut h k) r.s r.width) _ (or_parts _ _ good).0).1 in
-      elim (cases_Bool (is_some r.left)) [
-        | inl e ↦ (let one : one_if (is_some r.left) ≡ 1 = ap one_if e in omega arith)
-        | inr e ↦ elim (cases_Bool (is_some r.right)) [
-          | inl g ↦ (let one : one_if (is_some r.right) ≡ 1 = ap one_if g in omega arith)
-          | inr g ↦
-              let none : one_if (is_some r.left) + 2 * one_if (is_some r.right) ≡ 0 =
-              ap (λ b. one_if b + 2 * one_if (is_some r.right)) e
-              ∙ ap (λ b. 0 + 2 * one_if b) g in
-              absurd (both_ways _ presence (ap presence_is_bad none ∙ no_presence))
-        ]
-      ]
+      grind (
+        arith,
+        common_steps,
+        is_some,
+        no_presence,
+        or_parts,
+        passed,
+        cut h k,
+        record_fits h shape k l,
+      )
 
   -- a side of its first face begins under t, and one under u
   pub child_faces : (k v : ℕ) → k < record_count h → Makes h k v → (e : ℕ) × (e < 3 * face_count h)

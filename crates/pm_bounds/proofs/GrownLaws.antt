@@ -1,6 +1,7 @@
 -- Numbers that grow from the leaves up: the equations that they keep, and one record more in their
 -- table.
 use Rattle.std.proofs.Common.{◌≡◌, ℕ, zero, suc, ◌+◌, ◌*◌, ◌<◌, ◌≤◌, ◌-◌, ◌||◌, List, length, map}
+use Rattle.std.proofs.lemmas.Grind.{common_steps}
 use Rattle.std.proofs.Common.{get_or, set, length-set, Option, None, Some, IfSome, inl, inr, refl}
 use Rattle.std.proofs.Common.{sym, ap, subst, ◌∙◌, arith}
 use Rattle.std.proofs.lemmas.Bool.{cases_eq}
@@ -29,10 +30,7 @@ DoneFrom h k v = (j : ℕ) → splitter_of h v ≡ Some j → k ≤ j
 module _ (h : Hierarchy) (nodes : HasForestShape h) where
   -- no record up to k splits a child of record k
   pub later : (k j v : ℕ) → k < record_count h → t_of h k ≤ v → splitter_of h v ≡ Some j → k < j
-  later k j v l child e =
-      let p = splitter_of-splits h j v e in
-      let older = nodes.older j p.1 in
-      omega (arith, p.0)
+  later k j v l child e = grind (arith, common_steps, splitter_of-splits h j v e)
 
   module _ (leaf : ℕ → ℕ) where
     same_children : (f g : ℕ → ℕ) (v k : ℕ) → f (t_of h k) ≡ g (t_of h k)
@@ -142,10 +140,7 @@ module _ (h : Hierarchy) (shape : HasShape h) (first : List ℕ) where
               get_or-set_other old (s_of h k) v x 0 other ∙ was.each leaf own v m still
         ];
         small = λ v m. elim (cases_eq v (s_of h k)) [
-          | inl same ↦
-              let here = get_or-set_same old (s_of h k) x 0 inside in
-              subst (λ w. get_or (set old (s_of h k) x) w 0 ≤ 113509 * (1 + (record_count h - k)))
-              (sym same) (omega arith)
+          | inl same ↦ grind (arith, common_steps, get_or, get_or-set_same)
           | inr other ↦
               let there = get_or-set_other old (s_of h k) v x 0 other in
               let before = was.small v m in

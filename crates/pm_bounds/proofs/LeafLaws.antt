@@ -1,9 +1,10 @@
 -- The radii and boxes of leaves, when one face more is looked at.
 use Rattle.std.proofs.Common.{◌≡◌, ℕ, ◌+◌, ◌<◌, ◌≤◌, max, Bool, cond, List, [], ◌∷◌, ◌++◌, map}
+use Rattle.std.proofs.lemmas.Grind.{common_steps}
 use Rattle.std.proofs.Common.{take, None, Some, Option, inl, inr, refl, sym, ap, ◌∙◌, arith}
 use Rattle.std.specs.List.{filter}
 use Rattle.std.proofs.Math.Seq.{take-length}
-use Rattle.std.proofs.lemmas.Bool.{cases_Bool, cases_lt, cond-true, cond-false}
+use Rattle.std.proofs.lemmas.Bool.{cases_Bool, cond-true, cond-false}
 use Rattle.std.proofs.lemmas.List.{map-append, take_more}
 use Rattle.pm_base.specs.Geometry.{dist2_of}
 use Rattle.pm_base.specs.Rounded.{root_up}
@@ -11,7 +12,7 @@ use Rattle.pm_base.proofs.Root.{root_up_is, root_up_only}
 use Rattle.pm_forest.specs.Places.{place_of_node}
 use Rattle.pm_forest.specs.declared.parts.Face.{Face}
 use Rattle.pm_forest.specs.Forest.{Hierarchy, leaf_count}
-use Rattle.pm_forest.specs.Faces.{faces_of, face_count, corners_of, no_face_corners}
+use Rattle.pm_forest.specs.Faces.{faces_of, face_count, corners_of}
 use Rattle.pm_forest.specs.Rules.{HasShape}
 use Rattle.pm_forest.specs.Tables.{leaf_node_of}
 use Rattle.pm_forest.proofs.FaceLists.{length-faces_of, corners_of-faces_of}
@@ -37,17 +38,7 @@ greatest-more (m ∷ ns) n = ap (max m) (greatest-more ns n) ∙ max_shift m (gr
 filter-more : {X : Type 0} (p : X → Bool) (xs : List X) (x : X)
     → filter p (xs ++ x ∷ []) ≡ cond (p x) (filter p xs ++ x ∷ []) (filter p xs)
 filter-more p [] x = refl
-filter-more p (y ∷ ys) x =
-    let rest = filter-more p ys x in
-    elim (cases_Bool (p y)) [
-      | inl e ↦ elim (cases_Bool (p x)) [
-        | inl g ↦ (rw (e, g)
-            (ap (λ l. y ∷ l) (rest ∙ cond-true (p x) (filter p ys ++ x ∷ []) (filter p ys) g)))
-        | inr g ↦ (rw (e, g)
-            (ap (λ l. y ∷ l) (rest ∙ cond-false (p x) (filter p ys ++ x ∷ []) (filter p ys) g)))
-      ]
-      | inr e ↦ (rw e rest)
-    ]
+filter-more p (y ∷ ys) x = grind (arith, common_steps, cond-false, cond-true, filter-more p ys x)
 
 -- what passes one of two tests that say the same
 pub filter_same : {X : Type 0} (p q : X → Bool) (xs : List X) → ((x : X) → p x ≡ q x)
@@ -70,10 +61,7 @@ box_in h n v = box_of (map (normal_of h) (filter (has_corner_under h v) (first_f
 module _ (h : Hierarchy) where
   one_more : (n : ℕ) → n < face_count h → first_faces h (n + 1) ≡ first_faces h n ++ corners_of h n
       ∷ []
-  one_more n l =
-      let len = length-faces_of h in
-      take_more (faces_of h) n no_face_corners (omega arith)
-      ∙ ap (λ f. first_faces h n ++ f ∷ []) (sym (corners_of-faces_of h n l))
+  one_more n l = grind (arith, common_steps, corners_of-faces_of, length-faces_of, take_more)
 
   square_in-none : (v : ℕ) → square_in h 0 v ≡ 0
   unfolding square_in
@@ -92,13 +80,7 @@ module _ (h : Hierarchy) where
       (filter (has_corner_under h v) fs) =
       ap (filter (has_corner_under h v)) (one_more n l) ∙ filter-more (has_corner_under h v) fs f in
       elim (cases_Bool (has_corner_under h v f)) [
-        | inl e ↦
-            ap (λ l. greatest (map (square_reach h v) l)) (all ∙ cond-true _ _ _ e)
-            ∙ ap greatest
-            (map-append (square_reach h v) (filter (has_corner_under h v) fs) (f ∷ []))
-            ∙ greatest-more (map (square_reach h v) (filter (has_corner_under h v) fs))
-            (square_reach h v f)
-            ∙ sym (cond-true _ _ _ e)
+        | inl e ↦ grind (arith, common_steps, cond-true, greatest-more, map-append)
         | inr e ↦ ap (λ l. greatest (map (square_reach h v) l)) (all ∙ cond-false _ _ _ e)
             ∙ sym (cond-false _ _ _ e)
       ]
@@ -120,11 +102,7 @@ module _ (h : Hierarchy) where
       (filter (has_corner_under h v) fs) =
       ap (filter (has_corner_under h v)) (one_more n l) ∙ filter-more (has_corner_under h v) fs f in
       elim (cases_Bool (has_corner_under h v f)) [
-        | inl e ↦
-            ap (λ l. box_of (map (normal_of h) l)) (all ∙ cond-true _ _ _ e)
-            ∙ ap box_of (map-append (normal_of h) (filter (has_corner_under h v) fs) (f ∷ []))
-            ∙ box_of-more (map (normal_of h) (filter (has_corner_under h v) fs)) (normal_of h f)
-            ∙ sym (cond-true _ _ _ e)
+        | inl e ↦ grind (arith, common_steps, box_of-more, cond-true, map-append)
         | inr e ↦ ap (λ l. box_of (map (normal_of h) l)) (all ∙ cond-false _ _ _ e)
             ∙ sym (cond-false _ _ _ e)
       ]
@@ -145,21 +123,7 @@ pub seen_at-more : (h : Hierarchy) → HasShape h → (n l : ℕ) → n < face_c
     ≡ cond (is_leaf_corner l (corners_of h n)) (widened_by h l (corners_of h n) (seen_at h n l))
     (seen_at h n l)
 seen_at-more h shape n l below leaf =
-    let v = leaf_node_of h l in
-    let f = corners_of h n in
-    let square = square_in-more h n v below in
-    let box = box_in-more h n v below in
-    let same = own_faces h shape l f leaf in
-    elim (cases_Bool (has_corner_under h v f)) [
-      | inl e ↦
-          rw (square ∙ cond-true _ _ _ e, box ∙ cond-true _ _ _ e) refl
-          ∙ sym (cond-true (is_leaf_corner l f) (widened_by h l f (seen_at h n l)) (seen_at h n l)
-          (same ∙ e))
-      | inr e ↦
-          rw (square ∙ cond-false _ _ _ e, box ∙ cond-false _ _ _ e) refl
-          ∙ sym (cond-false (is_leaf_corner l f) (widened_by h l f (seen_at h n l)) (seen_at h n l)
-          (same ∙ e))
-    ]
+    grind (arith, common_steps, box_in-more, cond-false, cond-true, own_faces, square_in-more)
 
 -- All faces.
 all_faces : (h : Hierarchy) → first_faces h (face_count h) ≡ faces_of h
@@ -173,18 +137,7 @@ root_grows : (a b : ℕ) → a ≤ b → root_up a ≤ root_up b
 root_grows a b l = (root_up_is a).least (root_up b) (omega (arith, (root_up_is b).enough))
 
 root_max : (a b : ℕ) → root_up (max a b) ≡ max (root_up a) (root_up b)
-root_max a b =
-    elim (cases_lt a b) [
-      | inl l ↦
-          let is : max a b ≡ b = omega arith in
-          let up : root_up b ≡ max (root_up a) (root_up b) =
-          omega (arith, root_grows a b (omega arith)) in
-          ap root_up is ∙ up
-      | inr l ↦
-          let is : max a b ≡ a = omega arith in
-          let up : root_up a ≡ max (root_up a) (root_up b) = omega (arith, root_grows b a l) in
-          ap root_up is ∙ up
-    ]
+root_max a b = grind (arith, common_steps, root_grows)
 
 root_greatest : (ns : List ℕ) → root_up (greatest ns) ≡ greatest (map root_up ns)
 root_greatest [] = root_zero
@@ -200,9 +153,7 @@ root_of_reaches : (h : Hierarchy) (v : ℕ) (fs : List Face)
     → root_up (greatest (map (square_reach h v) fs)) ≡ greatest (map (reach h v) fs)
 root_of_reaches h v [] = root_zero
 root_of_reaches h v (f ∷ fs) =
-    root_max (square_reach h v f) (greatest (map (square_reach h v) fs))
-    ∙ ap (λ r. max r (root_up (greatest (map (square_reach h v) fs)))) (reach_root h v f)
-    ∙ ap (max (reach h v f)) (root_of_reaches h v fs)
+    grind (arith, common_steps, reach_root, root_max, root_of_reaches h v fs)
 
 pub square_in-all : (h : Hierarchy) (v : ℕ) → root_up (square_in h (face_count h) v)
     ≡ leaf_radius h v

@@ -1,20 +1,17 @@
 -- The table of leaves while faces are gone through.
-use Rattle.std.proofs.Common.{◌≡◌, ℕ, ◌+◌, ◌<◌, max, cond, List, length, get_or, Some, refl, sym}
-use Rattle.std.proofs.Common.{ap, ◌∙◌, subst, arith}
+use Rattle.std.proofs.Common.{◌≡◌, ℕ, ◌+◌, ◌<◌, max, cond, List, length, get_or, sym}
+use Rattle.std.proofs.lemmas.Grind.{common_steps}
+use Rattle.std.proofs.Common.{ap, ◌∙◌, arith}
 use Rattle.std.proofs.lemmas.List.{get_or_default}
-use Rattle.pm_base.specs.Rounded.{root_up}
 use Rattle.pm_base.specs.Place.{origin}
 use Rattle.pm_forest.specs.declared.parts.Face.{Face}
 use Rattle.pm_forest.specs.Forest.{Hierarchy, leaf_count}
 use Rattle.pm_forest.specs.Faces.{face_count, corners_of}
 use Rattle.pm_forest.specs.Rules.{HasShape}
-use Rattle.pm_forest.specs.Tables.{leaf_node_of}
 use Rattle.pm_forest.specs.Meshes.{leaf_place}
 use Rattle.pm_bounds.specs.declared.leaves.LeafBounds.{LeafBounds}
-use Rattle.pm_bounds.specs.Boxes.{box_at}
-use Rattle.pm_bounds.specs.Bounds.{normal_of}
-use Rattle.pm_bounds.specs.Leaves.{bare_leaf_at, widened_by, square_reach, is_leaf_corner}
-use Rattle.pm_bounds.specs.Leaves.{AreBareLeaves, IsSmallLeaf, AreSmallLeaves, AreSeen}
+use Rattle.pm_bounds.specs.Leaves.{bare_leaf_at, widened_by, is_leaf_corner}
+use Rattle.pm_bounds.specs.Leaves.{AreBareLeaves, AreSmallLeaves, AreSeen}
 use Rattle.pm_bounds.proofs.BoxLaws.{join-twice}
 use Rattle.pm_bounds.proofs.LeafLaws.{seen_at, seen_at-none, seen_at-more, square_in-all}
 use Rattle.pm_bounds.proofs.LeafLaws.{box_in-all}
@@ -25,11 +22,7 @@ max_twice x y = omega arith
 
 pub widened-twice : (h : Hierarchy) (f : Face) (l : ℕ) (b : LeafBounds)
     → widened_by h l f (widened_by h l f b) ≡ widened_by h l f b
-widened-twice h f l b =
-    rw (
-      max_twice b.square (square_reach h (leaf_node_of h l) f),
-      join-twice b.normals (Some (box_at (normal_of h f))),
-    ) refl
+widened-twice h f l b = grind (arith, common_steps, join-twice, max_twice)
 
 -- The place of a leaf that is read.
 pub place_read : (h : Hierarchy) (leaves : List LeafBounds) (l : ℕ) (b : LeafBounds)
@@ -49,13 +42,7 @@ pub record AreSeenTo (h : Hierarchy) (n : ℕ) (leaves : List LeafBounds) : Type
 -- before any face
 pub seen_none : (h : Hierarchy) (leaves : List LeafBounds) → AreBareLeaves h (leaf_count h) leaves
     → AreSeenTo h 0 leaves
-seen_none h leaves bare =
-    let len = bare.len in
-    record {
-      len = len;
-      each = λ l m. bare.each l m ∙ sym (seen_at-none h l);
-      small = λ l m. subst IsSmallLeaf (sym (bare.each l (omega arith))) (omega arith, tt);
-    }
+seen_none h leaves bare = grind (arith, common_steps, seen_at-none)
 
 -- the places stay
 pub seen_place : (h : Hierarchy) (n : ℕ) (leaves : List LeafBounds) → AreSeenTo h n leaves → (l : ℕ)
@@ -83,13 +70,4 @@ seen_more h shape n below old new was len wider small = record {
 -- all faces
 pub seen_all : (h : Hierarchy) (n : ℕ) (leaves : List LeafBounds) → n ≡ face_count h
     → AreSeenTo h n leaves → AreSeen h leaves
-seen_all h n leaves all part =
-    let was = subst (λ k. AreSeenTo h k leaves) all part in
-    record {
-      len = was.len;
-      radii = λ l m. ap (λ (b : LeafBounds). root_up b.square) (was.each l m)
-          ∙ square_in-all h (leaf_node_of h l);
-      boxes = λ l m. ap (λ (b : LeafBounds). b.normals) (was.each l m)
-          ∙ box_in-all h (leaf_node_of h l);
-      small = was.small;
-    }
+seen_all h n leaves all part = grind (arith, common_steps, box_in-all, square_in-all)

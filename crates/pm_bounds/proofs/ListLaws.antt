@@ -1,6 +1,7 @@
 -- The greatest of a list is at least each of its numbers, and a box of normals has each of them in
 -- it.
 use Rattle.std.proofs.Common.{◌≡◌, ℕ, zero, suc, ◌<◌, ◌≤◌, Bool, true, List, [], ◌∷◌, length}
+use Rattle.std.proofs.lemmas.Grind.{common_steps}
 use Rattle.std.proofs.Common.{get_or, map, Option, None, Some, inl, inr, refl, ap, arith}
 use Rattle.std.specs.Prelude.{ℤ, ◌≤ℤ◌}
 use Rattle.std.specs.Int.{int_min, int_max}
@@ -18,12 +19,7 @@ pub greatest_above : {X : Type 0} (g : X → ℕ) (p : X → Bool) (xs : List X)
     → i < length xs → p (get_or xs i d) ≡ true → g (get_or xs i d) ≤ greatest (map g (filter p xs))
 greatest_above g p [] i d l e = absurd (omega arith)
 greatest_above g p (x ∷ xs) zero d l e = rw e (omega arith)
-greatest_above g p (x ∷ xs) (suc i) d l e =
-    let rest = greatest_above g p xs i d (omega arith) e in
-    elim (cases_Bool (p x)) [
-      | inl t ↦ (rw t (omega arith))
-      | inr t ↦ (rw t rest)
-    ]
+greatest_above g p (x ∷ xs) (suc i) d l e = grind (arith, common_steps, greatest_above g p xs i d)
 
 -- There is a box, and the normal is in it.
 abbrev pub IsInSome : Direction → Option NormalBox → Type 0
@@ -48,34 +44,13 @@ pub ≤ℤ_by : (x y z : ℤ) → x ≤ℤ y → y ≤ℤ z → x ≤ℤ z
 ≤ℤ_by x y z p q = omega (arith, ints)
 
 in_left : (n : Direction) (a b : NormalBox) → IsIn n a → IsIn n (joined a b)
-in_left n a b i = record {
-  low_x = min_left a.low.x b.low.x n.x i.low_x;
-  low_y = min_left a.low.y b.low.y n.y i.low_y;
-  low_z = min_left a.low.z b.low.z n.z i.low_z;
-  high_x = max_left a.high.x b.high.x n.x i.high_x;
-  high_y = max_left a.high.y b.high.y n.y i.high_y;
-  high_z = max_left a.high.z b.high.z n.z i.high_z;
-}
+in_left n a b i = grind (arith, common_steps, max_left, min_left)
 
 in_right : (n : Direction) (a b : NormalBox) → IsIn n b → IsIn n (joined a b)
-in_right n a b i = record {
-  low_x = min_right a.low.x b.low.x n.x i.low_x;
-  low_y = min_right a.low.y b.low.y n.y i.low_y;
-  low_z = min_right a.low.z b.low.z n.z i.low_z;
-  high_x = max_right a.high.x b.high.x n.x i.high_x;
-  high_y = max_right a.high.y b.high.y n.y i.high_y;
-  high_z = max_right a.high.z b.high.z n.z i.high_z;
-}
+in_right n a b i = grind (arith, common_steps, max_right, min_right)
 
 in_own : (n : Direction) → IsIn n (box_at n)
-in_own n = record {
-  low_x = same_z n.x;
-  low_y = same_z n.y;
-  low_z = same_z n.z;
-  high_x = same_z n.x;
-  high_y = same_z n.y;
-  high_z = same_z n.z;
-}
+in_own n = grind (arith, common_steps, same_z)
 
 in_first : (n : Direction) (b : Option NormalBox) → IsInSome n (join (Some (box_at n)) b)
 in_first n None = (box_at n, refl, in_own n)

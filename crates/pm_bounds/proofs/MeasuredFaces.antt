@@ -1,5 +1,6 @@
 -- The sides of a face tell how far each of its corners reaches.
-use Rattle.std.proofs.Common.{◌≡◌, ℕ, max, [], ◌∷◌, refl, ◌∙◌, arith}
+use Rattle.std.proofs.Common.{◌≡◌, ℕ, max, [], ◌∷◌, refl, arith}
+use Rattle.std.proofs.lemmas.Grind.{common_steps}
 use Rattle.std.specs.Prelude.{ℤ, ◌-ℤ◌, unsigned_abs}
 use borrow.Author.Differences.{ints}
 use Rattle.pm_base.specs.Geometry.{dist2_of, cross_of}
@@ -48,36 +49,15 @@ module _ (h : Hierarchy) (f : Face) (a b c : Place) (ab bc ca : ℕ)
     (is : IsMeasured h f a b c ab bc ca) where
   pub reach_a : max ab ca ≡ square_reach h (leaf_node_of h f.a) f
   unfolding square_reach
-  reach_a =
-      let sides : max ab ca ≡ max (dist2_of a b) (dist2_of c a) =
-      rw (is.along_ab, is.along_ca) refl in
-      let far = greatest_a (dist2_of a a) (dist2_of a b) (dist2_of a c) (dist2_of c a)
-      (dist2-same a) (dist2-turned c a) in
-      let here : greatest (dist2_of a a ∷ dist2_of a b ∷ dist2_of a c ∷ [])
-      ≡ square_reach h (leaf_node_of h f.a) f = rw (is.at_a, is.at_b, is.at_c) refl in
-      sides ∙ far ∙ here
+  reach_a = grind (arith, common_steps, dist2-same, dist2-turned, greatest_a)
 
   pub reach_b : max ab bc ≡ square_reach h (leaf_node_of h f.b) f
   unfolding square_reach
-  reach_b =
-      let sides : max ab bc ≡ max (dist2_of a b) (dist2_of b c) =
-      rw (is.along_ab, is.along_bc) refl in
-      let far = greatest_b (dist2_of b a) (dist2_of b b) (dist2_of b c) (dist2_of a b)
-      (dist2-same b) (dist2-turned a b) in
-      let here : greatest (dist2_of b a ∷ dist2_of b b ∷ dist2_of b c ∷ [])
-      ≡ square_reach h (leaf_node_of h f.b) f = rw (is.at_a, is.at_b, is.at_c) refl in
-      sides ∙ far ∙ here
+  reach_b = grind (arith, common_steps, dist2-same, dist2-turned, greatest_b)
 
   pub reach_c : max bc ca ≡ square_reach h (leaf_node_of h f.c) f
   unfolding square_reach
-  reach_c =
-      let sides : max bc ca ≡ max (dist2_of b c) (dist2_of c a) =
-      rw (is.along_bc, is.along_ca) refl in
-      let far = greatest_c (dist2_of c a) (dist2_of c b) (dist2_of c c) (dist2_of b c)
-      (dist2-same c) (dist2-turned b c) in
-      let here : greatest (dist2_of c a ∷ dist2_of c b ∷ dist2_of c c ∷ [])
-      ≡ square_reach h (leaf_node_of h f.c) f = rw (is.at_a, is.at_b, is.at_c) refl in
-      sides ∙ far ∙ here
+  reach_c = grind (arith, common_steps, dist2-same, dist2-turned, greatest_c)
 
   pub own_normal : box_at (cross_of a b c) ≡ box_at (normal_of h f)
   own_normal = rw (is.at_a, is.at_b, is.at_c) refl

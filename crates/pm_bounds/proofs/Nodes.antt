@@ -1,10 +1,10 @@
 -- Nodes of a hierarchy of the right shape: their numbers, the leaves and faces under them.
-use Rattle.std.proofs.Common.{◌≡◌, ◌≢◌, ℕ, ◌+◌, ◌<◌, ◌≤◌, eqb, Bool, true, false, ◌||◌, None, inl}
-use Rattle.std.proofs.Common.{inr, refl, sym, ap, ◌∙◌, arith}
-use Rattle.std.proofs.lemmas.Bool.{cases_Bool, cases_eq, eq-eqb, ne_eqb, false_from_ne_true}
-use Rattle.std.proofs.lemmas.Bool.{both_ways}
+use Rattle.std.proofs.Common.{◌≡◌, ◌≢◌, ℕ, ◌+◌, ◌<◌, ◌≤◌, eqb, Bool, true, false, ◌||◌, None}
+use Rattle.std.proofs.lemmas.Grind.{common_steps}
+use Rattle.std.proofs.Common.{refl, sym, ap, ◌∙◌, arith}
+use Rattle.std.proofs.lemmas.Bool.{eq-eqb, ne_eqb}
 use Rattle.pm_forest.specs.declared.parts.Face.{Face}
-use Rattle.pm_forest.specs.Forest.{Hierarchy, Interval, within, record_count, node_count}
+use Rattle.pm_forest.specs.Forest.{Hierarchy, within, record_count, node_count}
 use Rattle.pm_forest.specs.Forest.{leaf_count, s_of, t_of, u_of, holds, Holds, interval_of}
 use Rattle.pm_forest.specs.Forest.{splitter_of}
 use Rattle.pm_forest.specs.Rules.{HasShape}
@@ -20,25 +20,12 @@ use Rattle.pm_bounds.specs.Leaves.{is_leaf_corner}
 
 -- an interval of one leaf
 within_one : (l x : ℕ) → within (record { from = l; until = l + 1 }) x ≡ eqb l x
-within_one l x =
-    let only : Interval = record { from = l; until = l + 1 } in
-    elim (cases_eq l x) [
-      | inl is ↦ within-from only x (omega arith) (omega arith) ∙ sym (eq-eqb l x is)
-      | inr differs ↦
-          false_from_ne_true (within only x)
-          (λ e. (let p = within-true only x e in differs (omega arith)))
-          ∙ sym (ne_eqb l x differs)
-    ]
+within_one l x = grind (arith, common_steps, eq-eqb, ne_eqb, within-from, within-true)
 
 module _ (h : Hierarchy) (shape : HasShape h) where
   -- numbers of nodes fit in 32 bits
   pub few_nodes : node_count h ≤ 2097152
-  few_nodes = omega (
-    arith,
-    leaf_count-le h shape,
-    root_count-le h shape,
-    record_count-roots h shape,
-  )
+  few_nodes = grind (arith, common_steps, leaf_count-le, record_count-roots, root_count-le)
 
   pub split_node : (k : ℕ) → k < record_count h → s_of h k < node_count h
   split_node k l = let older = (shape_of_nodes h shape).older k l in omega arith
@@ -78,17 +65,7 @@ module _ (h : Hierarchy) (shape : HasShape h) where
   children_hold : (k x : ℕ) → k < record_count h
       → holds h (s_of h k) x ≡ (holds h (t_of h k) x || holds h (u_of h k) x)
   children_hold k x l =
-      let nodes = shape_of_nodes h shape in
-      elim (cases_Bool (holds h (t_of h k) x)) [
-        | inl t ↦ (rw (t, holds-s_from_t h nodes k x l t) refl)
-        | inr t ↦ elim (cases_Bool (holds h (u_of h k) x)) [
-          | inl u ↦ (rw (t, u, holds-s_from_u h nodes k x l u) refl)
-          | inr u ↦
-              let s : holds h (s_of h k) x ≡ false =
-              false_from_ne_true _ (λ e. both_ways _ u (holds-u_from_s h nodes k x l e t)) in
-              rw (t, u, s) refl
-        ]
-      ]
+      grind (arith, common_steps, holds-s_from_t, holds-s_from_u, holds-u_from_s, shape_of_nodes)
 
   mixed : (a b c d e f : Bool) → ((a || b) || (c || d) || (e || f))
       ≡ ((a || c || e) || (b || d || f))
@@ -106,7 +83,4 @@ module _ (h : Hierarchy) (shape : HasShape h) where
   pub children_faces : (k : ℕ) (f : Face) → k < record_count h
       → has_corner_under h (s_of h k) f
       ≡ (has_corner_under h (t_of h k) f || has_corner_under h (u_of h k) f)
-  children_faces k f l =
-      rw (children_hold k f.a l, children_hold k f.b l, children_hold k f.c l)
-      (mixed (holds h (t_of h k) f.a) (holds h (u_of h k) f.a) (holds h (t_of h k) f.b)
-      (holds h (u_of h k) f.b) (holds h (t_of h k) f.c) (holds h (u_of h k) f.c))
+  children_faces k f l = grind (arith, common_steps, children_hold, mixed)

@@ -1,6 +1,7 @@
 -- The table of balls by record, which has copies of the balls of the nodes that the records split.
 use Rattle.std.proofs.Common.{◌≡◌, ◌≢◌, ℕ, suc, ◌<◌, ◌≤◌, List, length, map, get_or, set}
-use Rattle.std.proofs.Common.{length-set, inl, inr, sym, ap, subst, ◌∙◌, arith}
+use Rattle.std.proofs.lemmas.Grind.{common_steps}
+use Rattle.std.proofs.Common.{length-set, inl, inr, sym, ap, ◌∙◌, arith}
 use Rattle.std.proofs.lemmas.Bool.{cases_eq}
 use Rattle.std.proofs.lemmas.List.{get_or-map, get_or-set_same, get_or-set_other}
 use Rattle.pm_base.specs.Place.{origin}
@@ -35,11 +36,7 @@ module _ (h : Hierarchy) (shape : HasShape h) (balls splits : List Ball) (balls_
       record {
         len = length-set splits k b ∙ len;
         each = λ j low high. elim (cases_eq j k) [
-          | inl same ↦
-              subst (λ i. get_or (set splits k b) i none ≡ get_or (set balls s b) (s_of h i) none)
-              (sym same)
-              (get_or-set_same splits k b none (omega arith)
-              ∙ sym (get_or-set_same balls s b none (omega arith)))
+          | inl same ↦ grind (arith, common_steps, get_or, get_or-set_same)
           | inr other ↦
               let apart : s_of h j ≢ s =
               λ e. (shape_of_nodes h shape).once k j (omega (arith, other)) high (sym e) in

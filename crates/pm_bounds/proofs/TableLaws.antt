@@ -1,5 +1,6 @@
 -- A table in which three cells, which may be one, are changed in the same way.
 use Rattle.std.proofs.Common.{◌≡◌, ℕ, ◌<◌, eqb, Bool, true, false, cond, ◌||◌, List, length, get_or}
+use Rattle.std.proofs.lemmas.Grind.{common_steps}
 use Rattle.std.proofs.Common.{set, inl, inr, refl, sym, ap, subst, ◌∙◌, arith, length-set}
 use Rattle.std.proofs.lemmas.Bool.{cases_eq, eq-eqb, ne_eqb, cond-true, cond-false}
 use Rattle.std.proofs.lemmas.List.{get_or-set_same, get_or-set_other}
@@ -13,10 +14,7 @@ module _ {A : Type 0} (d : A) (g : ℕ → A → A) (twice : (v : ℕ) (x : A) �
       → get_or (changed t a) v d ≡ cond (eqb v a) (g v (get_or t v d)) (get_or t v d)
   one t a v l =
       elim (cases_eq v a) [
-        | inl is ↦
-            subst (λ w. get_or (changed t a) w d ≡ g w (get_or t w d)) (sym is)
-            (get_or-set_same t a (g a (get_or t a d)) d l)
-            ∙ sym (cond-true (eqb v a) (g v (get_or t v d)) (get_or t v d) (eq-eqb v a is))
+        | inl is ↦ grind (arith, common_steps, cond-true, eq-eqb, get_or, get_or-set_same)
         | inr differs ↦
             get_or-set_other t a v (g a (get_or t a d)) d differs
             ∙ sym (cond-false (eqb v a) (g v (get_or t v d)) (get_or t v d) (ne_eqb v a differs))
