@@ -1,6 +1,7 @@
 -- The table of the first faces of the records.
 use Rattle.std.proofs.Common.{◌≡◌, ℕ, suc, ◌+◌, ◌<◌, ◌≤◌, true, Some, List, [], ◌∷◌, ◌++◌, length}
-use Rattle.std.proofs.Common.{is_some, slice_index_or, inl, inr, refl, sym, ap, ◌∙◌, subst, arith}
+use Rattle.std.proofs.lemmas.Grind.{common_steps}
+use Rattle.std.proofs.Common.{is_some, slice_index_or, inl, inr, refl, ap, ◌∙◌, subst, arith}
 use Rattle.std.proofs.Common.{length-append}
 use Rattle.std.proofs.Math.ListN.{get_or-append}
 use Rattle.std.proofs.Math.Seq.{get_or-append_seam}
@@ -51,11 +52,7 @@ firsts_go_on h k x xs so_far is = record {
   len = length-append xs (x ∷ []) ∙ ap (λ n. n + 1) so_far.len;
   each = λ j l. elim (cases_lt j k) [
     | inl a ↦ get_or-append xs (x ∷ []) 0 j (omega (arith, so_far.len)) ∙ so_far.each j a
-    | inr a ↦
-        let last : j ≡ length xs = omega (arith, so_far.len) in
-        let at : k ≡ length xs = sym so_far.len in
-        ap (λ n. slice_index_or (xs ++ x ∷ []) n 0) last ∙ get_or-append_seam xs x [] 0 ∙ is
-        ∙ ap (first_face h) (at ∙ sym last)
+    | inr a ↦ grind (arith, common_steps, get_or-append_seam, slice_index_or)
   ];
 }
 

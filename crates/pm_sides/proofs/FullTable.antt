@@ -1,5 +1,6 @@
 -- The full front: the records below their number are all of them.
 use Rattle.std.proofs.Common.{◌≡◌, ℕ, ◌*◌, ◌<◌, Bool, true, false, List, Option, replicate, inl}
+use Rattle.std.proofs.lemmas.Grind.{common_steps}
 use Rattle.std.proofs.Common.{inr, refl, sym, ◌∙◌, arith}
 use Rattle.std.proofs.Math.Path.{fun_ext}
 use Rattle.std.proofs.lemmas.List.{get_or-replicate, get_or_past, length-replicate}
@@ -9,7 +10,7 @@ use Rattle.pm_base.proofs.Search.{option_cases}
 use Rattle.pm_forest.specs.Forest.{Hierarchy, record_count}
 use Rattle.pm_forest.specs.Fronts.{below, every}
 use Rattle.pm_base.specs.Counts.{set_of}
-use Rattle.pm_forest.specs.Faces.{face_count, record_of}
+use Rattle.pm_forest.specs.Faces.{face_count}
 use Rattle.pm_forest.specs.Kept.{is_shown}
 use Rattle.pm_forest.specs.Rules.{HasShape}
 use Rattle.pm_forest.proofs.FaceNumbers.{record-lt}
@@ -36,11 +37,7 @@ module _ (h : Hierarchy) (shape : HasShape h) where
 
   pub all-shown : (e : ℕ) → e < 3 * face_count h → is_shown h all e ≡ true
   all-shown e l =
-      elim (option_cases (record_of h e)) [
-        | inl base ↦ shown_base h all e base
-        | inr (k, own) ↦ shown_record h all e k own
-            ∙ lt-ltb k (record_count h) (record-lt h e k l own)
-      ]
+      grind (arith, common_steps, lt-ltb, option_cases, record-lt, shown_base, shown_record)
 
   pub all-stored : NoSideTwice (leaf_net h) → (table : List (Option ℕ)) → AreStored h every table
       → AreStored h all table

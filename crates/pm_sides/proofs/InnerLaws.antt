@@ -1,6 +1,7 @@
 -- The table of the inner sides of the faces.
 use Rattle.std.proofs.Common.{◌≡◌, ℕ, ◌+◌, ◌*◌, ◌<◌, Some, List, [], ◌∷◌, ◌++◌, length}
-use Rattle.std.proofs.Common.{slice_index_or, inl, inr, refl, sym, ap, ◌∙◌, subst, arith}
+use Rattle.std.proofs.lemmas.Grind.{common_steps}
+use Rattle.std.proofs.Common.{slice_index_or, inl, inr, sym, ap, ◌∙◌, subst, arith}
 use Rattle.std.proofs.Common.{length-append}
 use Rattle.std.proofs.Math.ListN.{get_or-append}
 use Rattle.std.proofs.Math.Seq.{get_or-append_seam}
@@ -11,11 +12,7 @@ use Rattle.pm_sides.specs.Tables.{AreInnerCorners, inner_at}
 
 -- One more entry.
 pub inners_none : (h : Hierarchy) → AreInnerCorners h 0 []
-inners_none h = record {
-  len = refl;
-  few = λ f l. absurd (omega arith);
-  each = λ f l. absurd (omega arith);
-}
+inners_none h = grind (arith, common_steps)
 
 pub entry_old : (n x : ℕ) (xs : List ℕ) → length xs ≡ n → (f : ℕ) → f < n
     → slice_index_or (xs ++ x ∷ []) f 0 ≡ slice_index_or xs f 0
@@ -31,17 +28,11 @@ inners_go_on h n x xs so_far few is = record {
   len = length-append xs (x ∷ []) ∙ ap (λ m. m + 1) so_far.len;
   few = λ f l. elim (cases_lt f n) [
     | inl a ↦ subst (λ c. c < 3) (sym (entry_old n x xs so_far.len f a)) (so_far.few f a)
-    | inr a ↦
-        let last : n ≡ f = omega arith in
-        subst (λ g. slice_index_or (xs ++ x ∷ []) g 0 < 3) last
-        (subst (λ c. c < 3) (sym (entry_new n x xs so_far.len)) few)
+    | inr a ↦ grind (arith, common_steps, entry_new, slice_index_or)
   ];
   each = λ f l. elim (cases_lt f n) [
     | inl a ↦ ap (λ c. 3 * f + c) (entry_old n x xs so_far.len f a) ∙ so_far.each f a
-    | inr a ↦
-        let last : n ≡ f = omega arith in
-        subst (λ g. 3 * g + slice_index_or (xs ++ x ∷ []) g 0 ≡ inner_at h g (revealed_by h g)) last
-        (ap (λ c. 3 * n + c) (entry_new n x xs so_far.len) ∙ is)
+    | inr a ↦ grind (arith, common_steps, entry_new, slice_index_or)
   ];
 }
 

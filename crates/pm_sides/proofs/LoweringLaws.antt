@@ -1,14 +1,15 @@
 -- What holds of a hierarchy while it is lowered, from the full front on.
 use Rattle.std.proofs.Common.{◌≡◌, ℕ, suc, ◌-◌, ◌*◌, ◌<◌, Bool, true, false, List, [], ◌∷◌, Option}
+use Rattle.std.proofs.lemmas.Grind.{common_steps}
 use Rattle.std.proofs.Common.{Some, inl, inr, length, replicate, refl, sym, ap, ◌∙◌, subst, arith}
 use Rattle.std.proofs.Math.ListN.{set, length-set}
 use Rattle.std.proofs.lemmas.Bool.{cases_eq, lt-ltb, le-ltb}
 use Rattle.std.proofs.lemmas.List.{length-replicate}
-use Rattle.pm_base.specs.Sides.{face_of, NoSideTwice}
+use Rattle.pm_base.specs.Sides.{NoSideTwice}
 use Rattle.pm_forest.specs.Forest.{Hierarchy, record_count}
 use Rattle.pm_forest.specs.Fronts.{below, every, no_records, without, IsFront}
 use Rattle.pm_base.specs.Counts.{set_of}
-use Rattle.pm_forest.specs.Faces.{face_count, record_of, inner_of}
+use Rattle.pm_forest.specs.Faces.{face_count, record_of}
 use Rattle.pm_forest.specs.Rules.{HasShape}
 use Rattle.pm_forest.proofs.Ancestors.{below-front}
 use Rattle.pm_forest.proofs.ShapeLaws.{shape_of_nodes}
@@ -23,27 +24,15 @@ use Rattle.pm_sides.proofs.FullTable.{set_of-all, all-stored}
 
 pub full_lowered : (h : Hierarchy)
     → IsLoweredTo h (replicate (record_count h) true) (record_count h)
-full_lowered h = record {
-  most = omega arith;
-  front = set_of-all (record_count h);
-  told = λ k a b. absurd (omega arith);
-}
+full_lowered h = grind (arith, common_steps, set_of-all)
 
 module _ (h : Hierarchy) (shape : HasShape h) (once : NoSideTwice (leaf_net h)) (flags : List Bool)
     (left : ℕ) (to : IsLoweredTo h flags left) (len : length flags ≡ record_count h) where
   pub last_told : 0 < left → TellsAll h (set_of flags) (left - 1) → IsAsTold h (left - 1)
-  last_told pos tells =
-      let last : suc (left - 1) ≡ left = omega arith in
-      let T : set_of flags ≡ below (suc (left - 1)) = to.front ∙ ap below (sym last) in
-      (told_found h shape once (left - 1) (omega (arith, to.most))).1
-      (subst (λ (U : ℕ → Bool). TellsAll h U (left - 1)) T tells)
+  last_told pos tells = grind (arith, common_steps, told_found h shape once (left - 1))
 
   pub last_fails : 0 < left → (TellsAll h (set_of flags) (left - 1) → ⊥) → IsAsTold h (left - 1) → ⊥
-  last_fails pos untold told =
-      let last : suc (left - 1) ≡ left = omega arith in
-      let T : set_of flags ≡ below (suc (left - 1)) = to.front ∙ ap below (sym last) in
-      untold (subst (λ (U : ℕ → Bool). TellsAll h U (left - 1)) (sym T)
-      ((told_found h shape once (left - 1) (omega (arith, to.most))).0 told))
+  last_fails pos untold told = grind (arith, common_steps, told_found h shape once (left - 1))
 
   pub lowered : 0 < left → TellsAll h (set_of flags) (left - 1)
       → IsLoweredTo h (set flags (left - 1) false) (left - 1)
@@ -69,15 +58,7 @@ module _ (h : Hierarchy) (shape : HasShape h) (once : NoSideTwice (leaf_net h)) 
 
   pub last_beyond : 0 < left → TellsAll h (set_of flags) (left - 1) → (e : ℕ) → e < 3 * face_count h
       → record_of h e ≡ Some (left - 1) → Beyond h (set_of flags) e (expected h e)
-  last_beyond pos tells e e_lt own =
-      let last : suc (left - 1) ≡ left = omega arith in
-      let T : set_of flags ≡ below (suc (left - 1)) = to.front ∙ ap below (sym last) in
-      let told = last_told pos tells in
-      subst (λ (U : ℕ → Bool). Beyond h U e (expected h e)) (sym T)
-      (elim (cases_eq e (inner_of h (left - 1) (face_of e))) [
-        | inl is ↦ told.1 e e_lt (own, is)
-        | inr other ↦ told.0 e e_lt (own, other)
-      ])
+  last_beyond pos tells e e_lt own = grind (arith, common_steps, last_told)
 
   pub lowered-front : IsFront h (set_of flags)
   lowered-front = subst (IsFront h) (sym to.front) (below-front h (shape_of_nodes h shape) left)
@@ -87,32 +68,20 @@ pub lowering-begins : (h : Hierarchy) → HasShape h → NoSideTwice (leaf_net h
     → (flags : List Bool) (table : List (Option ℕ)) → flags ≡ replicate (record_count h) true →
     AreStored h every table → IsLowering h flags table (record_count h)
 lowering-begins h shape once flags table all_set full =
-    let is : set_of flags ≡ below (record_count h) =
-    ap set_of all_set ∙ set_of-all (record_count h) in
-    record {
-      shape = shape;
-      once = once;
-      flag_len = ap length all_set ∙ length-replicate (record_count h) true;
-      lowered = subst (λ (fs : List Bool). IsLoweredTo h fs (record_count h)) (sym all_set)
-          (full_lowered h);
-      beyond = subst (λ (T : ℕ → Bool). AreStored h T table) (sym is)
-          (all-stored h shape once table full);
-    }
+    grind (arith, common_steps, all-stored, full_lowered, length-replicate, lowered, set_of-all)
 
 pub lowering-goes_on : (h : Hierarchy) (flags : List Bool) (table : List (Option ℕ)) (left : ℕ)
     → IsLowering h flags table left → 0 < left → TellsAll h (set_of flags) (left - 1) →
     (now : List (Option ℕ)) → AreStored h (without (set_of flags) (left - 1)) now
     → IsLowering h (set flags (left - 1) false) now (left - 1)
 lowering-goes_on h flags table left was pos tells now right =
-    let most = was.lowered.most in
-    record {
-      shape = was.shape;
-      once = was.once;
-      flag_len = length-set flags (left - 1) false ∙ was.flag_len;
-      lowered = lowered h was.shape was.once flags left was.lowered was.flag_len pos tells;
-      beyond = subst (λ (T : ℕ → Bool). AreStored h T now)
-          (sym (set_of-clear flags (left - 1) (omega (arith, was.flag_len)))) right;
-    }
+    grind (
+      arith,
+      common_steps,
+      length-set flags (left - 1) false,
+      lowered h was.shape was.once flags left was.lowered was.flag_len pos tells,
+      set_of-clear flags (left - 1),
+    )
 
 -- Once no record is split, no flag is set.
 all_false : (flags : List Bool) → ((j : ℕ) → j < length flags → set_of flags j ≡ false)

@@ -1,14 +1,15 @@
 -- Sides and nodes as the code reads them.
-use Rattle.std.proofs.Common.{◌≡◌, ◌≢◌, ◌<◌, ℕ, ◌+◌, ◌*◌, leb, ltb, true, false, ◌&&◌, inl, inr}
+use Rattle.std.proofs.Common.{◌≡◌, ◌≢◌, ◌<◌, ℕ, ◌+◌, ◌*◌, leb, ltb, true, false, ◌&&◌}
+use Rattle.std.proofs.lemmas.Grind.{common_steps}
 use Rattle.std.proofs.Common.{arith, sym, ap, ◌∙◌}
-use Rattle.std.proofs.lemmas.Bool.{cases_Bool, cond-true, cond-false}
+use Rattle.std.proofs.lemmas.Bool.{cond-true, cond-false}
 use Rattle.pm_forest.proofs.Corners.{corner_a, corner_b, corner_c}
 use Rattle.pm_forest.specs.Rules.{HasShape}
 use Rattle.pm_forest.proofs.ViewLaws.{corner_below}
 use Rattle.pm_sides.specs.Tables.{start_of}
 use Rattle.pm_forest.specs.Forest.{Hierarchy, Interval, record_count, node_count, leaf_count}
-use Rattle.pm_forest.specs.Forest.{interval_of, within, holds, t_of, u_of}
-use Rattle.pm_forest.specs.Faces.{face_count, inner_of, is_left, from_leaf, corners_of}
+use Rattle.pm_forest.specs.Forest.{interval_of, within, holds}
+use Rattle.pm_forest.specs.Faces.{face_count, inner_of, from_leaf, corners_of}
 
 pub holds_at : (h : Hierarchy) (v x : ℕ) (i : Interval) → interval_of h v ≡ i
     → holds h v x ≡ (leb i.from x && ltb x i.until)
@@ -17,11 +18,7 @@ holds_at h v x i e = ap (λ j. within j x) e
 
 -- The inner side of a face is the first that begins under that child.
 pub start_there : (h : Hierarchy) (k f : ℕ) → k < record_count h → start_of h k f < node_count h
-start_there h k f l =
-    elim (cases_Bool (is_left h k f)) [
-      | inl a ↦ (let is = cond-true (is_left h k f) (t_of h k) (u_of h k) a in omega arith)
-      | inr a ↦ (let is = cond-false (is_left h k f) (t_of h k) (u_of h k) a in omega arith)
-    ]
+start_there h k f l = grind (arith, common_steps, cond-false, cond-true)
 
 pub inner_begins : (h : Hierarchy) (k f : ℕ) → holds h (start_of h k f) (corners_of h f).a ≡ true
     → inner_of h k f ≡ 3 * f

@@ -1,6 +1,7 @@
 -- The node that each record splits, and the table of these.
 use Rattle.std.proofs.Common.{◌≡◌, ℕ, ◌+◌, ◌<◌, List, [], ◌∷◌, ◌++◌, slice_index_or, inl, inr, ap}
-use Rattle.std.proofs.Common.{◌∙◌, subst, refl, arith, length-append}
+use Rattle.std.proofs.lemmas.Grind.{common_steps}
+use Rattle.std.proofs.Common.{◌∙◌, refl, arith, length-append}
 use Rattle.std.proofs.lemmas.Bool.{cases_lt}
 use Rattle.pm_forest.specs.Forest.{Hierarchy, node_count, record_at, record_count, s_of}
 use Rattle.pm_forest.specs.Rules.{HasShape}
@@ -27,9 +28,6 @@ splits_go_on h n x xs so_far is = record {
   len = length-append xs (x ∷ []) ∙ ap (λ m. m + 1) so_far.len;
   each = λ k l. elim (cases_lt k n) [
     | inl a ↦ entry_old n x xs so_far.len k a ∙ so_far.each k a
-    | inr a ↦
-        let last : n ≡ k = omega arith in
-        subst (λ j. slice_index_or (xs ++ x ∷ []) j 0 ≡ s_of h j) last (entry_new n x xs so_far.len
-        ∙ is)
+    | inr a ↦ grind (arith, common_steps, entry_new, slice_index_or)
   ];
 }

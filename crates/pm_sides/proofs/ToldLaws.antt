@@ -1,6 +1,6 @@
 -- The sides of a record's faces are gone through, and each is compared with what the record tells.
-use Rattle.std.proofs.Common.{◌≡◌, ℕ, ◌+◌, ◌*◌, ◌<◌, ◌≤◌, Bool, false, refl, ap, ◌∙◌, arith}
-use Rattle.std.proofs.lemmas.Bool.{both_ways}
+use Rattle.std.proofs.Common.{◌≡◌, ℕ, ◌+◌, ◌*◌, ◌<◌, ◌≤◌, Bool, false, arith}
+use Rattle.std.proofs.lemmas.Grind.{common_steps}
 use Rattle.pm_forest.specs.Forest.{Hierarchy, record_count}
 use Rattle.pm_forest.specs.Faces.{first_face}
 use Rattle.pm_beyond.specs.Walks.{beyond_of, expected}
@@ -21,8 +21,4 @@ pub untold : (h : Hierarchy) (T : ℕ → Bool) (k e : ℕ) → k < record_count
     → e < 3 * first_face h (k + 1) →
     same_side (beyond_of h T e) (expected h e) ≡ false → TellsAll h T k → ⊥
 untold h T k e l low high differs tells =
-    let own = corner_of-record h k e l low high in
-    let same = tells e own.0 own.1 in
-    both_ways (same_side (beyond_of h T e) (expected h e)) differs
-    (ap (λ r. same_side r (expected h e)) same
-    ∙ same_side-from (expected h e) (expected h e) refl)
+    grind (arith, common_steps, corner_of-record, same_side-from)
