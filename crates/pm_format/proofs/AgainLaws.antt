@@ -1,5 +1,6 @@
 -- What has no fault is read again from its words.
-use Rattle.std.proofs.Common.{◌≡◌, ℕ, ◌+◌, ◌-◌, ◌*◌, eqb, ℤ, Bool, true, false, ◌&&◌, ◌||◌, not}
+use Rattle.std.proofs.Common.{◌≡◌, ℕ, ◌+◌, ◌-◌, ◌*◌, eqb, ℤ, Bool, true, false, not}
+use Rattle.std.proofs.lemmas.Grind.{common_steps}
 use Rattle.std.proofs.Common.{is_some, List, [], ◌∷◌, ◌++◌, Option, Some, None, Result, Ok, length}
 use Rattle.std.proofs.Common.{refl, sym, ◌∙◌, ap, arith, append_assoc}
 use Rattle.std.specs.List.{flat_map}
@@ -7,7 +8,7 @@ use Rattle.std.specs.Int.{w32, cast_signed, cast_unsigned}
 use Rattle.std.proofs.lemmas.Int.{to_z-of_z, fits_signed_from_abs}
 use Rattle.std.proofs.lemmas.List.{append-nil}
 use Rattle.std.proofs.lemmas.Bool.{leb-true, and_parts, not-false, or_parts}
-use Rattle.pm_base.specs.Place.{Place, is_place, is_coordinate, place_of}
+use Rattle.pm_base.specs.Place.{Place, is_place, is_coordinate}
 use Rattle.pm_base.specs.Counts.{one_if}
 use Rattle.pm_forest.specs.declared.parts.Counts.{Counts}
 use Rattle.pm_forest.specs.declared.parts.Root.{Root}
@@ -18,7 +19,7 @@ use Rattle.pm_forest.specs.declared.parts.Record.{Record}
 use Rattle.pm_forest.specs.declared.parts.Shape.{Shape}
 use Rattle.pm_forest.specs.declared.parts.Unfinished.{Unfinished}
 use Rattle.pm_forest.specs.Forest.{Hierarchy}
-use Rattle.pm_forest.specs.Rules.{AllFit, root_fault, base_fault, split_is_bad, presence_is_bad}
+use Rattle.pm_forest.specs.Rules.{AllFit, root_fault, base_fault, presence_is_bad}
 use Rattle.pm_forest.specs.Rules.{head_is_bad, head_fault, bare, with_record, head_of, face_fault}
 use Rattle.pm_forest.specs.Rules.{record_fault, record_fault_after}
 use Rattle.pm_forest.specs.Shaping.{started, with_face, unfinished}
@@ -43,15 +44,7 @@ record PlaceAgain (p : Place) : Type 0 where
   z : cast_signed w32 (cast_unsigned w32 p.z) ≡ p.z
 
 place_again : (p : Place) → is_place p ≡ true → PlaceAgain p
-place_again p is =
-    let two = and_parts (is_coordinate p.x && is_coordinate p.y) (is_coordinate p.z) is in
-    let one = and_parts (is_coordinate p.x) (is_coordinate p.y) two.0 in
-    record {
-      x = coordinate_again p.x one.0;
-      y = coordinate_again p.y one.1;
-      z =
-          coordinate_again p.z two.1;
-    }
+place_again p is = grind (arith, common_steps, and_parts, coordinate_again)
 
 -- One unit
 
@@ -62,16 +55,7 @@ fitting_none fault o u is fits = rw (is, fits) refl
 
 root_again : (r : Root) (rest : List ℕ) → is_place r.place ≡ true
     → root_at (root_words r ++ rest) ≡ Some (r, rest)
-root_again r rest is =
-    let p = place_again r.place is in
-    λ j. Some (
-      record {
-        place = record { x = p.x j; y = p.y j; z = p.z j };
-        width = r.width;
-        input = r.input;
-      },
-      rest,
-    )
+root_again r rest is = grind (arith, common_steps, place_again)
 
 pub root_place : (c : Counts) (before : List Root) (r : Root) → root_fault c before r ≡ None →
     is_place r.place ≡ true
@@ -80,21 +64,7 @@ root_place c before r fits = not-false _ (passed (not (is_place r.place)) _ _ fi
 
 head_again : (r : Record) (rest : List ℕ) → is_place r.t.place ≡ true → is_place r.u.place ≡ true →
     head_at (head_words r ++ rest) ≡ Some (head_of r, rest)
-head_again r rest t_is u_is =
-    let t = place_again r.t.place t_is in
-    let u = place_again r.u.place u_is in
-    λ j. Some (
-      record {
-        s = r.s;
-        width = r.width;
-        t = t.x j ∷ t.y j ∷ t.z j ∷ [];
-        t_input = r.t.input;
-        u = u.x j ∷ u.y j ∷ u.z j ∷ [];
-        u_input = r.u.input;
-        presence = one_if (is_some r.left) + 2 * one_if (is_some r.right);
-      },
-      rest,
-    )
+head_again r rest t_is u_is = grind (arith, common_steps, is_some, place_again)
 
 -- What a head without fault has.
 pub record HeadFits (r : Record) : Type 0 where
@@ -104,26 +74,13 @@ pub record HeadFits (r : Record) : Type 0 where
 
 pub head_fits : (h : Hierarchy) (r : Record) → head_fault h (head_of r) ≡ None → HeadFits r
 unfolding head_fault head_is_bad
-head_fits h r fits =
-    let d = head_of r in
-    let tested = (passed (head_is_bad h d) _ _ fits).0 in
-    let two = or_parts (split_is_bad h d.s d.width || presence_is_bad d.presence) _ tested in
-    let one = or_parts (split_is_bad h d.s d.width) (presence_is_bad d.presence) two.0 in
-    let places =
-    and_parts (is_place (place_of d.t)) (is_place (place_of d.u)) (not-false _ two.1) in
-    record { t = places.0; u = places.1; some = one.1 }
+head_fits h r fits = grind (arith, common_steps, and_parts, not-false, or_parts, passed)
 
 face_again : (h : Hierarchy) (p : Unfinished) (n : NewFace) (rest : List ℕ) →
     face_fault (with_record h p.split) p.left_due (Some n) ≡ None →
     face_after h p (new_face_words (Some n) ++ rest) ≡ Ok (with_face p n, rest)
 unfolding face_after
-face_again h p n rest fits =
-    let first = side_of-word n.first in
-    let second = side_of-word n.second in
-    rw fits (λ j. Ok (
-      with_face p (record { face = n.face; first = first j; second = second j }),
-      rest,
-    ))
+face_again h p n rest fits = grind (arith, common_steps, side_of-word)
 
 -- The faces of a record
 
@@ -205,13 +162,12 @@ module _ {X : Type 0} (fault : List X → X → Option Shape) (words : X → Lis
   units_again read again before [] rest all =
       ap (λ (l : List X). Ok (l, rest)) (sym (append-nil before))
   units_again read again before (x ∷ xs) rest all =
-      let mid = flat_map words xs ++ rest in
-      let one : read before (flat_map words (x ∷ xs) ++ rest) ≡ Ok (x, mid) =
-      ap (read before) (append_assoc (words x) (flat_map words xs) rest)
-      ∙ again before x mid all.0 in
-      ap (then_read (λ (u : X × List ℕ). units_at read (length xs) (before ++ u.0 ∷ []) u.1)) one
-      ∙ units_again read again (before ++ x ∷ []) xs rest all.1
-      ∙ ap (λ (l : List X). Ok (l, rest)) (append_assoc before (x ∷ []) xs)
+      grind (
+        arith,
+        common_steps,
+        append_assoc,
+        units_again read again (before ++ x ∷ []) xs rest all.1,
+      )
 
 pub roots_again : (c : Counts) → ReadsAgain (root_after c) (root_fault c) root_words
 roots_again c before r rest fits =

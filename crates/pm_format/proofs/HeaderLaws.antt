@@ -1,9 +1,9 @@
 -- The header of a text, whose bytes come in pieces.
 use Rattle.std.proofs.Common.{◌≡◌, ◌⊎◌, ℕ, ◌+◌, ◌*◌, ◌^◌, ◌≤◌, true, false, List, [], ◌∷◌, ◌++◌, Ok}
+use Rattle.std.proofs.lemmas.Grind.{common_steps}
 use Rattle.std.proofs.Common.{Err, length, take, drop, inl, inr, refl, sym, ◌∙◌, ap, subst, arith}
 use Rattle.std.proofs.Common.{length-append, append_assoc}
 use Rattle.std.proofs.Math.Seq.{take-add}
-use Rattle.std.proofs.lemmas.Bool.{cases_lt}
 use Rattle.std.proofs.lemmas.List.{length-take-le, nil_from_length}
 use Rattle.pm_forest.specs.declared.parts.Counts.{Counts}
 use Rattle.pm_forest.specs.declared.parts.Shape.{Shape}
@@ -49,19 +49,13 @@ unfolding forest_at
 counts_refused bytes ws rest c e same good is (inl memory) =
     inl (ap (λ f. named 0 (stops.Fault f)) memory.0)
 counts_refused bytes ws rest c e same good is (inr bad) =
-    subst (λ f. HasFaultAlready bytes (named 0 (stops.Fault f))) (sym bad.0)
-    (stop_refused bytes 0 (stops.Fault shapes.BadCount) good (ap forest_at (sym same)
-    ∙ rw (is, bad.1) refl) (λ e. absurd cc))
+    grind (arith, common_steps, stop_refused bytes 0 (stops.Fault shapes.BadCount) good)
 
 -- What it makes of a decoder
 
 pub header_begins : (bytes ws : List ℕ) → ws ≡ words_of bytes → magic_is_bad bytes ≡ false
     → header_at ws ≡ Err stops.End → BeginsHeader bytes bytes
-header_begins bytes ws same good is = record {
-  same = refl;
-  good = good;
-  ends = ap header_at (sym same) ∙ is;
-}
+header_begins bytes ws same good is = grind (arith, common_steps)
 
 -- The magic stands where there is a word.
 magic_on : (bytes : List ℕ) → 4 ≤ length bytes → magic_is_bad bytes ≡ false → (more : List ℕ)
@@ -137,14 +131,7 @@ pub header_goes_on : (bytes held piece kept rest none left : List ℕ) (n m digi
     → StandsAfter (bytes ++ take (n + m) piece) stage left
 header_goes_on bytes held piece kept rest none left n m digits s stage b is empty after judged
     stands =
-    let all : bytes ++ take (n + m) piece ≡ kept ++ take m rest =
-    ap (λ (l : List ℕ). bytes ++ l) (take-add n m piece)
-    ∙ sym (append_assoc bytes (take n piece) (take m (drop n piece)))
-    ∙ ap (λ (l : List ℕ). (l ++ take n piece) ++ take m (drop n piece)) b.same
-    ∙ ap (λ (l : List ℕ). l ++ take m (drop n piece)) (sym is)
-    ∙ ap (λ (l : List ℕ). kept ++ take m l) (sym after) in
-    subst (λ (l : List ℕ). StandsAfter l stage left) (sym all)
-    (stands kept (subst (λ (l : List ℕ). GoesOn kept digits s l) (sym empty) judged.0))
+    grind (arith, common_steps, append_assoc, take-add)
 
 pub header_sound : (held piece kept none left : List ℕ) (n m digits : ℕ) (s : Shaping)
     (stage : Stage) → kept ≡ held ++ take n piece → n ≤ length piece → none ≡ []
@@ -153,12 +140,7 @@ pub header_sound : (held piece kept none left : List ℕ) (n m digits : ℕ) (s 
     → IsSoundDecoding stage left (taken + m))
     → IsSoundDecoding stage left (length held + (n + m))
 header_sound held piece kept none left n m digits s stage is within empty judged sound =
-    let len : length kept ≡ length held + n =
-    ap (λ (l : List ℕ). length l) is
-    ∙ omega (arith, length-append held (take n piece), length-take-le n piece within) in
-    subst (λ (k : ℕ). IsSoundDecoding stage left k) (omega (arith, len))
-    (sound (length kept)
-    (omega (arith, judged.2, judged.3, ap (λ (l : List ℕ). length l) empty)))
+    grind (arith, common_steps, length-append, length-take-le)
 
 -- The header isn't whole, or is refused.
 pub header_stays : (bytes held piece kept : List ℕ) (n : ℕ) (stage : Stage)
@@ -198,17 +180,7 @@ pub header_short : (held piece kept : List ℕ) (n : ℕ) (stage : Stage) → ke
     → ((s : Shaping) (d : ℕ) → stage ≡ stages.Units s d → ⊥) → JudgesHeader kept stage
     → IsSoundDecoding stage kept (length held + n)
 header_short held piece kept n stages.Header is within_piece short other j =
-    let len : length kept ≡ length held + n =
-    ap (λ (l : List ℕ). length l) is
-    ∙ omega (arith, length-append held (take n piece), length-take-le n piece within_piece) in (
-      elim (cases_lt (length kept) (header_bytes kept)) [
-        | inl l ↦ l
-        | inr r ↦
-            absurd (not_begun kept (omega (arith, r, short)) j.ends)
-      ],
-      sym len,
-      omega (arith, len, short, (within kept).1),
-    )
+    grind (arith, common_steps, length-append, length-take-le, not_begun, within)
 header_short held piece kept n (stages.Units s d) is within short other j = absurd (other s d refl)
 header_short held piece kept n (stages.Whole h d) is within short other j = absurd j
 header_short held piece kept n (stages.Refused e) is within short other j = tt

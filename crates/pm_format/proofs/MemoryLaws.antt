@@ -1,11 +1,11 @@
 -- No bytes of a text want memory: only a shaper does, when it starts.
-use Rattle.std.proofs.Common.{◌≡◌, ℕ, zero, suc, ◌+◌, ◌-◌, Bool, true, false, not, cond, eqb, ltb}
+use Rattle.std.proofs.Common.{◌≡◌, ℕ, zero, suc, ◌+◌, ◌-◌, Bool, true, false, cond, eqb, ltb, arith}
+use Rattle.std.proofs.lemmas.Grind.{common_steps}
 use Rattle.std.proofs.Common.{◌||◌, List, [], ◌∷◌, ◌++◌, length, Option, Some, None, Result, Ok}
 use Rattle.std.proofs.Common.{Err, refl, subst}
-use Rattle.std.specs.Prelude.{nat_lt, sum}
-use Rattle.pm_base.specs.Place.{is_place}
+use Rattle.std.specs.Prelude.{nat_lt}
 use Rattle.pm_forest.specs.declared.parts.Record.{Record}
-use Rattle.pm_forest.specs.Forest.{widths_of, interval_of, leaf_count, record_count}
+use Rattle.pm_forest.specs.Forest.{record_count}
 use Rattle.pm_forest.specs.Faces.{faces_of, face_count}
 use Rattle.pm_forest.specs.declared.parts.Counts.{Counts}
 use Rattle.pm_forest.specs.declared.parts.Root.{Root}
@@ -15,12 +15,12 @@ use Rattle.pm_forest.specs.declared.parts.Shape.{Shape}
 use Rattle.pm_forest.specs.declared.parts.Shape.TheVariants as shapes
 use Rattle.pm_forest.specs.declared.parts.Unfinished.{Unfinished}
 use Rattle.pm_forest.specs.Forest.{Hierarchy}
-use Rattle.pm_forest.specs.Rules.{root_inputs, node_inputs, face_inputs, width_is_bad}
-use Rattle.pm_forest.specs.Rules.{vertex_input_is_bad, face_input_is_bad, root_fault, base_is_bad}
-use Rattle.pm_forest.specs.Rules.{base_fault, fields_before, head_is_bad, head_fault}
-use Rattle.pm_forest.specs.Rules.{children_fault, new_face_is_bad, new_face_fault, field_of}
+use Rattle.pm_forest.specs.Rules.{face_inputs}
+use Rattle.pm_forest.specs.Rules.{face_input_is_bad, root_fault, base_is_bad}
+use Rattle.pm_forest.specs.Rules.{base_fault, head_is_bad, head_fault}
+use Rattle.pm_forest.specs.Rules.{children_fault, new_face_fault, field_of}
 use Rattle.pm_forest.specs.Rules.{past_from, past_fault, with_record}
-use Rattle.pm_forest.specs.Shaping.{Shaping, started, with_face, next_face}
+use Rattle.pm_forest.specs.Shaping.{Shaping, started}
 use Rattle.pm_format.specs.declared.fault.FormatError.{FormatError}
 use Rattle.pm_format.specs.declared.fault.FormatError.TheVariants as faults
 use Rattle.pm_format.specs.declared.stage.Stage.{Stage}
@@ -29,7 +29,7 @@ use Rattle.pm_format.specs.declared.stop.Stop.{Stop}
 use Rattle.pm_format.specs.declared.stop.Stop.TheVariants as stops
 use Rattle.pm_format.specs.Words.{words_of}
 use Rattle.pm_format.specs.Reading.{then_read, whole, judged, fitting, root_at, base_at, head_at}
-use Rattle.pm_format.specs.Reading.{FaceUnit, new_face_at, counts_at, units_at, root_after}
+use Rattle.pm_format.specs.Reading.{counts_at, units_at, root_after}
 use Rattle.pm_format.specs.Reading.{base_after, face_after, face_if, faces_after, record_after}
 use Rattle.pm_format.specs.Reading.{record_after_all, told_digits, digits_at, header_at}
 use Rattle.pm_format.specs.Faults.{named}
@@ -72,13 +72,7 @@ two_rules false false a b first second = refl
 
 root_rule : (c : Counts) (before : List Root) (r : Root) → is_rule (root_fault c before r) ≡ true
 unfolding root_fault
-root_rule c before r =
-    let n = length before in
-    let wide = width_is_bad c (sum (widths_of before)) n r.width in
-    let input = vertex_input_is_bad c.leaves (root_inputs before) r.width r.input in
-    either (not (is_place r.place)) (Some (shapes.BadRoot n))
-    (cond wide (Some (shapes.BadRoot n)) (cond input (Some (shapes.BadInput n)) None)) refl
-    (two_rules wide input (shapes.BadRoot n) (shapes.BadInput n) refl refl)
+root_rule c before r = grind (arith, common_steps, either, two_rules)
 
 base_rule : (roots : List Root) (before : List Face) (f : Face)
     → is_rule (base_fault roots before f) ≡ true
@@ -89,12 +83,7 @@ base_rule roots before f =
 
 children_rule : (h : Hierarchy) (d : Head) → is_rule (children_fault h d) ≡ true
 unfolding children_fault
-children_rule h d =
-    let leaves = interval_of h d.s in
-    two_rules (vertex_input_is_bad (leaf_count h) (node_inputs h) d.width d.t_input)
-    (vertex_input_is_bad (leaf_count h) (node_inputs h ++ d.t_input ∷ [])
-    (leaves.until - leaves.from - d.width) d.u_input)
-    (shapes.BadInput (fields_before h)) (shapes.BadInput (fields_before h + 1)) refl refl
+children_rule h d = grind (arith, common_steps, two_rules)
 
 head_rule : (h : Hierarchy) (d : Head) → is_rule (head_fault h d) ≡ true
 unfolding head_fault
@@ -105,10 +94,7 @@ head_rule h d =
 new_face_rule : (h : Hierarchy) (left : Bool) (f : Face) (first second : ℕ)
     → is_rule (new_face_fault h left f first second) ≡ true
 unfolding new_face_fault
-new_face_rule h left f first second =
-    two_rules (new_face_is_bad h left f first second)
-    (face_input_is_bad (face_inputs (faces_of h)) f.input)
-    (shapes.BadRecord (record_count h - 1)) (shapes.BadInput (fields_before h)) refl refl
+new_face_rule h left f first second = grind (arith, common_steps, two_rules)
 
 past_rule_from : (h : Hierarchy) (f : ℕ) (faces : List Face) → is_rule (past_from h f faces) ≡ true
 past_rule_from h f [] = refl
@@ -154,14 +140,7 @@ units_told read each (suc n) before ws =
 face_told : (h : Hierarchy) (p : Unfinished) (ws : List ℕ) → reads_or_told (face_after h p ws)
     ≡ true
 unfolding face_after
-face_told h p ws =
-    let fault : FaceUnit → Option Shape =
-    λ f. new_face_fault (with_record h p.split) p.left_due f.face f.first f.second in
-    let next : FaceUnit × List ℕ → Result (Unfinished × List ℕ) Stop =
-    λ f. Ok (with_face p (next_face f.0.face f.0.first f.0.second), f.1) in
-    then_told next (fitting fault (new_face_at ws))
-    (fitting_told fault (new_face_at ws)
-    (λ f. new_face_rule (with_record h p.split) p.left_due f.face f.first f.second)) (λ f. refl)
+face_told h p ws = grind (arith, common_steps, fitting_told, new_face_rule, then_told)
 
 face_if_told : (due : Bool) (h : Hierarchy) (p : Unfinished) (ws : List ℕ)
     → reads_or_told (face_if due h p ws) ≡ true

@@ -1,10 +1,10 @@
 -- What a record is read from, its head and then its faces, is spelled so, and none of it has a
 -- fault.
-use Rattle.std.proofs.Common.{◌≡◌, inl, inr, ℕ, ◌+◌, ◌*◌, eqb, ltb, Bool, true, false, ◌||◌, not}
+use Rattle.std.proofs.Common.{◌≡◌, ℕ, ◌+◌, ◌*◌, eqb, Bool, true, false, ◌||◌, not}
+use Rattle.std.proofs.lemmas.Grind.{common_steps}
 use Rattle.std.proofs.Common.{is_some, List, [], ◌∷◌, ◌++◌, Some, None, Ok, refl, sym, ◌∙◌, ap}
 use Rattle.std.proofs.Common.{subst, arith}
-use Rattle.std.specs.Int.{w32}
-use Rattle.std.proofs.lemmas.Bool.{eqb-false, ltb-false, or_parts, cases_eq, eq-eqb, ne_eqb}
+use Rattle.std.proofs.lemmas.Bool.{eqb-false, ltb-false, or_parts, eq-eqb, ne_eqb}
 use Rattle.std.proofs.lemmas.Option.{same_Some}
 use Rattle.std.proofs.lemmas.Int.{of_z-to_z}
 use Rattle.pm_base.specs.Counts.{one_if}
@@ -16,9 +16,9 @@ use Rattle.pm_forest.specs.declared.parts.Record.{Record}
 use Rattle.pm_forest.specs.declared.parts.Unfinished.{Unfinished}
 use Rattle.pm_forest.specs.Forest.{Hierarchy}
 use Rattle.pm_forest.specs.Rules.{split_is_bad, presence_is_bad, head_is_bad, head_fault}
-use Rattle.pm_forest.specs.Rules.{new_face_fault, bare, left_only, with_record, head_with, head_of}
+use Rattle.pm_forest.specs.Rules.{bare, left_only, with_record, head_with, head_of}
 use Rattle.pm_forest.specs.Rules.{face_fault, record_fault, record_fault_after}
-use Rattle.pm_forest.specs.Shaping.{started, next_face, with_face, unfinished}
+use Rattle.pm_forest.specs.Shaping.{started, with_face, unfinished}
 use Rattle.pm_forest.proofs.UnitLaws.{passed}
 use Rattle.pm_forest.proofs.FacesTaken.{word_of-side}
 use Rattle.pm_format.specs.Words.{AreWords}
@@ -48,23 +48,7 @@ record HeadTakes (ws : List ℕ) (d : Head) (rest : List ℕ) : Type 0 where
 head_takes : (ws : List ℕ) (u : Head × List ℕ) → AreWords ws → head_at ws ≡ Some u
     → HeadTakes ws u.0 u.1
 head_takes (s ∷ w ∷ tx ∷ ty ∷ tz ∷ ti ∷ ux ∷ uy ∷ uz ∷ ui ∷ p ∷ ws) u fit is =
-    let t = fit.1.1 in
-    let at_tx = sym (of_z-to_z w32 tx t.0) in
-    let at_ty = sym (of_z-to_z w32 ty t.1.0) in
-    let at_tz = sym (of_z-to_z w32 tz t.1.1.0) in
-    let n = t.1.1.1.1 in
-    let at_ux = sym (of_z-to_z w32 ux n.0) in
-    let at_uy = sym (of_z-to_z w32 uy n.1.0) in
-    let at_uz = sym (of_z-to_z w32 uz n.1.1.0) in
-    let all = s ∷ w ∷ tx ∷ ty ∷ tz ∷ ti ∷ ux ∷ uy ∷ uz ∷ ui ∷ p ∷ ws in
-    subst (λ (v : Head × List ℕ). HeadTakes all v.0 v.1) (same_Some _ _ is) (record {
-      whole = refl;
-      takes = record {
-        parts = λ j. s ∷ w ∷ at_tx j ∷ at_ty j ∷ at_tz j ∷ ti ∷ at_ux j ∷ at_uy j ∷ at_uz j ∷ ui ∷ p
-            ∷ ws;
-        rest_fits = n.1.1.1.1.1;
-      };
-    })
+    grind (arith, common_steps, of_z-to_z, same_Some)
 head_takes [] u fit is = absurd cc
 head_takes (s ∷ []) u fit is = absurd cc
 head_takes (s ∷ w ∷ []) u fit is = absurd cc
@@ -79,17 +63,7 @@ head_takes (s ∷ w ∷ tx ∷ ty ∷ tz ∷ ti ∷ ux ∷ uy ∷ uz ∷ ui ∷ 
 
 presence_fits : (p : ℕ) → presence_is_bad p ≡ false
     → p ≡ one_if (not (eqb p 2)) + 2 * one_if (not (eqb p 1))
-presence_fits p fit =
-    let parts = or_parts (eqb p 0) (ltb 3 p) fit in
-    let some = eqb-false p 0 parts.0 in
-    let most = ltb-false 3 p parts.1 in
-    elim (cases_eq p 1) [
-      | inl one ↦ (rw (eq-eqb p 1 one, ne_eqb p 2 (omega arith)) one)
-      | inr not_one ↦ elim (cases_eq p 2) [
-        | inl two ↦ (rw (ne_eqb p 1 not_one, eq-eqb p 2 two) two)
-        | inr not_two ↦ (rw (ne_eqb p 1 not_one, ne_eqb p 2 not_two) (omega arith))
-      ]
-    ]
+presence_fits p fit = grind (arith, common_steps, eq-eqb, eqb-false, ltb-false, ne_eqb, or_parts)
 
 -- a head without fault says by its last word which faces follow
 pub head_presence : (h : Hierarchy) (d : Head) → head_fault h d ≡ None →
@@ -108,10 +82,7 @@ record UnitTakes (ws : List ℕ) (u : FaceUnit) (rest : List ℕ) : Type 0 where
 
 unit_takes : (ws : List ℕ) (u : FaceUnit × List ℕ) → AreWords ws → new_face_at ws ≡ Some u
     → UnitTakes ws u.0 u.1
-unit_takes (a ∷ b ∷ c ∷ i ∷ m ∷ n ∷ ws) u fit is =
-    subst (λ (v : FaceUnit × List ℕ). UnitTakes (a ∷ b ∷ c ∷ i ∷ m ∷ n ∷ ws) v.0 v.1)
-    (same_Some _ _ is)
-    (record { takes = record { parts = refl; rest_fits = fit.1.1.1.1.1.1 } })
+unit_takes (a ∷ b ∷ c ∷ i ∷ m ∷ n ∷ ws) u fit is = grind (arith, common_steps, same_Some)
 unit_takes [] u fit is = absurd cc
 unit_takes (a ∷ []) u fit is = absurd cc
 unit_takes (a ∷ b ∷ []) u fit is = absurd cc
@@ -131,22 +102,7 @@ face_takes : (h : Hierarchy) (p : Unfinished) (ws : List ℕ) (q : Unfinished ×
     face_after h p ws ≡ Ok q → FaceTakes h p ws q.0 q.1
 unfolding face_after
 face_takes h p ws q fit is =
-    let fault = λ (f : FaceUnit). new_face_fault (with_record h p.split) p.left_due f.face f.first
-    f.second in
-    then_read_ok _ (fitting fault (new_face_at ws)) q is (λ f was then_is.
-    let g = fitting_ok fault (new_face_at ws) f was in
-    let n : NewFace = next_face f.0.face f.0.first f.0.second in
-    let first = word_of-side f.0.first in
-    let second = word_of-side f.0.second in
-    let unit = (unit_takes ws f fit g.0).takes in
-    subst (λ (v : Unfinished × List ℕ). FaceTakes h p ws v.0 v.1) (same_Ok _ _ then_is) (record {
-      face = n;
-      is = refl;
-      fits = (λ j. new_face_fault (with_record h p.split) p.left_due f.0.face (first j) (second j))
-          ∙ g.1;
-      takes = subst (λ (l : List ℕ). Takes ws (base_words f.0.face ++ l) f.1)
-          (λ j. sym first j ∷ sym second j ∷ []) unit;
-    }))
+    grind (arith, common_steps, Takes, fitting_ok, same_Ok, then_read_ok, unit_takes, word_of-side)
 
 -- The faces of a record
 
@@ -164,16 +120,7 @@ faces_take : (h : Hierarchy) (r : Record) (left right : Bool) (ws : List ℕ) (q
     AreWords ws → faces_after h (unfinished left right (bare r)) ws ≡ Ok q →
     FacesTake h r left right ws q.0.split q.1
 unfolding faces_after
-faces_take h r false false ws q fit is =
-    subst (λ (v : Unfinished × List ℕ). FacesTake h r false false ws v.0.split v.1) (same_Ok _ _ is)
-    (record {
-      same = refl;
-      has_left = refl;
-      has_right = refl;
-      left_fits = refl;
-      right_fits = refl;
-      takes = record { parts = refl; rest_fits = fit };
-    })
+faces_take h r false false ws q fit is = grind (arith, common_steps, same_Ok)
 faces_take h r true false ws q fit is =
     then_read_ok _ (face_after h (unfinished true false (bare r)) ws) q is (λ p was then_is.
     let t = face_takes h (unfinished true false (bare r)) ws p fit was in
@@ -190,15 +137,7 @@ faces_take h r true false ws q fit is =
       takes = t.takes;
     }))
 faces_take h r false true ws q fit is =
-    let t = face_takes h (unfinished false true (bare r)) ws q fit is in
-    subst (λ (v : Unfinished). FacesTake h r false true ws v.split q.1) (sym t.is) (record {
-      same = refl;
-      has_left = refl;
-      has_right = refl;
-      left_fits = refl;
-      right_fits = t.fits;
-      takes = t.takes;
-    })
+    grind (arith, common_steps, face_takes h (unfinished false true (bare r)) ws q fit is)
 faces_take h r true true ws q fit is =
     then_read_ok _ (face_after h (unfinished true true (bare r)) ws) q is (λ p was then_is.
     let t = face_takes h (unfinished true true (bare r)) ws p fit was in

@@ -1,9 +1,9 @@
 -- What is read has no fault, and is spelled so.
 use Rattle.std.proofs.Common.{◌≡◌, ◌≤◌, ℕ, zero, suc, eqb, ltb, ◌||◌, Bool, true, false, cond, List}
-use Rattle.std.proofs.Common.{[], ◌∷◌, ◌++◌, Option, Some, None, Ok, Err, length, refl, sym, ◌∙◌}
+use Rattle.std.proofs.lemmas.Grind.{common_steps}
+use Rattle.std.proofs.Common.{[], ◌∷◌, ◌++◌, Option, Some, None, Ok, Err, length, refl, ◌∙◌}
 use Rattle.std.proofs.Common.{ap, subst, arith, append_assoc}
 use Rattle.std.specs.List.{flat_map}
-use Rattle.std.specs.Int.{w32}
 use Rattle.std.proofs.lemmas.Bool.{eqb-true, ne_eqb, ltb-false, or_parts}
 use Rattle.std.proofs.lemmas.Option.{same_Some}
 use Rattle.std.proofs.lemmas.Int.{of_z-to_z}
@@ -29,30 +29,18 @@ pub record Takes (ws text rest : List ℕ) : Type 0 where
 -- what is taken after one another
 pub takes_both : (ws a mid b rest : List ℕ) → Takes ws a mid → Takes mid b rest
     → Takes ws (a ++ b) rest
-takes_both ws a mid b rest first second = record {
-  parts = first.parts ∙ ap (λ (l : List ℕ). a ++ l) second.parts ∙ sym (append_assoc a b rest);
-  rest_fits = second.rest_fits;
-}
+takes_both ws a mid b rest first second = grind (arith, common_steps, append_assoc)
 
 pub fitting_ok : {X : Type 0} (fault : X → Option Shape) (o : Option (X × List ℕ)) (u : X × List ℕ)
     →
     fitting fault o ≡ Ok u → (o ≡ Some u) × (fault u.0 ≡ None)
-fitting_ok fault o u is =
-    then_read_ok _ (whole o) u is (λ v was fits.
-    let g = judged_ok (fault v.0) v u fits in
-    (whole_ok o v was ∙ ap (λ w. Some w) g.1, subst (λ (w : _ × List ℕ). fault w.0 ≡ None) g.1 g.0))
+fitting_ok fault o u is = grind (arith, common_steps, judged_ok, then_read_ok, whole_ok)
 
 -- One unit
 
 pub root_takes : (ws : List ℕ) (u : Root × List ℕ) → AreWords ws → root_at ws ≡ Some u →
     Takes ws (root_words u.0) u.1
-root_takes (x ∷ y ∷ z ∷ w ∷ n ∷ ws) u fit is =
-    let at_x = sym (of_z-to_z w32 x fit.0) in
-    let at_y = sym (of_z-to_z w32 y fit.1.0) in
-    let at_z = sym (of_z-to_z w32 z fit.1.1.0) in
-    subst (λ (v : Root × List ℕ). Takes (x ∷ y ∷ z ∷ w ∷ n ∷ ws) (root_words v.0) v.1)
-    (same_Some _ _ is)
-    (record { parts = λ j. at_x j ∷ at_y j ∷ at_z j ∷ w ∷ n ∷ ws; rest_fits = fit.1.1.1.1.1 })
+root_takes (x ∷ y ∷ z ∷ w ∷ n ∷ ws) u fit is = grind (arith, common_steps, of_z-to_z, same_Some)
 root_takes [] u fit is = absurd cc
 root_takes (x ∷ []) u fit is = absurd cc
 root_takes (x ∷ y ∷ []) u fit is = absurd cc
@@ -61,10 +49,7 @@ root_takes (x ∷ y ∷ z ∷ w ∷ []) u fit is = absurd cc
 
 pub base_takes : (ws : List ℕ) (u : Face × List ℕ) → AreWords ws → base_at ws ≡ Some u →
     Takes ws (base_words u.0) u.1
-base_takes (a ∷ b ∷ c ∷ i ∷ ws) u fit is =
-    subst (λ (v : Face × List ℕ). Takes (a ∷ b ∷ c ∷ i ∷ ws) (base_words v.0) v.1)
-    (same_Some _ _ is)
-    (record { parts = refl; rest_fits = fit.1.1.1.1 })
+base_takes (a ∷ b ∷ c ∷ i ∷ ws) u fit is = grind (arith, common_steps, same_Some)
 base_takes [] u fit is = absurd cc
 base_takes (a ∷ []) u fit is = absurd cc
 base_takes (a ∷ b ∷ []) u fit is = absurd cc
@@ -90,24 +75,13 @@ pub record Added {X : Type 0} (fault : List X → X → Option Shape) (words : X
 module _ {X : Type 0} (fault : List X → X → Option Shape) (words : X → List ℕ) where
   added_none : (before : List X) (ws : List ℕ) → AreWords ws
       → Added fault words 0 before before ws ws
-  added_none before ws fit = record {
-    more = [];
-    all_is = sym (append-nil before);
-    count = refl;
-    fits = tt;
-    takes = record { parts = refl; rest_fits = fit };
-  }
+  added_none before ws fit = grind (arith, common_steps, append-nil)
 
   added_one : (n : ℕ) (before all : List X) (x : X) (ws mid rest : List ℕ) → fault before x ≡ None →
       Takes ws (words x) mid → Added fault words n (before ++ x ∷ []) all mid rest →
       Added fault words (suc n) before all ws rest
-  added_one n before all x ws mid rest good first others = record {
-    more = x ∷ others.more;
-    all_is = others.all_is ∙ append_assoc before (x ∷ []) others.more;
-    count = omega (arith, others.count);
-    fits = (good, others.fits);
-    takes = takes_both ws (words x) mid (flat_map words others.more) rest first others.takes;
-  }
+  added_one n before all x ws mid rest good first others =
+      grind (arith, common_steps, append_assoc, takes_both)
 
   pub units_take : (read : Reader X) → Reads read fault words
       → (n : ℕ) (before : List X) (ws : List ℕ)
@@ -179,31 +153,16 @@ told_take : (bad : Bool) (d : ℕ) (ws : List ℕ) (u : ℕ × List ℕ) → (eq
 told_take true d ws u bad is fit = absurd cc
 told_take false zero ws u bad is fit = absurd cc
 told_take false (suc d) ws u bad is fit =
-    let most : suc d ≤ 4 = ltb-false _ _ (or_parts (eqb (suc d) 0) (ltb 4 (suc d)) bad).1 in
-    subst (λ (w : ℕ × List ℕ). (w.0 ≤ 4) × (2 ∷ suc d ∷ ws ≡ version_words w.0 ++ w.1)
-    × AreWords w.1) (same_Ok _ _ is) (
-      most,
-      ap (λ (l : List ℕ). l ++ ws) (sym (version_two d)),
-      fit,
-    )
+    grind (arith, common_steps, ltb-false, or_parts, same_Ok, version_two)
 
 version_take : (first second : Bool) (m v : ℕ) (ws : List ℕ) (u : ℕ × List ℕ) → eqb v 1 ≡ first
     → eqb v 2 ≡ second → m ≡ 1297106006 →
     cond first (Ok (0, ws)) (cond second (told_digits ws) (Err (stops.Version v))) ≡ Ok u
     → AreWords ws → DigitsTake (m ∷ v ∷ ws) u.1 u.0
 version_take true second m v ws u one two at_m is fit =
-    let at_v = eqb-true v 1 one in
-    subst (λ (w : ℕ × List ℕ). DigitsTake (m ∷ v ∷ ws) w.1 w.0) (same_Ok _ _ is)
-    (record { few = omega arith; parts = λ j. at_m j ∷ at_v j ∷ ws; rest_fits = fit })
+    grind (arith, common_steps, eqb-true, same_Ok)
 version_take false true m v (d ∷ ws) u one two at_m is fit =
-    let at_v = eqb-true v 2 two in
-    let t = told_take (eqb d 0 || ltb 4 d) d ws u refl is fit.1 in
-    record {
-      few = t.0;
-      parts =
-          (λ j. at_m j ∷ at_v j ∷ d ∷ ws) ∙ ap (λ (l : List ℕ). 1297106006 ∷ l) t.1;
-      rest_fits = t.2;
-    }
+    grind (arith, common_steps, eqb-true, told_take)
 version_take false true m v [] u one two at_m is fit = absurd cc
 version_take false false m v ws u one two at_m is fit = absurd cc
 

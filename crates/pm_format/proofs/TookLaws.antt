@@ -1,9 +1,10 @@
 -- What a shaper expects, and what taking a unit in leaves.
 use Rattle.std.proofs.Common.{◌≡◌, ◌⊎◌, ℕ, ◌+◌, ◌-◌, ◌*◌, ◌<◌, ◌≤◌, Bool, true, false, cond, ◌||◌}
+use Rattle.std.proofs.lemmas.Grind.{common_steps}
 use Rattle.std.proofs.Common.{not, eqb, List, [], ◌∷◌, ◌++◌, Option, Some, None, IfSome, Result, Ok}
 use Rattle.std.proofs.Common.{Err, MatchResult, OnOk, IfErr, length, inl, inr, refl, sym, ◌∙◌, ap}
 use Rattle.std.proofs.Common.{subst, arith, length-append}
-use Rattle.std.proofs.lemmas.Bool.{cases_lt, lt-ltb, le-ltb}
+use Rattle.std.proofs.lemmas.Bool.{lt-ltb, le-ltb}
 use Rattle.pm_base.specs.Counts.{one_if}
 use Rattle.pm_base.proofs.Counts.{one_if-le}
 use Rattle.pm_forest.specs.declared.parts.Counts.{Counts}
@@ -54,17 +55,7 @@ expected_face c h p false is = (p, refl, is)
 expected_of : (c : Counts) (h : Hierarchy) (coming : Option Unfinished)
     → Expected (expects_after c h coming) c h coming
 expected_of c h (Some p) = expected_face c h p p.left_due refl
-expected_of c h None =
-    elim (cases_lt (length h.roots) c.roots) [
-      | inl l ↦ rw (lt-ltb _ _ l) (refl, l)
-      | inr r ↦ rw (le-ltb _ _ r) (elim (cases_lt (length h.bases) c.bases) [
-        | inl l ↦ rw (lt-ltb _ _ l) (refl, r, l)
-        | inr b ↦ rw (le-ltb _ _ b) (elim (cases_lt (length h.records) c.records) [
-          | inl l ↦ rw (lt-ltb _ _ l) (refl, r, b, l)
-          | inr n ↦ rw (le-ltb _ _ n) (refl, r, b, n)
-        ])
-      ])
-    ]
+expected_of c h None = grind (arith, common_steps, le-ltb, lt-ltb)
 
 pub expected : (s : Shaping) (k : UnitKind) → expects s ≡ k → Expected k s.counts s.h s.coming
 expected s k is =
@@ -189,10 +180,7 @@ face_found : (more : List ℕ) (make : FaceUnit × List ℕ → Unfinished × Li
     → ((u : FaceUnit × List ℕ) → r ≡ Ok u → longer ≡ Ok (u.0, words_of more))
     → ((u : FaceUnit × List ℕ) → make (u.0, words_of more) ≡ ((make u).0, words_of more))
     → read_map make longer ≡ Ok (q.0, words_of more)
-face_found more make r longer q is on keeps =
-    let (u, was, made) = read_map_ok make r q is in
-    ap (read_map make) (on u was) ∙ ap (λ v. Ok v) (keeps u)
-    ∙ ap (λ (v : Unfinished × List ℕ). Ok (v.0, words_of more)) made
+face_found more make r longer q is on keeps = grind (arith, common_steps, read_map_ok)
 
 face_alone : (h : Hierarchy) (p : Unfinished) (unit : List ℕ) → length unit ≡ 24
     → JudgedAlone (face_after h p (words_of unit))
@@ -286,28 +274,21 @@ pub root_took : (s t : Shaping) (unit ws rest : List ℕ) (r : Result (Unit {0})
     → MatchResult r (λ _. read_map (took_root s) (root_after s.counts s.h.roots ws) ≡ Ok (t, rest))
     (λ e. root_after s.counts s.h.roots ws ≡ Err e) → Took s unit r t
 root_took s t unit ws rest r next size is read =
-    root_took_of s t unit rest r next size
-    (subst (λ v. MatchResult r (λ _. read_map (took_root s) (root_after s.counts s.h.roots v)
-    ≡ Ok (t, rest)) (λ e. root_after s.counts s.h.roots v ≡ Err e)) is read)
+    grind (arith, common_steps, root_took_of s t unit rest r next size)
 
 pub base_took : (s t : Shaping) (unit ws rest : List ℕ) (r : Result (Unit {0}) Stop)
     → expects s ≡ kinds.Base → length unit ≡ 16 → ws ≡ words_of unit
     → MatchResult r (λ _. read_map (took_base s) (base_after s.h.roots s.h.bases ws) ≡ Ok (t, rest))
     (λ e. base_after s.h.roots s.h.bases ws ≡ Err e) → Took s unit r t
 base_took s t unit ws rest r next size is read =
-    base_took_of s t unit rest r next size
-    (subst (λ v. MatchResult r (λ _. read_map (took_base s) (base_after s.h.roots s.h.bases v)
-    ≡ Ok (t, rest)) (λ e. base_after s.h.roots s.h.bases v ≡ Err e)) is read)
+    grind (arith, common_steps, base_took_of s t unit rest r next size)
 
 pub head_took : (s t : Shaping) (unit ws rest : List ℕ) (r : Result (Unit {0}) Stop)
     → expects s ≡ kinds.Head → length unit ≡ 44 → ws ≡ words_of unit
     → MatchResult r (λ _. read_map (took_head s) (fitting (head_fault s.h) (head_at ws))
     ≡ Ok (t, rest)) (λ e. fitting (head_fault s.h) (head_at ws) ≡ Err e) → Took s unit r t
 head_took s t unit ws rest r next size is read =
-    head_took_of s t unit rest r next size
-    (subst (λ v. MatchResult r
-    (λ _. read_map (took_head s) (fitting (head_fault s.h) (head_at v)) ≡ Ok (t, rest))
-    (λ e. fitting (head_fault s.h) (head_at v) ≡ Err e)) is read)
+    grind (arith, common_steps, head_took_of s t unit rest r next size)
 
 face_took_at : (s t : Shaping) (unit rest : List ℕ) (r : Result (Unit {0}) Stop)
     (coming : Option Unfinished) → s.coming ≡ coming → (coming ≡ None → ⊥)

@@ -1,10 +1,10 @@
 -- A text in bytes, and the hierarchy that its words spell.
 use Rattle.std.proofs.Common.{◌≡◌, ℕ, zero, suc, ◌+◌, ◌-◌, ◌*◌, ◌≤◌, ltb, Bool, true, false, cond}
+use Rattle.std.proofs.lemmas.Grind.{common_steps}
 use Rattle.std.proofs.Common.{List, [], ◌∷◌, ◌++◌, Some, None, Result, Ok, Err, length, sum, take}
 use Rattle.std.proofs.Common.{drop, get_or, refl, sym, ◌∙◌, ap, subst, arith, append_assoc}
 use Rattle.std.proofs.Common.{length-append}
 use Rattle.std.specs.List.{flat_map}
-use Rattle.std.specs.Cmp.Lexicographic.{same_text}
 use Rattle.std.proofs.lemmas.Bool.{not-false, le-ltb, ne_eqb}
 use Rattle.std.proofs.lemmas.List.{take_at, append-nil, append_cancel_left, take-append-drop}
 use Rattle.pm_forest.specs.declared.parts.Counts.{Counts}
@@ -60,10 +60,7 @@ pub record ForestTakes (ws : List ℕ) (h : Hierarchy) (rest : List ℕ) : Type 
 spread : (d : ℕ) (h : Hierarchy) (units rest : List ℕ) →
     (1297106006 ∷ (version_words d ++ count_words h) ++ units) ++ rest ≡ 1297106006
     ∷ (version_words d ++ (count_words h ++ (units ++ rest)))
-spread d h units rest =
-    ap (λ (l : List ℕ). 1297106006 ∷ l)
-    (append_assoc (version_words d ++ count_words h) units rest
-    ∙ append_assoc (version_words d) (count_words h) (units ++ rest))
+spread d h units rest = grind (arith, common_steps, append_assoc)
 
 pub forest_takes : (ws : List ℕ) (h : Hierarchy) (rest : List ℕ) → BeginsWithMagic ws → AreWords ws
     →
@@ -101,13 +98,7 @@ forest_takes ws h rest magic fit is =
     sym bs.count ∙ ap (λ (l : List Face). length l) same_bases in
     let count : c.0.records ≡ record_count h =
     sym ns.count ∙ ap (λ (l : List Record). length l) same_records in
-    let counts : c.0 ≡ counts_of h =
-    λ j. record {
-      leaves = leaves j;
-      roots = root_count j;
-      bases = base_count j;
-      records = count j;
-    } in
+    let counts : c.0 ≡ counts_of h = grind (arith, common_steps) in
     let root_part = flat_map root_words rs.more in
     let base_part = flat_map base_words bs.more in
     let record_part = flat_map record_words ns.more in
@@ -150,12 +141,7 @@ digits_again (suc d) ws few =
     rw (version_two d, ne_eqb (suc d) 0 (λ e. omega (arith, e)), most) refl
 
 pub digits_of_words : (d : ℕ) (h : Hierarchy) → d ≤ 4 → digits_in (digits_at (stream_words d h)) ≡ d
-digits_of_words d h few =
-    let units = flat_map root_words h.roots
-    ++ (flat_map base_words h.bases ++ flat_map record_words h.records) in
-    ap (λ (l : List ℕ). digits_in (digits_at (1297106006 ∷ l)))
-    (append_assoc (version_words d) (count_words h) units)
-    ∙ ap digits_in (digits_again d (count_words h ++ units) few)
+digits_of_words d h few = grind (arith, common_steps, append_assoc, digits_again)
 
 pub forest_again : (d : ℕ) (h : Hierarchy) (rest : List ℕ) → d ≤ 4 → HasShape h →
     forest_at (stream_words d h ++ rest) ≡ Ok (h, rest)
@@ -204,10 +190,7 @@ forest_is ws c rest header good = rw (header, good) refl
 -- bytes whose first ones aren't wrong begin with the magic as a word
 pub magic_first : (bytes : List ℕ) → magic_is_bad bytes ≡ false → BeginsWithMagic (words_of bytes)
 unfolding magic_is_bad
-magic_first (a ∷ b ∷ c ∷ d ∷ bytes) good w rest is =
-    let same : a ∷ b ∷ c ∷ d ∷ [] ≡ 86 ∷ 68 ∷ 80 ∷ 77 ∷ [] =
-    same_text _ _ (sym (not-false _ good)) in
-    ap (λ (l : List ℕ). get_or l 0 0) (sym is) ∙ ap (λ (l : List ℕ). get_or (words_of l) 0 0) same
+magic_first (a ∷ b ∷ c ∷ d ∷ bytes) good w rest is = grind (arith, common_steps, get_or, not-false)
 magic_first [] good w rest is = absurd cc
 magic_first (a ∷ []) good w rest is = absurd cc
 magic_first (a ∷ b ∷ []) good w rest is = absurd cc
@@ -258,12 +241,7 @@ magic_again d h rest = refl
 pub digits_told : TextsTellTheirDigits
 unfolding stream_digits stream
 digits_told d h rest few shape =
-    let units = flat_map root_words h.roots
-    ++ (flat_map base_words h.bases ++ flat_map record_words h.records) in
-    ap (λ (l : List ℕ). digits_in (digits_at l))
-    (words_again (stream_words d h) rest (stream_is_words d h few shape)
-    ∙ spread d h units (words_of rest))
-    ∙ ap digits_in (digits_again d (count_words h ++ (units ++ words_of rest)) few)
+    grind (arith, common_steps, digits_again, spread, stream_is_words, words_again)
 
 pub one_text : OneSpelling
 one_text d e h g rest more d_few e_few h_shape g_shape is =

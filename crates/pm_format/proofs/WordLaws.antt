@@ -1,6 +1,7 @@
 -- Words to bytes and back.
 use Rattle.std.proofs.Common.{◌≡◌, ℕ, zero, suc, ◌+◌, ◌*◌, ◌^◌, ◌<◌, ◌≤◌, List, [], ◌∷◌, ◌++◌}
-use Rattle.std.proofs.Common.{length, get_or, take, refl, sym, ◌∙◌, ap, arith, append_assoc}
+use Rattle.std.proofs.lemmas.Grind.{common_steps}
+use Rattle.std.proofs.Common.{length, get_or, take, refl, sym, ap, arith, append_assoc}
 use Rattle.std.proofs.lemmas.Nat.{le_bytes_4, from_le_bytes-to_le_bytes_4}
 use Rattle.byteorder.specs.Endian.{little_bytes}
 use Rattle.pm_format.specs.Words.{words_of, spelled, AreWords, IsBytes}
@@ -30,9 +31,7 @@ pub words_again : (ws rest : List ℕ) → AreWords ws → words_of (spelled ws 
 unfolding spelled
 words_again [] rest all = refl
 words_again (w ∷ ws) rest all =
-    ap words_of (append_assoc (little_bytes 4 w) (spelled ws) rest)
-    ∙ again w (spelled ws ++ rest) all.0
-    ∙ ap (λ (l : List ℕ). w ∷ l) (words_again ws rest all.1)
+    grind (arith, common_steps, again, append_assoc, words_again ws rest all.1)
 
 -- a text begins with the bytes of its words
 pub words_take : (bytes : List ℕ) (k : ℕ) → IsBytes bytes → k ≤ length (words_of bytes) →
