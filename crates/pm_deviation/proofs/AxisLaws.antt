@@ -1,13 +1,14 @@
 -- Axes: their numbers, their lengths, and how small parts along them are.
-use Rattle.std.proofs.Common.{◌≡◌, ℕ, zero, suc, ◌+◌, ◌*◌, ◌/◌, ◌<◌, ◌≤◌, Bool, true, ◌-◌, ◌&&◌}
+use Rattle.std.proofs.Common.{◌≡◌, ℕ, zero, suc, ◌+◌, ◌*◌, ◌/◌, ◌<◌, ◌≤◌, Bool, true, ◌-◌}
+use Rattle.std.proofs.lemmas.Grind.{common_steps}
 use Rattle.std.proofs.Common.{List, [], ◌∷◌, length, get_or, inl, inr, refl, sym, ap, ◌∙◌, subst}
 use Rattle.std.proofs.Common.{arith}
 use Rattle.std.specs.Prelude.{ℤ, pos, negsuc, neg_ℤ, unwrap_or, Option, None, Some, IfSome, ◌+ℤ◌}
-use Rattle.std.specs.Prelude.{◌*ℤ◌, nat_le, unsigned_abs}
+use Rattle.std.specs.Prelude.{◌*ℤ◌, unsigned_abs}
 use Rattle.std.specs.Int.{div_ceil}
 use Rattle.std.specs.List.{list_all}
 use Rattle.std.specs.Option.{option_map}
-use Rattle.std.proofs.lemmas.Bool.{and_parts, leb-true, cases_lt}
+use Rattle.std.proofs.lemmas.Bool.{and_parts, leb-true}
 use Rattle.std.proofs.lemmas.Nat.{mul-le}
 use borrow.Author.Differences.{ints}
 use Rattle.pm_base.specs.Geometry.{Direction, norm2_of}
@@ -38,19 +39,7 @@ pub record IsAxis (u : Axis) : Type 0 where
   pub some : 1 ≤ norm2_of (direction_of u)
 
 pub axis_is : (u : Axis) → is_axis u ≡ true → IsAxis u
-axis_is u e =
-    let three = and_parts
-    (nat_le (unsigned_abs u.x) 1 && nat_le (unsigned_abs u.y) 1 && nat_le (unsigned_abs u.z) 1)
-    (nat_le 1 (norm2_of (direction_of u))) e in
-    let two = and_parts (nat_le (unsigned_abs u.x) 1 && nat_le (unsigned_abs u.y) 1)
-    (nat_le (unsigned_abs u.z) 1) three.0 in
-    let one = and_parts (nat_le (unsigned_abs u.x) 1) (nat_le (unsigned_abs u.y) 1) two.0 in
-    record {
-      x = leb-true (unsigned_abs u.x) 1 one.0;
-      y = leb-true (unsigned_abs u.y) 1 one.1;
-      z = leb-true (unsigned_abs u.z) 1 two.1;
-      some = leb-true 1 (norm2_of (direction_of u)) three.1;
-    }
+axis_is u e = grind (arith, common_steps, and_parts, leb-true)
 
 all_at : {X : Type 0} (p : X → Bool) (xs : List X) (i : ℕ) (d : X) → list_all p xs ≡ true
     → i < length xs → p (get_or xs i d) ≡ true
@@ -75,21 +64,10 @@ own_square (suc (suc n)) h = absurd (omega arith)
 
 pub ones_are : (u : Axis) → IsAxis u
     → norm2_of (direction_of u) ≡ unsigned_abs u.x + unsigned_abs u.y + unsigned_abs u.z
-ones_are u is =
-    rw (
-      own_square (unsigned_abs u.x) is.x,
-      own_square (unsigned_abs u.y) is.y,
-      own_square (unsigned_abs u.z) is.z,
-    ) refl
+ones_are u is = grind (arith, common_steps, own_square)
 
 least_of : (n r m : ℕ) → n ≤ m * m → (r - 1) * (r - 1) < n → r ≤ m
-least_of n r m h l =
-    elim (cases_lt m r) [
-      | inl below ↦
-          absurd (omega (arith, mul-le m m (r - 1) (r - 1) (omega arith) (omega arith)))
-      | inr above ↦
-          above
-    ]
+least_of n r m h l = grind (arith, common_steps, mul-le)
 
 pub length_is : (u : Axis) (n r : ℕ) → norm2_of (direction_of u) ≡ n → 268435456 * n ≤ r * r
     → (r - 1) * (r - 1) < 268435456 * n → r ≡ length_of u

@@ -1,5 +1,6 @@
 -- Nodes at the border: what passes up, and what the leaf mesh tells.
 use Rattle.std.proofs.Common.{◌≡◌, ℕ, ◌+◌, ◌*◌, ◌<◌, Bool, true, false, ◌||◌, ◌&&◌, List, [], ◌∷◌}
+use Rattle.std.proofs.lemmas.Grind.{common_steps}
 use Rattle.std.proofs.Common.{length, get_or, None, ◌↔◌, inl, inr, refl, sym, ap, ◌∙◌, subst, arith}
 use Rattle.std.specs.List.{list_any, range_with_len}
 use Rattle.std.specs.Option.{is_none}
@@ -10,8 +11,8 @@ use Rattle.std.proofs.lemmas.List.FromFn.{get_or-range_with_len, length-range_wi
 use Rattle.pm_base.specs.Sides.{IsBorder}
 use Rattle.pm_base.proofs.TwinLaws.{none-twin, twin-none}
 use Rattle.pm_base.proofs.Search.{none_from}
-use Rattle.pm_forest.specs.Forest.{Hierarchy, Interval, record_count, leaf_count, s_of, t_of, u_of}
-use Rattle.pm_forest.specs.Forest.{interval_of, holds, Holds}
+use Rattle.pm_forest.specs.Forest.{Hierarchy, record_count, leaf_count, s_of, t_of, u_of}
+use Rattle.pm_forest.specs.Forest.{holds, Holds}
 use Rattle.pm_forest.specs.Faces.{face_count, from_leaf, to_leaf}
 use Rattle.pm_forest.specs.Rules.{HasShape}
 use Rattle.pm_forest.specs.Tables.{leaf_node_of}
@@ -46,19 +47,12 @@ module _ (h : Hierarchy) (shape : HasShape h) where
   side-split : (k e : ℕ) → k < record_count h →
       is_border_side_under h (s_of h k) e
       ≡ (is_border_side_under h (t_of h k) e || is_border_side_under h (u_of h k) e)
-  side-split k e l =
-      rw (children_hold h shape k (from_leaf h e) l, children_hold h shape k (to_leaf h e) l)
-      (mixed (is_none (leaf_twin h e)) (holds h (t_of h k) (from_leaf h e))
-      (holds h (u_of h k) (from_leaf h e)) (holds h (t_of h k) (to_leaf h e))
-      (holds h (u_of h k) (to_leaf h e)))
+  side-split k e l = grind (arith, common_steps, children_hold, mixed)
 
   pub border-split : (k : ℕ) → k < record_count h
       → is_at_border h (s_of h k) ≡ (is_at_border h (t_of h k) || is_at_border h (u_of h k))
   unfolding is_at_border
-  border-split k l =
-      any-either (is_border_side_under h (s_of h k)) (is_border_side_under h (t_of h k))
-      (is_border_side_under h (u_of h k)) (range_with_len 0 (3 * face_count h))
-      (λ e. side-split k e l)
+  border-split k l = grind (arith, common_steps, any-either, side-split)
 
   first : (e : ℕ) → 0 + e ≡ e
   first e = omega arith
@@ -81,49 +75,38 @@ module _ (h : Hierarchy) (shape : HasShape h) where
   -- a leaf on the border under a node
   pub at_border-leaf : (v x : ℕ) → IsBorder (leaf_net h) x → Holds h v x → is_at_border h v ≡ true
   at_border-leaf v x (e, side, ends) held =
-      let none = none-twin (leaf_net h) e side.alone in
-      elim ends [
-        | inl from ↦
-            at_border-by v e side.stands.is_side none
-            (or_left (holds h v (from_leaf h e)) (holds h v (to_leaf h e))
-            (subst (λ (y : ℕ). Holds h v y) (sym from) held))
-        | inr to ↦ at_border-by v e side.stands.is_side none
-            (or_right (holds h v (from_leaf h e)) (holds h v (to_leaf h e))
-            (subst (λ (y : ℕ). Holds h v y) (sym to) held))
-      ]
+      grind (
+        arith,
+        common_steps,
+        at_border-by v e side.stands.is_side,
+        none-twin (leaf_net h) e side.alone,
+        or_left (holds h v (from_leaf h e)) (holds h v (to_leaf h e)),
+        or_right (holds h v (from_leaf h e)) (holds h v (to_leaf h e)),
+      )
 
   -- and back, for the node of the leaf alone
   alone_is : (x y : ℕ) → x < leaf_count h → Holds h (leaf_node_of h x) y → y ≡ x
   unfolding holds
-  alone_is x y below held =
-      let alone = leaf_node-alone h shape x below in
-      let i = within-true (interval_of h (leaf_node_of h x)) y held in
-      omega (arith, i, ap (λ (j : Interval). j.from) alone, ap (λ (j : Interval). j.until) alone)
+  alone_is x y below held = grind (arith, common_steps, leaf_node-alone, within-true)
 
   own_held : (x : ℕ) → x < leaf_count h → Holds h (leaf_node_of h x) x
   unfolding holds
-  own_held x below =
-      let alone = leaf_node-alone h shape x below in
-      within-from (interval_of h (leaf_node_of h x)) x
-      (omega (arith, ap (λ (j : Interval). j.from) alone))
-      (omega (arith, ap (λ (j : Interval). j.until) alone))
+  own_held x below = grind (arith, common_steps, leaf_node-alone, within-from)
 
   by_side : (x e : ℕ) → x < leaf_count h → e < 3 * face_count h
       → is_border_side_under h (leaf_node_of h x) e ≡ true → IsBorder (leaf_net h) x
   by_side x e below l is =
-      let v = leaf_node_of h x in
-      let parts = and_parts (is_none (leaf_twin h e))
-      (holds h v (from_leaf h e) || holds h v (to_leaf h e)) is in (
-        e,
-        record {
-          stands = side-stands h (shape_is_forest h shape) e l;
-          alone =
-              twin-none (leaf_net h) e (none_from (leaf_twin h e) parts.0);
-        },
-        elim (or_cases (holds h v (from_leaf h e)) (holds h v (to_leaf h e)) parts.1) [
-          | inl from ↦ inl (alone_is x (from_leaf h e) below from)
-          | inr to ↦ inr (alone_is x (to_leaf h e) below to)
-        ],
+      grind (
+        arith,
+        common_steps,
+        or_cases,
+        alone_is x (from_leaf h e) below,
+        alone_is x (to_leaf h e) below,
+        and_parts (is_none (leaf_twin h e)),
+        none_from (leaf_twin h e),
+        shape_is_forest h shape,
+        side-stands h (shape_is_forest h shape) e l,
+        twin-none (leaf_net h) e,
       )
 
   border_found : (x : ℕ) → x < leaf_count h → is_at_border h (leaf_node_of h x) ≡ true
@@ -134,9 +117,7 @@ module _ (h : Hierarchy) (shape : HasShape h) where
       let (i, e, l, is_e, is) = Any-from_list_any (is_border_side_under h (leaf_node_of h x)) sides
       at in
       let count = length-range_with_len 0 (3 * face_count h) in
-      let side : e ≡ i =
-      sym is_e ∙ get_or-range_with_len 0 (3 * face_count h) i e (omega (arith, count))
-      ∙ first i in
+      let side : e ≡ i = grind (arith, common_steps, first, get_or-range_with_len) in
       by_side x e below (omega (arith, count, side)) is
 
   -- so a flag that says whether a leaf is on the border says it of its node

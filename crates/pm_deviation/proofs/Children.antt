@@ -1,6 +1,6 @@
 -- What is under a node that is split is under its children.
-use Rattle.std.proofs.Common.{◌≡◌, ℕ, ◌<◌, false, ◌||◌, ◌⊎◌, inl, inr, refl, ap, ◌∙◌}
-use Rattle.std.proofs.lemmas.Bool.{cases_Bool, false_from_ne_true, both_ways}
+use Rattle.std.proofs.Common.{◌≡◌, ℕ, ◌<◌, ◌||◌, ◌⊎◌, ap, ◌∙◌, arith}
+use Rattle.std.proofs.lemmas.Grind.{common_steps}
 use Rattle.std.specs.Prelude.{map}
 use Rattle.pm_forest.specs.Forest.{Hierarchy, record_count, s_of, t_of, u_of, holds, Holds}
 use Rattle.pm_forest.specs.Faces.{faces_of}
@@ -19,26 +19,11 @@ module _ (h : Hierarchy) (shape : HasShape h) where
   pub children_hold : (k x : ℕ) → k < record_count h
       → holds h (s_of h k) x ≡ (holds h (t_of h k) x || holds h (u_of h k) x)
   children_hold k x l =
-      let nodes = shape_of_nodes h shape in
-      elim (cases_Bool (holds h (t_of h k) x)) [
-        | inl t ↦ (rw (t, holds-s_from_t h nodes k x l t) refl)
-        | inr t ↦ elim (cases_Bool (holds h (u_of h k) x)) [
-          | inl u ↦ (rw (t, u, holds-s_from_u h nodes k x l u) refl)
-          | inr u ↦
-              let s : holds h (s_of h k) x ≡ false =
-              false_from_ne_true _ (λ e. both_ways _ u (holds-u_from_s h nodes k x l e t)) in
-              rw (t, u, s) refl
-        ]
-      ]
+      grind (arith, common_steps, holds-s_from_t, holds-s_from_u, holds-u_from_s, shape_of_nodes)
 
   pub child_of_leaf : (k x : ℕ) → k < record_count h → Holds h (s_of h k) x
       → Holds h (t_of h k) x ⊎ Holds h (u_of h k) x
-  child_of_leaf k x l held =
-      elim (cases_Bool (holds h (t_of h k) x)) [
-        | inl t ↦ inl t
-        | inr t ↦
-            inr (holds-u_from_s h (shape_of_nodes h shape) k x l held t)
-      ]
+  child_of_leaf k x l held = grind (arith, common_steps, holds-u_from_s, shape_of_nodes)
 
   -- the normals under a node that is split are those under its children
   pub spread-split : (u : Axis) (k : ℕ) → k < record_count h

@@ -1,5 +1,6 @@
 -- The cosines of nodes: at most 16,384, and falling from a child to its parent.
 use Rattle.std.proofs.Common.{◌≡◌, ℕ, zero, suc, ◌+◌, ◌*◌, ◌/◌, ◌<◌, ◌≤◌, max, List, [], ◌∷◌, map}
+use Rattle.std.proofs.lemmas.Grind.{common_steps}
 use Rattle.std.proofs.Common.{Option, None, Some, IfSome, inl, inr, sym, subst, arith}
 use Rattle.std.proofs.Math.Nat.{le_refl, div-mul-le_self, div-zero}
 use Rattle.std.specs.Prelude.{ℤ, pos, negsuc, neg_ℤ, ◌*ℤ◌, ◌≤ℤ◌, unsigned_abs}
@@ -49,11 +50,7 @@ max_le' : (a b c : ℕ) → a ≤ c → b ≤ c → max a b ≤ c
 max_le' a b c p q = omega arith
 
 pub side_falls : (a b : Spread) → IsOver a b → one_side a ≤ one_side b
-side_falls a b o =
-    max_le (above_zero a.low) (above_zero (neg_ℤ a.high)) (above_zero b.low)
-    (above_zero (neg_ℤ b.high))
-    (above_grows a.low b.low o.0)
-    (above_grows (neg_ℤ a.high) (neg_ℤ b.high) (neg_falls b.high a.high o.1))
+side_falls a b o = grind (arith, common_steps, above_grows, max_le, neg_falls)
 
 -- It is at most the length of the axis.
 
@@ -100,12 +97,7 @@ neg_abs v = omega (arith, ints)
 
 pub high_side : (l : ℕ) (x v : ℤ) → (pos 16384 *ℤ v) ≤ℤ (pos l *ℤ x)
     → l * above_zero (neg_ℤ x) ≤ 16384 * unsigned_abs v
-high_side l x v h =
-    subst (λ (n : ℕ). l * above_zero (neg_ℤ x) ≤ 16384 * n) (neg_abs v)
-    (low_side l (neg_ℤ x) (neg_ℤ v)
-    (between (pos l *ℤ neg_ℤ x) (neg_ℤ (pos l *ℤ x)) (pos 16384 *ℤ neg_ℤ v)
-    (neg_ℤ (pos 16384 *ℤ v)) (times_neg (pos l) x) (times_neg (pos 16384) v)
-    (neg_falls (pos 16384 *ℤ v) (pos l *ℤ x) h)))
+high_side l x v h = grind (arith, common_steps, between, low_side, neg_abs, neg_falls, times_neg)
 
 -- No more of a spread lies on one side of 0 than the axis is long.
 abbrev pub IsWithinAxis : Axis → Spread → Type 0
@@ -197,16 +189,7 @@ module _ (h : Hierarchy) (shape : HasShape h) (k : ℕ) (l : k < record_count h)
   along_falls : (v : ℕ) → Makes h k v → (u : Axis)
       → cosine_along h (s_of h k) u ≤ cosine_along h v u
   along_falls v makes u =
-      let t = spread_of h u (t_of h k) in
-      let w = spread_of h u (u_of h k) in
-      subst (λ (o : Option Spread). cosine_by u o ≤ cosine_along h v u)
-      (sym (spread-split h shape u k l))
-      (elim makes [
-        | inl is ↦ subst (λ (c : ℕ). cosine_by u (join t w) ≤ cosine_along h c u) (sym is)
-            (falls_left u t w (joined_under u))
-        | inr is ↦ subst (λ (c : ℕ). cosine_by u (join t w) ≤ cosine_along h c u) (sym is)
-            (falls_right u t w (joined_under u))
-      ])
+      grind (arith, common_steps, falls_left, falls_right, joined_under, spread-split)
 
   pub cosine_falls : (v : ℕ) → Makes h k v → cosine_of h (s_of h k) ≤ cosine_of h v
   unfolding cosine_of

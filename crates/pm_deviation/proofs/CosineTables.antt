@@ -1,5 +1,6 @@
 -- The table of cosines while axes are gone through.
 use Rattle.std.proofs.Common.{◌≡◌, ℕ, ◌+◌, ◌<◌, ◌≤◌, max, List, [], ◌∷◌, ◌++◌, length, map, take}
+use Rattle.std.proofs.lemmas.Grind.{common_steps}
 use Rattle.std.proofs.Common.{get_or, set, length-set, inl, inr, refl, sym, ap, ◌∙◌, subst, arith}
 use Rattle.std.proofs.lemmas.Bool.{cases_eq}
 use Rattle.std.proofs.lemmas.List.{map-append, take_more, get_or-set_same, get_or-set_other}
@@ -54,10 +55,7 @@ all_of h v = refl
 
 pub raised_all : (h : Hierarchy) (n : ℕ) (table : List ℕ) → n ≡ 13 → AreRaised h n table
     → AreCosines h table
-raised_all h n table all was = record {
-  nodes = was.len;
-  each = λ v m. was.each v m ∙ ap (λ k. cosine_in h k v) all ∙ all_of h v;
-}
+raised_all h n table all was = grind (arith, common_steps, all_of h)
 
 -- One node's cosine raised.
 pub record AreRaisedTo (h : Hierarchy) (u : Axis) (first now : List ℕ) (n : ℕ) : Type 0 where
@@ -67,11 +65,7 @@ pub record AreRaisedTo (h : Hierarchy) (u : Axis) (first now : List ℕ) (n : �
 
 pub raise_start : (h : Hierarchy) (u : Axis) (first : List ℕ) → length first ≡ node_count h
     → AreRaisedTo h u first first 0
-raise_start h u first len = record {
-  len = len;
-  done = λ v l. absurd (omega arith);
-  rest = λ v l. refl;
-}
+raise_start h u first len = grind (arith, common_steps)
 
 pub raise_step : (h : Hierarchy) (u : Axis) (first now : List ℕ) (n x : ℕ) → n < node_count h
     → AreRaisedTo h u first now n → x ≡ max (get_or now n 0) (cosine_along h n u) →

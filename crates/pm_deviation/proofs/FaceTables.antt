@@ -1,14 +1,15 @@
 -- The table of faces, and of leaves while faces are gone through.
 use Rattle.std.proofs.Common.{◌≡◌, ℕ, ◌+◌, ◌<◌, eqb, Bool, cond, List, [], ◌∷◌, ◌++◌, length, map}
+use Rattle.std.proofs.lemmas.Grind.{common_steps}
 use Rattle.std.proofs.Common.{take, get_or, set, Option, None, IfSome, inl, inr, refl, sym, ap}
 use Rattle.std.proofs.Common.{subst, ◌∙◌, arith}
 use Rattle.std.specs.List.{filter}
 use Rattle.std.proofs.Math.Seq.{take-length}
-use Rattle.std.proofs.lemmas.Bool.{cases_Bool, cases_eq, cond-true, cond-false, eq-eqb, ne_eqb}
+use Rattle.std.proofs.lemmas.Bool.{cases_Bool, cond-true, cond-false, eq-eqb, ne_eqb}
 use Rattle.std.proofs.lemmas.List.{map-append, take_more, length-append}
 use Rattle.pm_forest.specs.declared.parts.Face.{Face}
 use Rattle.pm_forest.specs.Forest.{Hierarchy, node_count, leaf_count, splitter_of}
-use Rattle.pm_forest.specs.Faces.{faces_of, face_count, corners_of, no_face_corners}
+use Rattle.pm_forest.specs.Faces.{faces_of, face_count, corners_of}
 use Rattle.pm_forest.specs.Rules.{HasShape}
 use Rattle.pm_forest.specs.Tables.{leaf_node_of}
 use Rattle.pm_forest.proofs.FaceLists.{length-faces_of, corners_of-faces_of}
@@ -46,17 +47,7 @@ boxes_more h n old new x was is value small =
 filter-more : {X : Type 0} (p : X → Bool) (xs : List X) (x : X)
     → filter p (xs ++ x ∷ []) ≡ cond (p x) (filter p xs ++ x ∷ []) (filter p xs)
 filter-more p [] x = refl
-filter-more p (y ∷ ys) x =
-    let rest = filter-more p ys x in
-    elim (cases_Bool (p y)) [
-      | inl e ↦ elim (cases_Bool (p x)) [
-        | inl g ↦ (rw (e, g)
-            (ap (λ l. y ∷ l) (rest ∙ cond-true (p x) (filter p ys ++ x ∷ []) (filter p ys) g)))
-        | inr g ↦ (rw (e, g)
-            (ap (λ l. y ∷ l) (rest ∙ cond-false (p x) (filter p ys ++ x ∷ []) (filter p ys) g)))
-      ]
-      | inr e ↦ (rw e rest)
-    ]
+filter-more p (y ∷ ys) x = grind (arith, common_steps, cond-false, cond-true, filter-more p ys x)
 
 -- What the normals of the first n faces under a node have along an axis.
 unfoldable pub spread_in : Hierarchy → Axis → ℕ → ℕ → Option Spread
@@ -66,10 +57,7 @@ spread_in h u n v =
 module _ (h : Hierarchy) (u : Axis) where
   one_more : (n : ℕ) → n < face_count h → take (n + 1) (faces_of h) ≡ take n (faces_of h)
       ++ corners_of h n ∷ []
-  one_more n l =
-      let len = length-faces_of h in
-      take_more (faces_of h) n no_face_corners (omega arith)
-      ∙ ap (λ f. take n (faces_of h) ++ f ∷ []) (sym (corners_of-faces_of h n l))
+  one_more n l = grind (arith, common_steps, corners_of-faces_of, length-faces_of, take_more)
 
   pub spread_in-none : (v : ℕ) → spread_in h u 0 v ≡ None
   unfolding spread_in
@@ -88,13 +76,7 @@ module _ (h : Hierarchy) (u : Axis) where
       (filter (has_corner_under h v) fs) =
       ap (filter (has_corner_under h v)) (one_more n l) ∙ filter-more (has_corner_under h v) fs f in
       elim (cases_Bool (has_corner_under h v f)) [
-        | inl e ↦
-            ap (λ l. joined_all (map (part_along h u) l)) (all ∙ cond-true _ _ _ e)
-            ∙ ap joined_all
-            (map-append (part_along h u) (filter (has_corner_under h v) fs) (f ∷ []))
-            ∙ joined_all-more (map (part_along h u) (filter (has_corner_under h v) fs))
-            (part_along h u f)
-            ∙ sym (cond-true _ _ _ e)
+        | inl e ↦ grind (arith, common_steps, cond-true, joined_all-more, map-append)
         | inr e ↦ ap (λ l. joined_all (map (part_along h u) l)) (all ∙ cond-false _ _ _ e)
             ∙ sym (cond-false _ _ _ e)
       ]
@@ -116,13 +98,7 @@ module _ (h : Hierarchy) (shape : HasShape h) where
   -- two leaves are one exactly where their nodes are
   same_leaf : (l m : ℕ) → l < leaf_count h → m < leaf_count h
       → eqb (leaf_node_of h l) (leaf_node_of h m) ≡ eqb l m
-  same_leaf l m p q = elim (cases_eq l m) [
-    | inl is ↦ eq-eqb (leaf_node_of h l) (leaf_node_of h m) (ap (leaf_node_of h) is)
-        ∙ sym (eq-eqb l m is)
-    | inr differs ↦
-        ne_eqb (leaf_node_of h l) (leaf_node_of h m) (leaf_node-apart h shape l m p q differs)
-        ∙ sym (ne_eqb l m differs)
-  ]
+  same_leaf l m p q = grind (arith, common_steps, eq-eqb, leaf_node-apart, ne_eqb)
 
   -- the three corners of a face, whose nodes are widened one after the other
   pub corners_widened : (t t1 t2 t3 : List (Option Spread)) (part : Option Spread) (f : Face)
@@ -148,11 +124,7 @@ module _ (h : Hierarchy) (shape : HasShape h) where
     -- before any face
     pub seen_none : (table : List (Option Spread)) → length table ≡ node_count h
         → ((v : ℕ) → v < node_count h → get_or table v None ≡ None) → AreSeenTo h u 0 table
-    seen_none table len none = record {
-      len = len;
-      each = λ l m. none (leaf_node_of h l) (leaf_node-lt h shape l m)
-          ∙ sym (spread_in-none h u (leaf_node_of h l));
-    }
+    seen_none table len none = grind (arith, common_steps, leaf_node-lt, spread_in-none)
 
     -- one face more
     pub seen_more : (n : ℕ) → n < face_count h
@@ -163,24 +135,11 @@ module _ (h : Hierarchy) (shape : HasShape h) where
         ≡ cond (is_leaf_corner l (corners_of h n))
         (join (get_or old (leaf_node_of h l) None) part) (get_or old (leaf_node_of h l) None)) →
         AreSeenTo h u (n + 1) new
-    seen_more n below old new part was len is wider = record {
-      len = len;
-      each = λ l m.
-          let v = leaf_node_of h l in
-          let f = corners_of h n in
-          wider l m
-          ∙ ap (λ (b : Bool). cond b (join (get_or old v None) part) (get_or old v None))
-          (own_faces h shape l f m)
-          ∙ (rw (is, was.each l m) refl)
-          ∙ sym (spread_in-more h u n v below);
-    }
+    seen_more n below old new part was len is wider =
+        grind (arith, common_steps, get_or, own_faces, spread_in-more)
 
     -- all faces
     pub seen_all : (n : ℕ) (table : List (Option Spread)) → n ≡ face_count h → AreSeenTo h u n table
         →
         (v : ℕ) → v < node_count h → splitter_of h v ≡ None → get_or table v None ≡ spread_of h u v
-    seen_all n table all was v l none =
-        let (x, below, is) = has_leaf h shape v l none in
-        subst (λ w. get_or table w None ≡ spread_of h u w) is
-        (was.each x below ∙ ap (λ k. spread_in h u k (leaf_node_of h x)) all
-        ∙ spread_in-all h u (leaf_node_of h x))
+    seen_all n table all was v l none = grind (arith, common_steps, get_or, has_leaf, spread_in-all)

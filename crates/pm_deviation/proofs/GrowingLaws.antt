@@ -1,8 +1,9 @@
 -- Deviations are at most errors, and grow from a child to its parent.
 use Rattle.std.proofs.Common.{◌≡◌, ℕ, ◌+◌, ◌*◌, ◌<◌, ◌≤◌, max, min, eqb, Bool, true, false, cond}
-use Rattle.std.proofs.Common.{◌||◌, None, inl, inr, refl, sym, ap, ◌∙◌, subst, arith}
-use Rattle.std.proofs.lemmas.Bool.{cases_Bool, cases_eq, cond-true, cond-false, or_left, or_right}
-use Rattle.std.proofs.lemmas.Bool.{or_parts, eq-eqb, ne_eqb, both_ways}
+use Rattle.std.proofs.lemmas.Grind.{common_steps}
+use Rattle.std.proofs.Common.{◌||◌, None, inl, inr, refl, sym, ◌∙◌, subst, arith}
+use Rattle.std.proofs.lemmas.Bool.{cases_Bool, cond-true, cond-false, or_left, or_right}
+use Rattle.std.proofs.lemmas.Bool.{or_parts, eq-eqb, ne_eqb}
 use Rattle.std.specs.Int.{div_ceil}
 use Rattle.pm_base.specs.Sides.{IsBorder}
 use Rattle.pm_forest.specs.Forest.{Hierarchy, record_count, node_count, s_of, t_of, u_of, Holds}
@@ -37,17 +38,11 @@ module _ (h : Hierarchy) (shape : HasShape h) where
   -- The plane deviation of a node that is split.
   pub planes_at_border : (k : ℕ) → k < record_count h → is_at_border h (s_of h k) ≡ true
       → plane_deviation_of h (s_of h k) ≡ error_of h (s_of h k)
-  planes_at_border k l at =
-      planes_at_split h (shape_of_nodes h shape) k l
-      ∙ cond-true (is_at_border h (s_of h k)) (error_of h (s_of h k))
-      (over_steps h (plane_deviation_of h) k) at
+  planes_at_border k l at = grind (arith, common_steps, cond-true, planes_at_split, shape_of_nodes)
 
   pub planes_inside : (k : ℕ) → k < record_count h → is_at_border h (s_of h k) ≡ false
       → plane_deviation_of h (s_of h k) ≡ over_steps h (plane_deviation_of h) k
-  planes_inside k l at =
-      planes_at_split h (shape_of_nodes h shape) k l
-      ∙ cond-false (is_at_border h (s_of h k)) (error_of h (s_of h k))
-      (over_steps h (plane_deviation_of h) k) at
+  planes_inside k l at = grind (arith, common_steps, cond-false, planes_at_split, shape_of_nodes)
 
   -- a step is no longer than the way
   stepped : (d e s t a b way_t way_u : ℕ) → d ≡ max (a + min way_t s) (b + min way_u t)
@@ -86,16 +81,7 @@ module _ (h : Hierarchy) (shape : HasShape h) where
   tilted_there v e = cond-false (is_error v) (error_of h v) (tilted v) e
 
   pub deviation_below : (v : ℕ) → deviation_of h v ≤ error_of h v
-  deviation_below v = elim (cases_Bool (is_error v)) [
-    | inl e ↦ (let is = error_there v e in omega arith)
-    | inr e ↦ (let is =
-        tilted_there v e in
-        omega (
-          arith,
-          min_first (error_of h v)
-              (div_ceil (16384 * plane_deviation_of h v) (cosine_of h v)),
-        ))
-  ]
+  deviation_below v = grind (arith, common_steps, error_there, min_first, tilted_there)
 
   -- The same from numbers that are the node's.
   pub deviation_by : (v error planes cosine result : ℕ) (flag : Bool)
@@ -119,79 +105,53 @@ module _ (h : Hierarchy) (shape : HasShape h) where
         child_number h shape (λ w. 0) (error_of h) (errors_grow h shape) k v l makes in omega arith)
 
     border_up : is_at_border h v ≡ true → is_at_border h (s_of h k) ≡ true
-    border_up at =
-        border-split h shape k l ∙ elim makes [
-          | inl is ↦ or_left (is_at_border h (t_of h k)) (is_at_border h (u_of h k))
-              (subst (λ w. is_at_border h w ≡ true) is at)
-          | inr is ↦ or_right (is_at_border h (t_of h k)) (is_at_border h (u_of h k))
-              (subst (λ w. is_at_border h w ≡ true) is at)
-        ]
+    border_up at = grind (arith, common_steps, border-split, or_left, or_right)
 
     by_step : (d s t a b : ℕ) → d ≡ max (a + s) (b + t) → (a ≤ d) × (b ≤ d)
     by_step d s t a b is = (omega arith, omega arith)
 
     pub planes_up : plane_deviation_of h v ≤ plane_deviation_of h (s_of h k)
-    planes_up = elim (cases_Bool (is_at_border h (s_of h k))) [
-      | inl at ↦
-          let is = planes_at_border k l at in
-          let below = planes_below v child_node in
-          let up = error_up in
-          omega arith
-      | inr at ↦
-          let both = by_step _ _ _ _ _ (planes_inside k l at) in
-          elim makes [
-            | inl is ↦ subst (λ w. plane_deviation_of h w ≤ plane_deviation_of h (s_of h k))
-                (sym is) both.0
-            | inr is ↦ subst (λ w. plane_deviation_of h w ≤ plane_deviation_of h (s_of h k))
-                (sym is) both.1
-          ]
-    ]
+    planes_up =
+        grind (
+          arith,
+          common_steps,
+          by_step,
+          child_node,
+          error_up,
+          planes_at_border,
+          planes_below,
+          planes_inside,
+        )
 
     some_cosine : (c d : ℕ) → eqb d 0 ≡ false → d ≤ c → (0 < d) × (eqb c 0 ≡ false)
-    some_cosine c d e p =
-        let some : 0 < d =
-        elim (cases_eq d 0) [
-          | inl is ↦ absurd (both_ways (eqb d 0) e (eq-eqb d 0 is))
-          | inr differs ↦ omega (arith, differs)
-        ] in
-        (some, ne_eqb c 0 (λ is. absurd (omega arith)))
+    some_cosine c d e p = grind (arith, common_steps, eq-eqb, ne_eqb)
 
     tilted_up : is_error (s_of h k) ≡ false → deviation_of h v ≤ deviation_of h (s_of h k)
     tilted_up e =
-        let parts = or_parts (is_at_border h (s_of h k)) (eqb (cosine_of h (s_of h k)) 0) e in
-        let falls = cosine_falls h shape k l v makes in
-        let some = some_cosine (cosine_of h v) (cosine_of h (s_of h k)) parts.1 falls in
-        let inside : is_at_border h v ≡ false = elim (cases_Bool (is_at_border h v)) [
-          | inl at ↦ absurd (both_ways (is_at_border h (s_of h k)) parts.0 (border_up at))
-          | inr at ↦ at
-        ] in
-        let own : is_error v ≡ false = ap (λ b. b || eqb (cosine_of h v) 0) inside ∙ some.1 in
-        let ceil = ceil_grows (16384 * plane_deviation_of h v)
-        (16384 * plane_deviation_of h (s_of h k)) (cosine_of h v) (cosine_of h (s_of h k))
-        (let up = planes_up in omega arith) falls some.0 in
-        subst (λ d. d ≤ deviation_of h (s_of h k)) (sym (tilted_there v own))
-        (subst (λ d. tilted v ≤ d) (sym (tilted_there (s_of h k) e))
-        (min_le (error_of h v) (div_ceil (16384 * plane_deviation_of h v) (cosine_of h v))
-        (error_of h (s_of h k))
-        (div_ceil (16384 * plane_deviation_of h (s_of h k)) (cosine_of h (s_of h k))) error_up
-        ceil))
+        grind (
+          arith,
+          common_steps,
+          border_up,
+          error_up,
+          planes_up,
+          ceil_grows (16384 * plane_deviation_of h v) (16384 * plane_deviation_of h (s_of h k))
+              (cosine_of h v) (cosine_of h (s_of h k)),
+          cosine_falls h shape k l v makes,
+          min_le (error_of h v) (div_ceil (16384 * plane_deviation_of h v) (cosine_of h v))
+              (error_of h (s_of h k))
+              (div_ceil (16384 * plane_deviation_of h (s_of h k)) (cosine_of h (s_of h k)))
+              error_up,
+          or_parts (is_at_border h (s_of h k)) (eqb (cosine_of h (s_of h k)) 0) e,
+          some_cosine (cosine_of h v) (cosine_of h (s_of h k)),
+          tilted_there v,
+          tilted_there (s_of h k) e,
+        )
 
     pub deviation_up : deviation_of h v ≤ deviation_of h (s_of h k)
-    deviation_up = elim (cases_Bool (is_error (s_of h k))) [
-      | inl e ↦
-          let is = error_there (s_of h k) e in
-          let below = deviation_below v in
-          let up = error_up in
-          omega arith
-      | inr e ↦ tilted_up e
-    ]
+    deviation_up = grind (arith, common_steps, deviation_below, error_there, error_up, tilted_up)
 
     pub grow : Grows h v (s_of h k)
-    grow = record {
-      planes = planes_up;
-      deviation = deviation_up;
-      cosine = cosine_falls h shape k l v makes;
-    }
+    grow = grind (arith, common_steps, cosine_falls, deviation_up, planes_up)
 
   -- At the border both are the error.
   own_error : (v : ℕ) → splitter_of h v ≡ None → error_of h v ≡ 0

@@ -1,15 +1,16 @@
 -- The leaf mesh as a list of faces, and as its sides.
 use Rattle.std.specs.List.{range_with_len}
-use Rattle.std.proofs.Common.{◌≡◌, ℕ, ◌*◌, ◌%◌, ◌<◌, List, map, length, get_or, refl, sym, ap, ◌∙◌}
+use Rattle.std.proofs.lemmas.Grind.{common_steps}
+use Rattle.std.proofs.Common.{◌≡◌, ℕ, ◌*◌, ◌<◌, List, map, length, get_or, refl, ap, ◌∙◌}
 use Rattle.std.proofs.Common.{subst, arith}
 use Rattle.std.proofs.lemmas.List.{get_or-map, length-map}
 use Rattle.std.proofs.lemmas.List.FromFn.{length-range_with_len}
 use Rattle.pm_base.specs.declared.mesh.Corners.{Corners}
 use Rattle.pm_base.specs.Meshes.{Mesh}
-use Rattle.pm_base.specs.Sides.{face_of, corner_in, no_corners as no_triple, net_of}
+use Rattle.pm_base.specs.Sides.{net_of}
 use Rattle.pm_twins.specs.Table.{Table, IsTableOf}
 use Rattle.pm_forest.specs.Forest.{Hierarchy, leaf_count}
-use Rattle.pm_forest.specs.Faces.{faces_of, face_count, corners_of, no_face_corners, from_leaf}
+use Rattle.pm_forest.specs.Faces.{faces_of, face_count, from_leaf}
 use Rattle.pm_forest.specs.Meshes.{leaf_place, leaf_corners, leaf_mesh_of}
 use Rattle.pm_forest.proofs.FaceLists.{corners_of-faces_of, length-faces_of}
 use Rattle.pm_beyond.specs.Walks.{leaf_net}
@@ -29,23 +30,11 @@ leaf_from : (h : Hierarchy) (e : ℕ) (fs : List Corners) → fs ≡ map leaf_co
     → e < 3 * face_count h → (net_of fs).from e ≡ from_leaf h e
 unfolding from_leaf
 leaf_from h e fs are l =
-    let f = face_of e in
-    let in_range : f < face_count h = omega arith in
-    let at : get_or fs f no_triple ≡ leaf_corners (corners_of h f) =
-    ap (λ (cs : List Corners). get_or cs f no_triple) are
-    ∙ get_or-map leaf_corners (faces_of h) f no_face_corners no_triple
-    (omega (arith, length-faces_of h))
-    ∙ ap leaf_corners (sym (corners_of-faces_of h f in_range)) in
-    ap (λ (c : Corners). corner_in c (e % 3)) at
+    grind (arith, common_steps, corners_of-faces_of, get_or, get_or-map, length-faces_of)
 
 leaf_same : (h : Hierarchy) (fs : List Corners) → fs ≡ (leaf_mesh_of h).faces
     → IsSameNet (net_of fs) (leaf_net h)
-leaf_same h fs are =
-    let fs_are = are ∙ leaf_faces h in
-    record {
-      faces = ap length fs_are ∙ length-map (faces_of h) leaf_corners ∙ length-faces_of h;
-      from = λ e l. leaf_from h e fs fs_are l;
-    }
+leaf_same h fs are = grind (arith, common_steps, leaf_faces, leaf_from, length-faces_of, length-map)
 
 pub leaf_table : (h : Hierarchy) (m : Mesh) (t : Table) → m ≡ leaf_mesh_of h
     → IsTableOf (net_of m.faces) (length m.points) t → IsTableOf (leaf_net h) (leaf_count h) t

@@ -1,5 +1,6 @@
 -- How far the line from a node's place along an axis goes before it meets the plane of a face.
 use Rattle.std.proofs.Common.{◌≡◌, ℕ, zero, suc, ◌*◌, ◌/◌, ◌<◌, ◌≤◌, max, min, eqb, false, List, []}
+use Rattle.std.proofs.lemmas.Grind.{common_steps}
 use Rattle.std.proofs.Common.{◌∷◌, map, ◌⊎◌, inl, inr, refl, sym, ap, ◌∙◌, subst, arith}
 use Rattle.std.proofs.Math.Nat.{le_refl, le_of_mul-le-mul_left, div-mul-le_self, div-zero}
 use Rattle.std.specs.Prelude.{ℤ, pos, neg_ℤ, ◌+ℤ◌, ◌*ℤ◌, unsigned_abs}
@@ -7,7 +8,7 @@ use Rattle.std.specs.Int.{div_ceil}
 use Rattle.std.specs.List.{Contains}
 use Rattle.std.proofs.lemmas.Int.{unsigned_abs-mul}
 use Rattle.std.proofs.lemmas.Nat.{mul-le}
-use Rattle.std.proofs.lemmas.Bool.{cases_Bool, cases_lt, cases_eq, or_parts, eq-eqb, both_ways}
+use Rattle.std.proofs.lemmas.Bool.{cases_Bool, cases_lt, or_parts, eq-eqb}
 use borrow.Author.Differences.{ints}
 use Rattle.pm_base.specs.Geometry.{dot_of, norm2_of}
 use Rattle.pm_base.specs.Rounded.{root_up}
@@ -40,13 +41,7 @@ le_by : (a b c : ℕ) → a ≤ b → b ≤ c → a ≤ c
 le_by a b c p q = omega arith
 
 positive : (k c : ℕ) → 0 < k → 0 < c → 0 < k * k * (c * c)
-positive k c p q =
-    omega (
-      arith,
-      mul-le 1 1 (k * k) (c * c)
-          (omega (arith, mul-le 1 1 k k (omega arith) (omega arith)))
-          (omega (arith, mul-le 1 1 c c (omega arith) (omega arith))),
-    )
+positive k c p q = grind (arith, common_steps, mul-le)
 
 gathered : (s k u c : ℕ) → k * k * (c * c) * (s * s * u) ≡ (s * k) * (s * k) * (u * (c * c))
 gathered s k u c = omega arith
@@ -108,10 +103,7 @@ steep c l p r k n u a b far long =
 
 some_product : (c l p r k : ℕ) → 0 < c → 0 < l → c * l ≤ 16384 * p → r * p ≤ 16384 * k → 0 < r
     → 0 < k
-some_product c l p r k pc pl a b pr =
-    let cl = mul-le 1 1 c l (omega arith) (omega arith) in
-    let rp = mul-le 1 1 r p (omega arith) (omega arith) in
-    omega arith
+some_product c l p r k pc pl a b pr = grind (arith, common_steps, mul-le)
 
 abs_zero : (x y : ℤ) → x +ℤ y ≡ pos 0 → unsigned_abs y ≡ unsigned_abs x
 abs_zero x y e = omega (arith, ints)
@@ -128,10 +120,7 @@ greatest_has g (x ∷ xs) l = elim (cases_lt (g x) (greatest (map g xs))) [
 ]
 
 max_times : (r a b k : ℕ) → r * a ≤ k → r * b ≤ k → r * max a b ≤ k
-max_times r a b k p q = elim (cases_lt a b) [
-  | inl less ↦ (let is : max a b ≡ b = omega arith in subst (λ (m : ℕ). r * m ≤ k) (sym is) q)
-  | inr more ↦ (let is : max a b ≡ a = omega arith in subst (λ (m : ℕ). r * m ≤ k) (sym is) p)
-]
+max_times r a b k p q = grind (arith, common_steps)
 
 quotient_some : (m l c : ℕ) → m / l ≡ c → 0 < c → 0 < l
 quotient_some m zero c is some = absurd (omega (arith, sym (div-zero m) ∙ is))
@@ -190,12 +179,7 @@ module _ (h : Hierarchy) (shape : HasShape h) (v : ℕ) (l : v < node_count h) w
       sides far long) enough
 
   some_cosine : (c : ℕ) → eqb c 0 ≡ false → 0 < c
-  some_cosine c e =
-      elim (cases_eq c 0) [
-        | inl is ↦ absurd (both_ways (eqb c 0) e (eq-eqb c 0 is))
-        | inr differs ↦
-            omega (arith, differs)
-      ]
+  some_cosine c e = grind (arith, common_steps, eq-eqb)
 
   axis_there : 0 < cosine_of h v → (u : Axis) × Contains AXES u
       × (cosine_along h v u ≡ cosine_of h v)

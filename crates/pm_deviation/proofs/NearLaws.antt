@@ -1,9 +1,10 @@
 -- The planes of the faces under a node are within its plane deviation.
 use Rattle.std.proofs.Common.{◌≡◌, ℕ, ◌+◌, ◌*◌, ◌<◌, ◌≤◌, max, min, true, get_or, Option, Some, inl}
-use Rattle.std.proofs.Common.{inr, sym, ap, ◌∙◌, subst, arith}
+use Rattle.std.proofs.lemmas.Grind.{common_steps}
+use Rattle.std.proofs.Common.{inr, sym, ap, subst, arith}
 use Rattle.std.specs.Prelude.{ℤ, pos, ◌+ℤ◌, ◌-ℤ◌, ◌*ℤ◌, unsigned_abs}
 use Rattle.std.specs.Option.{option_map, unwrap_or}
-use Rattle.std.proofs.lemmas.Bool.{cases_Bool, cases_lt, cases_eq}
+use Rattle.std.proofs.lemmas.Bool.{cases_Bool, cases_eq}
 use Rattle.pm_base.specs.Place.{Place}
 use Rattle.pm_base.specs.Geometry.{Direction, dot_of, norm2_of, cross_of}
 use Rattle.pm_base.specs.Rounded.{distance_of}
@@ -76,18 +77,7 @@ at_c a b c =
 on_plane : (h : Hierarchy) (e : ℕ)
     → value_of h (corners_of h (face_of e)) (leaf_place h (from_leaf h e)) ≡ pos 0
 on_plane h e =
-    let f = corners_of h (face_of e) in
-    let P = λ (x : ℕ). value_of h f (leaf_place h x) ≡ pos 0 in
-    elim (which_corner e) [
-      | inl is ↦ subst P (sym (ap (from_leaf h) is ∙ (corner_a h (face_of e)).0))
-          (at_a (leaf_place h f.a) (leaf_place h f.b) (leaf_place h f.c))
-      | inr other ↦ elim other [
-        | inl is ↦ subst P (sym (ap (from_leaf h) is ∙ (corner_b h (face_of e)).0))
-            (at_b (leaf_place h f.a) (leaf_place h f.b) (leaf_place h f.c))
-        | inr is ↦ subst P (sym (ap (from_leaf h) is ∙ (corner_c h (face_of e)).0))
-            (at_c (leaf_place h f.a) (leaf_place h f.b) (leaf_place h f.c))
-      ]
-    ]
+    grind (arith, common_steps, at_a, at_b, at_c, corner_a, corner_b, corner_c, which_corner)
 
 nothing : (d n : ℕ) → 0 * 0 ≤ d * d * n
 nothing d n = omega arith
@@ -124,10 +114,7 @@ axis_scaled n l u o k is i (a, some, over) =
     (scaled_along n (direction_of u) l (parts_of n) i)))
 
 within_min : (v : ℤ) (n a b : ℕ) → IsWithin v n a → IsWithin v n b → IsWithin v n (min a b)
-within_min v n a b p q = elim (cases_lt a b) [
-  | inl l ↦ (let is : min a b ≡ a = omega arith in subst (λ d. IsWithin v n d) (sym is) p)
-  | inr l ↦ (let is : min a b ≡ b = omega arith in subst (λ d. IsWithin v n d) (sym is) q)
-]
+within_min v n a b p q = grind (arith, common_steps)
 
 max_first : (a b m e : ℕ) → max a b ≤ e * m → a ≤ m * e
 max_first a b m e h = omega arith
@@ -272,10 +259,7 @@ module _ (h : Hierarchy) (shape : HasShape h) (f : ℕ) (is_face : f < face_coun
 
   near_by : (e v : ℕ) → face_of e ≡ f → e < 3 * face_count h → v < node_count h
       → Holds h v (from_leaf h e) → IsNearFace v (plane_deviation_of h v)
-  near_by e v is side l held =
-      subst (λ g. IsWithin (value_of h (corners_of h g) (place_of_node h v))
-      (norm2_of (normal_of h (corners_of h g))) (plane_deviation_of h v)) is
-      (planes_near h shape e side v l held)
+  near_by e v is side l held = grind (arith, common_steps, planes_near)
 
   first_le : (a b c : ℕ) → a ≤ max (max a b) c
   first_le a b c = omega arith

@@ -1,6 +1,7 @@
 -- Tables by node that are found from the leaves up, and lists that grow by one item.
 use Rattle.std.proofs.Common.{◌≡◌, ℕ, suc, ◌+◌, ◌<◌, ◌≤◌, List, [], ◌∷◌, ◌++◌, length, get_or, set}
-use Rattle.std.proofs.Common.{length-set, inl, inr, sym, ap, subst, ◌∙◌, arith}
+use Rattle.std.proofs.lemmas.Grind.{common_steps}
+use Rattle.std.proofs.Common.{length-set, inl, inr, sym, subst, ◌∙◌, arith}
 use Rattle.std.specs.Prelude.{None}
 use Rattle.std.proofs.lemmas.Bool.{cases_eq}
 use Rattle.std.proofs.lemmas.List.{get_or-set_same, get_or-set_other, get_or_push}
@@ -70,11 +71,7 @@ module _ {A : Type 0} (h : Hierarchy) (shape : HasShape h) (d : A) (value : ℕ 
               subst (λ w. get_or (set old (s_of h k) x) w d ≡ value w) (sym same)
               (get_or-set_same old (s_of h k) x d inside ∙ is)
           | inr other ↦
-              let still : DoneFrom h (suc k) v = λ j e. (let q = done j e in elim (cases_eq j k) [
-                | inl at_k ↦
-                    absurd (other (sym (ap (s_of h) (sym at_k) ∙ (splitter_of-splits h j v e).0)))
-                | inr past ↦ omega arith
-              ]) in
+              let still : DoneFrom h (suc k) v = grind (arith, common_steps, splitter_of-splits) in
               get_or-set_other old (s_of h k) v x d other ∙ was.each v m still
         ];
       }
@@ -94,11 +91,7 @@ module _ {A : Type 0} (h : Hierarchy) (shape : HasShape h) (d : A) (value : ℕ 
   given_more n old x below len was is l m =
       let at = leaf_node_of h n in
       elim (cases_eq l n) [
-        | inl same ↦
-            subst (λ k. get_or (set old at x) (leaf_node_of h k) d ≡ value (leaf_node_of h k))
-            (sym same)
-            (get_or-set_same old at x d (let node = leaf_node-lt h shape n below in omega arith)
-            ∙ is)
+        | inl same ↦ grind (arith, common_steps, get_or, get_or-set_same, leaf_node-lt)
         | inr other ↦
             get_or-set_other old at (leaf_node_of h l) x d
             (leaf_node-apart h shape l n (omega arith) below other)

@@ -1,7 +1,8 @@
 -- A node's deviation is at least how far its place may be from the planes of its faces, since no
 -- cosine is above 1.
-use Rattle.std.proofs.Common.{◌≡◌, ℕ, zero, suc, ◌+◌, ◌*◌, ◌<◌, ◌≤◌, min, max, eqb, true, false}
-use Rattle.std.proofs.Common.{◌||◌, List, [], ◌∷◌, map, Option, None, Some, inl, inr, sym, arith}
+use Rattle.std.proofs.Common.{◌≡◌, ℕ, zero, suc, ◌*◌, ◌<◌, ◌≤◌, eqb, false}
+use Rattle.std.proofs.lemmas.Grind.{common_steps}
+use Rattle.std.proofs.Common.{List, [], ◌∷◌, map, Option, None, Some, inl, inr, sym, arith}
 use Rattle.std.specs.Prelude.{IfSome}
 use Rattle.std.specs.Int.{div_ceil}
 use Rattle.std.proofs.Math.Nat.{le_refl}
@@ -9,7 +10,7 @@ use Rattle.std.proofs.lemmas.Nat.{mul-le}
 use Rattle.std.proofs.lemmas.Bool.{cases_Bool, or_parts, false≢true}
 use Rattle.pm_forest.specs.Forest.{Hierarchy, node_count}
 use Rattle.pm_forest.specs.Rules.{HasShape}
-use Rattle.pm_bounds.specs.Bounds.{error_of, greatest}
+use Rattle.pm_bounds.specs.Bounds.{greatest}
 use Rattle.pm_deviation.specs.declared.axes.TheConstants.{AXES}
 use Rattle.pm_deviation.specs.declared.axes.Axis.{Axis}
 use Rattle.pm_deviation.specs.declared.spread.Spread.{Spread}
@@ -17,17 +18,14 @@ use Rattle.pm_deviation.specs.Normals.{cosine_by, cosine_along, cosine_of, sprea
 use Rattle.pm_deviation.specs.Borders.{is_at_border}
 use Rattle.pm_deviation.specs.Deviations.{plane_deviation_of, deviation_of}
 use Rattle.pm_deviation.proofs.CosineLaws.{IsWithinAxis, least_most, spread_within}
-use Rattle.pm_deviation.proofs.GrowingLaws.{planes_below, is_error, tilted, error_there}
+use Rattle.pm_deviation.proofs.GrowingLaws.{planes_below, is_error, error_there}
 use Rattle.pm_deviation.proofs.GrowingLaws.{tilted_there}
 use Rattle.pm_deviation.proofs.PartLaws.{ceil_enough}
 
 greatest_most : {X : Type 0} (f : X → ℕ) (xs : List X) (m : ℕ) → ((x : X) → f x ≤ m)
     → greatest (map f xs) ≤ m
 greatest_most f [] m h = omega arith
-greatest_most f (x ∷ xs) m h =
-    let first = h x in
-    let rest = greatest_most f xs m h in
-    omega arith
+greatest_most f (x ∷ xs) m h = grind (arith, common_steps, greatest_most f xs m h)
 
 most : (u : Axis) (o : Option Spread) → IfSome o (IsWithinAxis u) → cosine_by u o ≤ 16384
 most u None h = le_refl 16384

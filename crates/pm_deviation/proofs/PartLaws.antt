@@ -1,13 +1,13 @@
 -- Roots rounded down, quotients rounded up, and the parts of a normal that they give.
 use Rattle.std.proofs.Common.{◌≡◌, ℕ, zero, suc, ◌+◌, ◌-◌, ◌*◌, ◌/◌, ◌<◌, ◌≤◌, eqb, ◌⊎◌, None, Some}
-use Rattle.std.proofs.Common.{inl, inr, sym, subst, arith}
+use Rattle.std.proofs.Common.{sym, subst, arith}
 use Rattle.std.proofs.Math.Nat.{le_refl, div-mul-le_self}
-use Rattle.std.specs.Prelude.{ℤ, pos, negsuc, neg_ℤ, ◌*ℤ◌, ◌≤ℤ◌, nat_le}
+use Rattle.std.specs.Prelude.{ℤ, pos, negsuc, neg_ℤ, ◌*ℤ◌, ◌≤ℤ◌}
 use Rattle.std.specs.Int.{div_ceil}
 use Rattle.std.proofs.lemmas.Nat.{mul-le}
-use Rattle.std.proofs.lemmas.Bool.{cases_Bool, cases_lt, cases_eq, cond-true, cond-false, leb-true}
+use Rattle.std.proofs.lemmas.Bool.{cond-true, cond-false, leb-true}
 use Rattle.std.proofs.lemmas.Bool.{leb-false, eq-eqb, ne_eqb}
-use Rattle.std.proofs.lemmas.Grind.{div_ceil_times}
+use Rattle.std.proofs.lemmas.Grind.{div_ceil_times, common_steps}
 use borrow.Author.Differences.{ints}
 use Rattle.pm_base.specs.Geometry.{Direction, norm2_of}
 use Rattle.pm_base.specs.Rounded.{root_up}
@@ -29,21 +29,11 @@ clash : (q m c n : ℕ) → c * m < n + m → n ≤ q * m → q < c → ⊥
 clash q m c n p r l = omega (arith, mul-le (q + 1) m c m (omega arith) (le_refl m))
 
 pub ceil_least : (n m q : ℕ) → 0 < m → n ≤ q * m → div_ceil n m ≤ q
-ceil_least n m q l h = elim (cases_lt q (div_ceil n m)) [
-  | inl above ↦ absurd (clash q m (div_ceil n m) n (div_ceil_times n m l).1 h above)
-  | inr below ↦ below
-]
+ceil_least n m q l h = grind (arith, common_steps, clash, div_ceil_times)
 
 -- a greater number, by a divisor that isn't greater
 pub ceil_grows : (m n c d : ℕ) → m ≤ n → d ≤ c → 0 < d → div_ceil m c ≤ div_ceil n d
-ceil_grows m n c d p q l =
-    ceil_least m c (div_ceil n d) (omega arith)
-    (omega (
-      arith,
-      ceil_enough n d l,
-      mul-le (div_ceil n d) d (div_ceil n d) c
-          (le_refl (div_ceil n d)) q,
-    ))
+ceil_grows m n c d p q l = grind (arith, common_steps, ceil_enough, ceil_least, le_refl, mul-le)
 
 -- Roots rounded down
 
@@ -55,40 +45,31 @@ exact : (n r : ℕ) → n ≤ r * r → r * r ≤ n → IsRootDown n r
 exact n r p q = record { square = q; most = λ k h. root_le k r (omega arith) }
 
 less_square : (n r : ℕ) → ((m : ℕ) → n ≤ m * m → r ≤ m) → 0 < r → (r - 1) * (r - 1) ≤ n
-less_square n r least l = elim (cases_lt n ((r - 1) * (r - 1))) [
-  | inl above ↦ absurd (omega (arith, least (r - 1) (omega arith)))
-  | inr below ↦ below
-]
+less_square n r least l = grind (arith, common_steps)
 
 some_root : (n r : ℕ) → n < r * r → 0 < r
 some_root n zero l = absurd (omega arith)
 some_root n (suc r) l = omega arith
 
 less_root : (n r k : ℕ) → n < r * r → k * k ≤ n → k ≤ r - 1
-less_root n r k l h =
-    elim (cases_lt k r) [
-      | inl below ↦ omega arith
-      | inr above ↦
-          absurd (omega (arith, mul-le r r k k above above))
-    ]
+less_root n r k l h = grind (arith, common_steps, mul-le)
 
 pub root_down_is : (n : ℕ) → IsRootDown n (root_down n)
 unfolding root_down
 root_down_is n =
-    let up = root_up_is n in
-    let r = root_up n in
-    elim (cases_Bool (nat_le (r * r) n)) [
-      | inl e ↦ subst (λ (k : ℕ). IsRootDown n k) (sym (cond-true (nat_le (r * r) n) r (r - 1) e))
-          (exact n r up.enough (leb-true (r * r) n e))
-      | inr e ↦
-          let l = leb-false (r * r) n e in
-          subst (λ (k : ℕ). IsRootDown n k) (sym (cond-false (nat_le (r * r) n) r (r - 1) e))
-          (record {
-            square = less_square n r up.least (some_root n r l);
-            most =
-                λ k h. less_root n r k l h;
-          })
-    ]
+    grind (
+      arith,
+      common_steps,
+      cond-false,
+      cond-true,
+      exact,
+      leb-false,
+      leb-true,
+      less_root,
+      less_square,
+      root_up_is,
+      some_root,
+    )
 
 pub root_down-some : (n : ℕ) → 0 < n → 0 < root_down n
 root_down-some n l = (let h = (root_down_is n).most 1 (omega arith) in omega arith)
@@ -103,31 +84,16 @@ roots_order n =
 -- l q is at most m, where q is m divided by at least l; and l c at least m, where c is m divided by
 -- at most l
 short : (m l long : ℕ) → l ≤ long → l * (m / long) ≤ m
-short m l long h =
-    omega (
-      arith,
-      div-mul-le_self m long,
-      mul-le l (m / long) long (m / long) h
-          (le_refl (m / long)),
-    )
+short m l long h = grind (arith, common_steps, div-mul-le_self, le_refl, mul-le)
 
 long : (m l short : ℕ) → 0 < short → short ≤ l → m ≤ l * div_ceil m short
-long m l short p h =
-    omega (
-      arith,
-      ceil_enough m short p,
-      mul-le short (div_ceil m short) l (div_ceil m short) h
-          (le_refl (div_ceil m short)),
-    )
+long m l short p h = grind (arith, common_steps, ceil_enough, le_refl, mul-le)
 
 in_order : (a b c d : ℕ) → a * b ≤ c * d → (pos a *ℤ pos b) ≤ℤ (pos c *ℤ pos d)
 in_order a b c d h = omega (arith, ints)
 
 share_scaled : (n l s t : ℕ) → 0 < s → s ≤ l → l ≤ t → IsScaledIn (pos n) l (share n s t)
-share_scaled n l s t p q r = record {
-  low = in_order l (16384 * n / t) 16384 n (short (16384 * n) l t r);
-  high = in_order 16384 n l (div_ceil (16384 * n) s) (long (16384 * n) l s p q);
-}
+share_scaled n l s t p q r = grind (arith, common_steps, in_order, long, short)
 
 pub times_neg : (k z : ℤ) → k *ℤ neg_ℤ z ≡ neg_ℤ (k *ℤ z)
 times_neg k z =
@@ -196,15 +162,7 @@ parts_scaled n l is =
 pub unit_box_cases : (n : Direction)
     → (unit_box n ≡ None) ⊎ ((unit_box n ≡ Some (parts_of n)) × (0 < norm2_of n))
 unfolding unit_box
-unit_box_cases n = elim (cases_eq (norm2_of n) 0) [
-  | inl is ↦ inl
-      (cond-true (eqb (norm2_of n) 0) None (Some (parts_of n)) (eq-eqb (norm2_of n) 0 is))
-  | inr differs ↦
-      inr (
-        cond-false (eqb (norm2_of n) 0) None (Some (parts_of n)) (ne_eqb (norm2_of n) 0 differs),
-        omega (arith, differs),
-      )
-]
+unit_box_cases n = grind (arith, common_steps, cond-false, cond-true, eq-eqb, ne_eqb)
 
 pub unit_box_some : (n : Direction) → 0 < norm2_of n → unit_box n ≡ Some (parts_of n)
 unfolding unit_box

@@ -1,6 +1,7 @@
 -- The products of a direction with the vectors of a box: in which order they stand, and how large
 -- they are.
 use Rattle.std.proofs.Common.{◌≡◌, ℕ, sym, subst, arith}
+use Rattle.std.proofs.lemmas.Grind.{common_steps}
 use Rattle.std.specs.Prelude.{ℤ, pos, negsuc, ◌+ℤ◌, ◌-ℤ◌, ◌*ℤ◌, ◌≤ℤ◌}
 use Rattle.std.specs.Int.{int_min, int_max}
 use Rattle.std.proofs.lemmas.Int.{clamps, by_lt_z}
@@ -49,15 +50,11 @@ times_down k u v p q =
 
 least_one : (k u v y : ℤ) → u ≤ℤ y → y ≤ℤ v → int_min (k *ℤ u) (k *ℤ v) ≤ℤ (k *ℤ y)
 least_one k u v y p q =
-    by_lt_z k (pos 0)
-    (λ l. min_right (k *ℤ u) (k *ℤ v) (k *ℤ y) (times_down k y v (omega (arith, ints)) q))
-    (λ l. min_left (k *ℤ u) (k *ℤ v) (k *ℤ y) (times_up k u y l p))
+    grind (arith, common_steps, by_lt_z, min_left, min_right, times_down, times_up)
 
 greatest_one : (k u v y : ℤ) → u ≤ℤ y → y ≤ℤ v → (k *ℤ y) ≤ℤ int_max (k *ℤ u) (k *ℤ v)
 greatest_one k u v y p q =
-    by_lt_z k (pos 0)
-    (λ l. max_left (k *ℤ u) (k *ℤ v) (k *ℤ y) (times_down k u y (omega (arith, ints)) p))
-    (λ l. max_right (k *ℤ u) (k *ℤ v) (k *ℤ y) (times_up k y v l q))
+    grind (arith, common_steps, by_lt_z, max_left, max_right, times_down, times_up)
 
 -- a spread of numbers times m
 least_turned : (m a b x : ℤ) → a ≤ℤ x → x ≤ℤ b → int_min (a *ℤ m) (b *ℤ m) ≤ℤ (x *ℤ m)

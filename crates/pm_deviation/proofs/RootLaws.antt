@@ -1,6 +1,7 @@
 -- What the code finds of roots and parts.
-use Rattle.std.proofs.Common.{◌≡◌, ℕ, suc, ◌+◌, ◌*◌, ◌<◌, ◌≤◌, eqb, true, false, None, Some, inl}
-use Rattle.std.proofs.Common.{inr, refl, sym, ap, ◌∙◌, subst, arith, w32, to_z}
+use Rattle.std.proofs.Common.{◌≡◌, ℕ, ◌+◌, ◌*◌, ◌<◌, ◌≤◌, eqb, true, false, None, Some, inl}
+use Rattle.std.proofs.lemmas.Grind.{common_steps}
+use Rattle.std.proofs.Common.{inr, refl, sym, ◌∙◌, subst, arith, w32, to_z}
 use Rattle.std.specs.Prelude.{ℤ, pos, negsuc, int_lt, unsigned_abs}
 use Rattle.std.proofs.lemmas.Nat.{mul-le}
 use Rattle.std.proofs.lemmas.Bool.{cases_lt, cond-true, eq-eqb}
@@ -29,19 +30,13 @@ above_least : (n d m : ℕ) → d * d < n → n ≤ m * m → d + 1 ≤ m
 above_least n d m p q = omega (arith, root_lt d m (omega arith))
 
 above_enough : (n d : ℕ) → d ≡ root_down n → n ≤ (d + 1) * (d + 1)
-above_enough n d is = elim (cases_lt ((d + 1) * (d + 1)) n) [
-  | inl l ↦ absurd (omega (arith, (root_down_is n).most (d + 1) (omega arith)))
-  | inr l ↦ l
-]
+above_enough n d is = grind (arith, common_steps, root_down_is n)
 
 pub root_after : (n d : ℕ) → d ≡ root_down n → d * d < n → d + 1 ≡ root_up n
 root_after n d is l = root_up_only n (d + 1) (above_enough n d is) (λ m h. above_least n d m l h)
 
 pub root_same : (n d : ℕ) → d ≡ root_down n → n ≤ d * d → d ≡ root_up n
-root_same n d is l =
-    root_up_only n d l
-    (λ m h. root_le d m
-    (omega (arith, h, subst (λ (r : ℕ). r * r ≤ n) (sym is) (root_down_is n).square)))
+root_same n d is l = grind (arith, common_steps, root_down_is, root_le, root_up_only)
 
 pub square_same : (a b d : ℕ) → a ≡ d → b ≡ d → a * b ≡ d * d
 square_same a b d p q = rw (p, q) refl
@@ -57,11 +52,7 @@ pub part_below : (k : ℤ) (s t square : ℕ) (size m : Spread) → int_lt k (po
 unfolding part_of
 part_below (pos k) s t square size m below size_is m_is s_is t_is =
     absurd (omega (arith, ints, below))
-part_below (negsuc k) s t square size m below size_is m_is s_is t_is =
-    let one : suc k ≡ k + 1 = omega arith in
-    let there : size ≡ share (k + 1) (root_down square) (root_up square) =
-    size_is ∙ (rw (one, s_is, t_is) refl) in
-    m_is ∙ ap mirrored there
+part_below (negsuc k) s t square size m below size_is m_is s_is t_is = grind (arith, common_steps)
 
 pub part_above : (k : ℤ) (s t square : ℕ) (size : Spread) → int_lt k (pos 0) ≡ false
     → size ≡ share (unsigned_abs k) s t →
@@ -74,24 +65,15 @@ part_above (negsuc k) s t square size above size_is s_is t_is = absurd (omega (a
 
 pub x_below : (n : Direction) (q r : ℕ) (z : ℤ) → q ≡ norm2_of n → r ≡ root_down q → z ≡ n.x
     → unsigned_abs z ≤ r
-x_below n q r z square root is =
-    subst (λ (y : ℤ). unsigned_abs y ≤ r) (sym is)
-    (subst (λ (s : ℕ). unsigned_abs n.x ≤ s) (sym root)
-    ((root_down_is q).most (unsigned_abs n.x) (omega (arith, square))))
+x_below n q r z square root is = grind (arith, common_steps, root_down_is q)
 
 pub y_below : (n : Direction) (q r : ℕ) (z : ℤ) → q ≡ norm2_of n → r ≡ root_down q → z ≡ n.y
     → unsigned_abs z ≤ r
-y_below n q r z square root is =
-    subst (λ (y : ℤ). unsigned_abs y ≤ r) (sym is)
-    (subst (λ (s : ℕ). unsigned_abs n.y ≤ s) (sym root)
-    ((root_down_is q).most (unsigned_abs n.y) (omega (arith, square))))
+y_below n q r z square root is = grind (arith, common_steps, root_down_is q)
 
 pub z_below : (n : Direction) (q r : ℕ) (z : ℤ) → q ≡ norm2_of n → r ≡ root_down q → z ≡ n.z
     → unsigned_abs z ≤ r
-z_below n q r z square root is =
-    subst (λ (y : ℤ). unsigned_abs y ≤ r) (sym is)
-    (subst (λ (s : ℕ). unsigned_abs n.z ≤ s) (sym root)
-    ((root_down_is q).most (unsigned_abs n.z) (omega (arith, square))))
+z_below n q r z square root is = grind (arith, common_steps, root_down_is q)
 
 pub no_box : (n : Direction) (q : ℕ) → q ≡ norm2_of n → q ≡ 0 → None ≡ unit_box n
 unfolding unit_box

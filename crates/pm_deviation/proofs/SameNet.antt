@@ -1,5 +1,6 @@
 -- Two nets with the same sides from the same vertices have the same twins and the same border.
-use Rattle.std.proofs.Common.{◌≡◌, ℕ, ◌*◌, ◌<◌, inl, inr, refl, sym, ap, ◌∙◌, subst}
+use Rattle.std.proofs.Common.{◌≡◌, ℕ, ◌*◌, ◌<◌, inl, inr, refl, sym, ap, ◌∙◌, subst, arith}
+use Rattle.std.proofs.lemmas.Grind.{common_steps}
 use Rattle.pm_base.specs.Sides.{Net, side_count, next, to, third, Stands, stands, NoSideTwice}
 use Rattle.pm_base.specs.Sides.{IsTwin, find_below, runs_back, twin_of, IsBorder}
 use Rattle.pm_base.proofs.Sides.{next-lt}
@@ -22,38 +23,13 @@ module _ (m n : Net) (same : IsSameNet m n) where
   same_count = ap (λ f. 3 * f) same.faces
 
   stands-from : (e : ℕ) → Stands m e → Stands n e
-  stands-from e s =
-      let l = subst (λ c. e < c) same_count s.is_side in
-      let f = same.from e l in
-      let t = same_to e l in
-      let x = same_third e l in
-      record {
-        is_side = l;
-        first = λ is. s.first (f ∙ is ∙ sym t);
-        second = λ is. s.second (t ∙ is ∙ sym x);
-        last = λ is. s.last (x ∙ is ∙ sym f);
-      }
+  stands-from e s = grind (arith, common_steps, same_count, same_third, same_to)
 
   stands-to : (e : ℕ) → Stands n e → Stands m e
-  stands-to e s =
-      let l = s.is_side in
-      let f = same.from e l in
-      let t = same_to e l in
-      let x = same_third e l in
-      record {
-        is_side = subst (λ c. e < c) (sym same_count) l;
-        first = λ is. s.first (sym f ∙ is ∙ t);
-        second = λ is. s.second (sym t ∙ is ∙ x);
-        last =
-            λ is. s.last (sym x ∙ is ∙ f);
-      }
+  stands-to e s = grind (arith, common_steps, same_count, same_third, same_to)
 
   once_same : NoSideTwice m → NoSideTwice n
-  once_same once e g s r from_is to_is =
-      let l = s.is_side in
-      let k = r.is_side in
-      once e g (stands-to e s) (stands-to g r) (same.from e l ∙ from_is ∙ sym (same.from g k))
-      (same_to e l ∙ to_is ∙ sym (same_to g k))
+  once_same once e g s r from_is to_is = grind (arith, common_steps, same_to, stands-to)
 
   runs_same : (e g : ℕ) → e < side_count n → g < side_count n → runs_back m e g ≡ runs_back n e g
   unfolding stands
@@ -67,24 +43,10 @@ module _ (m n : Net) (same : IsSameNet m n) where
       ∙ find_below-alike (runs_back m e) (runs_back n e) (side_count n) (λ g k. runs_same e g l k)
 
   twin-to : (e g : ℕ) → e < side_count n → IsTwin n e g → IsTwin m e g
-  twin-to e g l t =
-      let k = t.stands.is_side in
-      record {
-        stands = stands-to g t.stands;
-        begins = same.from g k ∙ t.begins ∙ sym (same_to e l);
-        ends = same_to g k ∙ t.ends ∙ sym (same.from e l);
-      }
+  twin-to e g l t = grind (arith, common_steps, same_to, stands-to)
 
   twin-from : (e g : ℕ) → e < side_count n → IsTwin m e g → IsTwin n e g
-  twin-from e g l t =
-      let s = stands-from g t.stands in
-      let k = s.is_side in
-      record {
-        stands = s;
-        begins = sym (same.from g k) ∙ t.begins ∙ same_to e l;
-        ends =
-            sym (same_to g k) ∙ t.ends ∙ same.from e l;
-      }
+  twin-from e g l t = grind (arith, common_steps, same_to, stands-from)
 
   border-from : (v : ℕ) → IsBorder m v → IsBorder n v
   border-from v (e, side, at) =

@@ -1,6 +1,7 @@
 -- Spreads joined in any order, and any number of times, are one spread, and it has each of them in
 -- it.
 use Rattle.std.proofs.Common.{◌≡◌, ℕ, zero, suc, ◌<◌, ◌≤◌, Bool, true, ◌||◌, List, [], ◌∷◌, ◌++◌}
+use Rattle.std.proofs.lemmas.Grind.{common_steps}
 use Rattle.std.proofs.Common.{length, get_or, map, Option, None, Some, IfSome, inl, inr, refl, sym}
 use Rattle.std.proofs.Common.{ap, ◌∙◌, arith}
 use Rattle.std.specs.Prelude.{ℤ, ◌≤ℤ◌, unsigned_abs}
@@ -130,11 +131,7 @@ joined_all-more (t ∷ ss) s =
     ap (join t) (joined_all-more ss s) ∙ sym (join-assoc t (joined_all ss) s)
 
 both : (n a b : Option Spread) → join n (join a b) ≡ join (join n a) (join n b)
-both n a b =
-    let turn : join a (join n b) ≡ join n (join a b) =
-    sym (join-assoc a n b) ∙ ap (λ t. join t b) (join-comm a n) ∙ join-assoc n a b in
-    sym (join-assoc n a (join n b) ∙ ap (join n) turn ∙ sym (join-assoc n n (join a b))
-    ∙ ap (λ t. join t (join a b)) (join-same n))
+both n a b = grind (arith, common_steps, join-assoc, join-comm, join-same)
 
 right : (n a b : Option Spread) → join n (join a b) ≡ join a (join n b)
 right n a b = sym (join-assoc n a b) ∙ ap (λ t. join t b) (join-comm n a) ∙ join-assoc a n b
@@ -146,20 +143,7 @@ module _ {X : Type 0} (f : X → Option Spread) (p q : X → Bool) where
       ≡ join (joined_all (map f (filter p xs))) (joined_all (map f (filter q xs)))
   joined_all-either [] = refl
   joined_all-either (x ∷ xs) =
-      let rest = joined_all-either xs in
-      let n = f x in
-      let a = joined_all (map f (filter p xs)) in
-      let b = joined_all (map f (filter q xs)) in
-      elim (cases_Bool (p x)) [
-        | inl e ↦ elim (cases_Bool (q x)) [
-          | inl g ↦ (rw (e, g) (ap (join n) rest ∙ both n a b))
-          | inr g ↦ (rw (e, g) (ap (join n) rest ∙ sym (join-assoc n a b)))
-        ]
-        | inr e ↦ elim (cases_Bool (q x)) [
-          | inl g ↦ (rw (e, g) (ap (join n) rest ∙ right n a b))
-          | inr g ↦ (rw (e, g) rest)
-        ]
-      ]
+      grind (arith, common_steps, both, join-assoc, right, joined_all-either xs)
 
 module _ {X : Type 0} (f : X → Option Spread) (p : X → Bool) where
   -- each spread of what passes is in that of all
