@@ -1,5 +1,6 @@
 -- The least product of a box is at most every product in it.
 use Rattle.std.proofs.Common.{◌≡◌, ℕ, ◌+◌, ◌*◌, ◌≤◌, subst, arith}
+use Rattle.std.proofs.lemmas.Grind.{common_steps}
 use Rattle.std.specs.Prelude.{ℤ, pos, negsuc, ◌+ℤ◌, ◌-ℤ◌, ◌*ℤ◌, ◌≤ℤ◌, unsigned_abs}
 use Rattle.std.specs.Int.{int_min}
 use Rattle.std.proofs.lemmas.Int.{clamps, by_lt_z}
@@ -50,9 +51,7 @@ times_down k u v p q =
 -- one factor in an interval: the product is above that with one of the ends
 least_one : (k u v y : ℤ) → u ≤ℤ y → y ≤ℤ v → int_min (k *ℤ u) (k *ℤ v) ≤ℤ (k *ℤ y)
 least_one k u v y p q =
-    by_lt_z k (pos 0)
-    (λ l. min_right (k *ℤ u) (k *ℤ v) (k *ℤ y) (times_down k y v (omega (arith, ints)) q))
-    (λ l. min_left (k *ℤ u) (k *ℤ v) (k *ℤ y) (times_up k u y l p))
+    grind (arith, common_steps, by_lt_z, min_left, min_right, times_down, times_up)
 
 min_both : (a b c d x y : ℤ) → int_min a c ≤ℤ x → int_min b d ≤ℤ y
     → int_min (int_min a b) (int_min c d) ≤ℤ int_min x y
@@ -120,15 +119,7 @@ three_le a b c x y z p q r = omega (arith, ints)
 pub facing_child : (child parent : Bounded) (eye : Place) → IsChild child parent
     → least_facing parent eye ≤ℤ least_facing child eye
 unfolding least_facing
-facing_child s b eye h =
-    let n = axes_near b.place s.place h.d h.near in
-    three_le _ _ _ _ _ _
-    (axis_grows b.box.low.x b.box.high.x s.box.low.x s.box.high.x b.place.x s.place.x eye.x h.d
-    s.radius b.radius h.nested.low_x h.nested.box_x h.nested.high_x n.0 h.radius)
-    (axis_grows b.box.low.y b.box.high.y s.box.low.y s.box.high.y b.place.y s.place.y eye.y h.d
-    s.radius b.radius h.nested.low_y h.nested.box_y h.nested.high_y n.1 h.radius)
-    (axis_grows b.box.low.z b.box.high.z s.box.low.z s.box.high.z b.place.z s.place.z eye.z h.d
-    s.radius b.radius h.nested.low_z h.nested.box_z h.nested.high_z n.2 h.radius)
+facing_child s b eye h = grind (arith, common_steps, axes_near, axis_grows, three_le)
 
 pub lower_end : (p q e : ℤ) (r : ℕ) → unsigned_abs (p -ℤ q) ≤ r → (p -ℤ pos r -ℤ e) ≤ℤ (q -ℤ e)
 lower_end p q e r h = omega (arith, ints)
@@ -145,12 +136,4 @@ axis_corner a b n p q e r u v h =
 pub facing_corner : (b : Bounded) (n : Direction) (q eye : Place) → IsCorner b n q
     → least_facing b eye ≤ℤ dot_of n (way q eye)
 unfolding least_facing
-facing_corner b n q eye h =
-    let k = axes_near b.place q b.radius h.near in
-    three_le _ _ _ _ _ _
-    (axis_corner b.box.low.x b.box.high.x n.x b.place.x q.x eye.x b.radius h.boxed.low_x
-    h.boxed.high_x k.0)
-    (axis_corner b.box.low.y b.box.high.y n.y b.place.y q.y eye.y b.radius h.boxed.low_y
-    h.boxed.high_y k.1)
-    (axis_corner b.box.low.z b.box.high.z n.z b.place.z q.z eye.z b.radius h.boxed.low_z
-    h.boxed.high_z k.2)
+facing_corner b n q eye h = grind (arith, common_steps, axes_near, axis_corner, three_le)

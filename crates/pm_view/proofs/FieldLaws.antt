@@ -1,5 +1,6 @@
 -- Laws of the fields of a text.
 use Rattle.std.proofs.Common.{◌≡◌, ℕ, zero, suc, ◌+◌, ◌-◌, ◌<◌, ◌≤◌, eqb, true, false, List, []}
+use Rattle.std.proofs.lemmas.Grind.{common_steps}
 use Rattle.std.proofs.Common.{◌∷◌, length, get_or, take, drop, ◌++◌, append_assoc, append-nil}
 use Rattle.std.proofs.Common.{length-take, Option, None, Some, inl, inr, refl, sym, ◌∙◌, ap, arith}
 use Rattle.std.specs.Option.{option_map, option_and_then}
@@ -112,17 +113,11 @@ read_more all planes k text f rest l was e =
 pub read_bad : (all : List (List ℕ)) (planes : List Plane) (k : ℕ) (text : List ℕ) → k < 6
     → AreRead all planes k (spaced_fields text) → first_plane (spaced_fields text) ≡ None
     → planes_of 6 all ≡ None
-read_bad all planes k text l was e =
-    let n : 6 - k ≡ suc (6 - (k + 1)) = omega arith in
-    was ∙ ap (λ m. option_map (λ gs. planes ++ gs) (planes_of m (spaced_fields text))) n
-    ∙ ap (option_map (λ gs. planes ++ gs)) (planes_none (6 - (k + 1)) text e)
+read_bad all planes k text l was e = grind (arith, common_steps, planes_none (6 - (k + 1)) text e)
 
 pub read_over : (all : List (List ℕ)) (planes : List Plane) (k : ℕ) (text : List ℕ) → 6 ≤ k
     → AreRead all planes k (spaced_fields text) → planes_of 6 all ≡ None
-read_over all planes k text l was =
-    let n : 6 - k ≡ 0 = omega arith in
-    was ∙ ap (λ m. option_map (λ gs. planes ++ gs) (planes_of m (spaced_fields text))) n
-    ∙ ap (option_map (λ gs. planes ++ gs)) (planes_over text)
+read_over all planes k text l was = grind (arith, common_steps, planes_over)
 
 pub read_all : (all : List (List ℕ)) (planes : List Plane) (k : ℕ) → AreRead all planes k []
     → planes_of 6 all ≡ Some planes

@@ -1,6 +1,7 @@
 -- The laws of wanted nodes, from the bounds that a hierarchy's nodes have.
-use Rattle.std.proofs.Common.{◌≡◌, ℕ, ◌*◌, ◌<◌, true, false, Bool, ◌&&◌, not, ◌⊎◌, inl, inr, subst}
-use Rattle.std.proofs.Common.{ap, arith}
+use Rattle.std.proofs.Common.{◌≡◌, ℕ, ◌*◌, ◌<◌, true, false, ◌&&◌, not, ◌⊎◌, inl, inr, subst}
+use Rattle.std.proofs.lemmas.Grind.{common_steps}
+use Rattle.std.proofs.Common.{arith}
 use Rattle.std.specs.Prelude.{◌≤◌, pos, int_le, unsigned_abs}
 use Rattle.std.proofs.Math.Nat.{le_refl}
 use Rattle.std.proofs.lemmas.Nat.{mul-le}
@@ -12,8 +13,7 @@ use Rattle.pm_forest.specs.Faces.{face_count, corners_of, from_leaf}
 use Rattle.pm_forest.specs.Places.{place_of_node}
 use Rattle.pm_forest.specs.Rules.{HasShape}
 use Rattle.pm_forest.specs.Meshes.{leaf_place}
-use Rattle.pm_bounds.specs.Laws.{IsIn}
-use Rattle.pm_bounds.specs.Bounds.{normal_of, leaf_radius, error_of, radius_of, normal_box_of}
+use Rattle.pm_bounds.specs.Bounds.{normal_of, leaf_radius, error_of, radius_of}
 use Rattle.pm_bounds.proofs.Covering.{near, errors_grow, radii_grow, child_number, leaves_covered}
 use Rattle.pm_bounds.proofs.Covering.{corners_covered, normals_boxed, boxes_nest}
 use Rattle.pm_deviation.specs.Laws.{value_of}
@@ -57,14 +57,13 @@ module _ (h : Hierarchy) (shape : HasShape h) where
       → IsCorner (bounded h v) (normal_of h (corners_of h (face_of e)))
       (leaf_place h (from_leaf h e))
   corner v e l c =
-      let side = c.side in
-      let same = c.same_face in
-      let other : c.under < 3 * face_count h = omega arith in
-      record {
-        near = corners_covered h shape v c.under e l side same c.held;
-        boxed = subst (λ f. IsIn (normal_of h (corners_of h f)) (normal_box_of h v)) same
-            (normals_boxed h shape v c.under other c.held);
-      }
+      grind (
+        arith,
+        common_steps,
+        near,
+        corners_covered h shape v c.under e l,
+        normals_boxed h shape v c.under,
+      )
 
   pub wanting_passes_up : (view : View) (k v : ℕ) → k < record_count h → Makes h k v
       → is_wanted h view v ≡ true → is_wanted h view (s_of h k) ≡ true
@@ -149,7 +148,4 @@ pub one_tolerance : (h : Hierarchy) (view : View) (v : ℕ) → view.sil ≡ vie
     is_wanted h view v
     ≡ (not (is_outside_any view.planes b.place b.radius) && int_le (least_facing b view.eye)
     (pos 0) && looks_large b view view.tol)
-one_tolerance h view v same =
-    let b = bounded h v in
-    ap (λ (large : Bool). not (is_outside_any view.planes b.place b.radius) && int_le
-    (least_facing b view.eye) (pos 0) && large) (plain b view same)
+one_tolerance h view v same = grind (arith, common_steps, plain)

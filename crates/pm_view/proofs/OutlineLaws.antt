@@ -1,5 +1,6 @@
 -- The greatest product of a box is at least every product in it.
 use Rattle.std.proofs.Common.{ℕ, ◌+◌, ◌≤◌, arith}
+use Rattle.std.proofs.lemmas.Grind.{common_steps}
 use Rattle.std.specs.Prelude.{ℤ, pos, ◌+ℤ◌, ◌-ℤ◌, ◌*ℤ◌, ◌≤ℤ◌, unsigned_abs}
 use Rattle.std.specs.Int.{int_max}
 use Rattle.std.proofs.lemmas.Int.{clamps, by_lt_z}
@@ -17,9 +18,7 @@ use Rattle.pm_view.proofs.FacingLaws.{three_le, lower_end, upper_end}
 -- one factor in an interval: the product is below that with one of the ends
 greatest_one : (k u v y : ℤ) → u ≤ℤ y → y ≤ℤ v → (k *ℤ y) ≤ℤ int_max (k *ℤ u) (k *ℤ v)
 greatest_one k u v y p q =
-    by_lt_z k (pos 0)
-    (λ l. max_left (k *ℤ u) (k *ℤ v) (k *ℤ y) (times_down k u y (omega (arith, ints)) p))
-    (λ l. max_right (k *ℤ u) (k *ℤ v) (k *ℤ y) (times_up k y v l q))
+    grind (arith, common_steps, by_lt_z, max_left, max_right, times_down, times_up)
 
 max_both : (a b c d x y : ℤ) → x ≤ℤ int_max a c → y ≤ℤ int_max b d
     → int_max x y ≤ℤ int_max (int_max a b) (int_max c d)
@@ -64,15 +63,7 @@ axis_grows a b a' b' p q e d s r u v w h l =
 pub turning_child : (child parent : Bounded) (eye : Place) → IsChild child parent
     → greatest_facing child eye ≤ℤ greatest_facing parent eye
 unfolding greatest_facing
-turning_child s b eye h =
-    let n = axes_near b.place s.place h.d h.near in
-    three_le _ _ _ _ _ _
-    (axis_grows b.box.low.x b.box.high.x s.box.low.x s.box.high.x b.place.x s.place.x eye.x h.d
-    s.radius b.radius h.nested.low_x h.nested.box_x h.nested.high_x n.0 h.radius)
-    (axis_grows b.box.low.y b.box.high.y s.box.low.y s.box.high.y b.place.y s.place.y eye.y h.d
-    s.radius b.radius h.nested.low_y h.nested.box_y h.nested.high_y n.1 h.radius)
-    (axis_grows b.box.low.z b.box.high.z s.box.low.z s.box.high.z b.place.z s.place.z eye.z h.d
-    s.radius b.radius h.nested.low_z h.nested.box_z h.nested.high_z n.2 h.radius)
+turning_child s b eye h = grind (arith, common_steps, axes_near, axis_grows, three_le)
 
 axis_corner : (a b n p q e : ℤ) (r : ℕ) → a ≤ℤ n → n ≤ℤ b → unsigned_abs (p -ℤ q) ≤ r
     → (n *ℤ (q -ℤ e)) ≤ℤ greatest_on_axis a b p r e
@@ -83,12 +74,4 @@ axis_corner a b n p q e r u v h =
 pub turning_corner : (b : Bounded) (n : Direction) (q eye : Place) → IsCorner b n q
     → dot_of n (way q eye) ≤ℤ greatest_facing b eye
 unfolding greatest_facing
-turning_corner b n q eye h =
-    let k = axes_near b.place q b.radius h.near in
-    three_le _ _ _ _ _ _
-    (axis_corner b.box.low.x b.box.high.x n.x b.place.x q.x eye.x b.radius h.boxed.low_x
-    h.boxed.high_x k.0)
-    (axis_corner b.box.low.y b.box.high.y n.y b.place.y q.y eye.y b.radius h.boxed.low_y
-    h.boxed.high_y k.1)
-    (axis_corner b.box.low.z b.box.high.z n.z b.place.z q.z eye.z b.radius h.boxed.low_z
-    h.boxed.high_z k.2)
+turning_corner b n q eye h = grind (arith, common_steps, axes_near, axis_corner, three_le)

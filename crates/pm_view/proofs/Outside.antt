@@ -1,5 +1,6 @@
 -- A ball on the negative side of a plane keeps on it whatever lies in the ball.
 use Rattle.std.proofs.Common.{◌≡◌, ℕ, ◌+◌, ◌-◌, ◌*◌, ◌<◌, ◌≤◌, inl, inr, sym, subst, arith}
+use Rattle.std.proofs.lemmas.Grind.{common_steps}
 use Rattle.std.proofs.Math.Nat.{le_refl}
 use Rattle.std.specs.Prelude.{ℤ, pos, ◌+ℤ◌, ◌-ℤ◌, ◌*ℤ◌, ◌<ℤ◌, unsigned_abs}
 use Rattle.std.proofs.lemmas.Nat.{mul-le}
@@ -25,14 +26,7 @@ below a k r d n p q =
 
 above : (a k r d n : ℕ) → (r + d) * (r + d) * n < a * a → k * k ≤ d * d * n → k < a
     → r * r * n < (a - k) * (a - k)
-above a k r d n p q l =
-    elim (cases_lt (r * r * n) ((a - k) * (a - k))) [
-      | inl h ↦ h
-      | inr h ↦ let e : (a - k) + k ≡ a = omega arith in
-          let o = left_over (a - k) k r d n h q in
-          let o' = subst (λ (t : ℕ). t * t ≤ (r + d) * (r + d) * n) e o in
-          absurd (omega (arith, o'))
-    ]
+above a k r d n p q l = grind (arith, common_steps, left_over)
 
 pub shrinks : (a k r d n : ℕ) → (r + d) * (r + d) * n < a * a → k * k ≤ d * d * n
     → (k < a) × (r * r * n < (a - k) * (a - k))

@@ -1,20 +1,21 @@
 -- The tests pass from a child to its parent, and each test that fails says why.
 use Rattle.std.proofs.Common.{◌≡◌, ℕ, ◌+◌, ◌*◌, ◌<◌, ◌≤◌, true, false, ◌&&◌, ◌||◌, Bool, not, List}
+use Rattle.std.proofs.lemmas.Grind.{common_steps}
 use Rattle.std.proofs.Common.{[], ◌∷◌, ◌⊎◌, inl, inr, refl, suc, sym, ap, ◌∙◌, arith}
 use Rattle.std.proofs.Math.Nat.{le_refl}
-use Rattle.std.specs.Prelude.{ℤ, pos, ◌≤ℤ◌, ◌<ℤ◌, int_lt, int_le, nat_lt, unsigned_abs}
+use Rattle.std.specs.Prelude.{ℤ, pos, ◌≤ℤ◌, ◌<ℤ◌, int_lt, int_le}
 use Rattle.std.proofs.lemmas.Nat.{mul-le}
 use Rattle.std.proofs.lemmas.Bool.{cases_lt, and_parts, and_from, and_cases, or_cases, or_parts}
 use Rattle.std.proofs.lemmas.Bool.{or_left, or_right, not-true, not-false, not_from_false}
-use Rattle.std.proofs.lemmas.Bool.{both_ways, lt-ltb, ltb-true, ltb-false, false_from_ne_true}
+use Rattle.std.proofs.lemmas.Bool.{lt-ltb, ltb-true, ltb-false}
 use Rattle.std.proofs.lemmas.Bool.{false≢true}
 use Rattle.pm_base.specs.Place.{Place}
-use Rattle.pm_base.specs.Geometry.{Direction, dot_of, dist2_of, norm2_of}
+use Rattle.pm_base.specs.Geometry.{Direction, dot_of, dist2_of}
 use Rattle.pm_view.specs.declared.measure.Measure.{Measure}
 use Rattle.pm_view.specs.declared.measure.Measure.TheVariants as measures
 use Rattle.pm_view.specs.declared.plane.Plane.{Plane}
 use Rattle.pm_view.specs.Views.{View}
-use Rattle.pm_view.specs.Wanted.{Bounded, value_at, normal_in, is_outside, is_outside_any}
+use Rattle.pm_view.specs.Wanted.{Bounded, value_at, is_outside, is_outside_any}
 use Rattle.pm_view.specs.Wanted.{least_facing, greatest_facing, may_turn_away, size_of}
 use Rattle.pm_view.specs.Wanted.{looks_larger, looks_large, is_large, passes}
 use Rattle.pm_view.specs.Laws.{way}
@@ -45,11 +46,7 @@ is_at_most a b h = sym (omega (arith, ints))
 
 -- planes
 outside_from : (f : Plane) (p : Place) (r : ℕ) → is_outside f p r ≡ true → Outside f p r
-outside_from f p r e =
-    let h = and_parts (int_lt (value_at f p) (pos 0))
-    (nat_lt (r * r * norm2_of (normal_in f))
-    (unsigned_abs (value_at f p) * unsigned_abs (value_at f p))) e in
-    record { negative = less _ _ h.0; far = ltb-true _ _ h.1 }
+outside_from f p r e = grind (arith, common_steps, and_parts, less, ltb-true)
 
 outside_to : (f : Plane) (p : Place) (r : ℕ) → Outside f p r → is_outside f p r ≡ true
 outside_to f p r h = and_from _ _ (is_less _ _ h.negative) (lt-ltb _ _ h.far)
@@ -250,18 +247,17 @@ asked_in_turn false false false w false = refl
 pub wanted_passes : (child parent : Bounded) (v : View) → IsChild child parent
     → passes child v ≡ true → passes parent v ≡ true
 wanted_passes s b v h e =
-    let two = and_parts
-    (not (is_outside_any v.planes s.place s.radius) && int_le (least_facing s v.eye) (pos 0))
-    (is_large s v) e in
-    let one = and_parts (not (is_outside_any v.planes s.place s.radius))
-    (int_le (least_facing s v.eye) (pos 0)) two.0 in
-    let inside =
-    false_from_ne_true (is_outside_any v.planes b.place b.radius)
-    (λ (o : is_outside_any v.planes b.place b.radius ≡ true). both_ways
-    (is_outside_any v.planes s.place s.radius) (not-true _ one.0)
-    (outside_any_within v.planes b.place s.place b.radius s.radius h.d h.near h.radius o)) in
-    and_from _ _ (and_from _ _ (not_from_false _ inside) (facing_passes s b v.eye h one.1))
-    (large_passes s b v h two.1)
+    grind (
+      arith,
+      common_steps,
+      and_from,
+      and_parts,
+      not-true,
+      not_from_false,
+      outside_any_within,
+      facing_passes s b,
+      large_passes s b,
+    )
 
 pub reasons : (b : Bounded) (v : View) → passes b v ≡ false → IsBehindOne v.planes b
     ⊎ (FacesAway b v.eye ⊎ LooksTiny b v)
