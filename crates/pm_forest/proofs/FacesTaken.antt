@@ -1,10 +1,9 @@
 -- What a shaper keeps with each face of a record that it takes in.
 use Rattle.std.proofs.Common.{◌≡◌, ℕ, ◌+◌, ◌-◌, Bool, true, false, ◌&&◌, ◌||◌, List, [], ◌∷◌, ◌++◌}
-use Rattle.std.proofs.lemmas.Grind.{common_steps}
-use Rattle.std.proofs.Common.{length, Option, None, Some, is_some, IfSome, refl, sym, ◌∙◌}
+use Rattle.std.proofs.Common.{length, Option, None, Some, is_some, IfSome, inl, inr, refl, sym, ◌∙◌}
 use Rattle.std.proofs.Common.{arith, append_assoc}
 use Rattle.std.proofs.Math.Bool.{or-false}
-use Rattle.std.proofs.lemmas.Bool.{ne_eqb, false≢true}
+use Rattle.std.proofs.lemmas.Bool.{cases_eq, ne_eqb, false≢true}
 use Rattle.std.proofs.lemmas.List.{append-nil, length_push, map_push}
 use Rattle.pm_base.specs.declared.ids.Side.{Side}
 use Rattle.pm_base.proofs.Search.{not_some}
@@ -14,9 +13,9 @@ use Rattle.pm_forest.specs.declared.parts.NewFace.{NewFace}
 use Rattle.pm_forest.specs.declared.parts.Record.{Record}
 use Rattle.pm_forest.specs.Marks.{AreMarked}
 use Rattle.pm_forest.specs.Forest.{Hierarchy}
-use Rattle.pm_forest.specs.Faces.{faces_of}
+use Rattle.pm_forest.specs.Faces.{face_in, faces_of}
 use Rattle.pm_forest.specs.Rules.{node_inputs, face_inputs, head_fault, new_face_fault, face_fault}
-use Rattle.pm_forest.specs.Rules.{record_fault, bare, left_only, with_record}
+use Rattle.pm_forest.specs.Rules.{record_fault, record_fault_after, bare, left_only, with_record}
 use Rattle.pm_forest.specs.Rules.{word_of, head_with}
 use Rattle.pm_forest.specs.Tables.{Grown, grown, with_new_face}
 use Rattle.pm_forest.specs.Shaping.{side_of, next_face, SplitFits, ComingFits, IsShaping}
@@ -36,7 +35,10 @@ without_faces r no_left no_right =
 
 -- the word of the side that a word names, and the side that the word of a side names
 pub word_of-side : (word : ℕ) → word_of (side_of word) ≡ word
-word_of-side word = grind (arith, common_steps, ne_eqb)
+word_of-side word = elim (cases_eq word 0) [
+  | inl is ↦ (rw is refl)
+  | inr some ↦ (rw (ne_eqb word 0 some) (omega arith))
+]
 
 pub side_of-word : (o : Option Side) → side_of (word_of o) ≡ o
 side_of-word None = refl
@@ -60,14 +62,28 @@ left_fits : (h : Hierarchy) (r : Record) (right_due : Bool) (f : Face) (first se
     new_face_fault (with_record h r) true f first second ≡ None
     → FaceFits h (with_new_face r true (next_face f first second)) right_due
 left_fits h r right_due f first second s fits =
-    grind (arith, common_steps, not_some, without_faces, word_of-side)
+    let no_left = s.no_left refl in
+    record {
+      head = rw no_left at s.head;
+      split = s.split;
+      left = rw (word_of-side first, word_of-side second, ← without_faces r no_left s.no_right)
+          fits;
+      right = rw (not_some r.right s.no_right) refl;
+      alone = λ due. s.no_right;
+    }
 
 right_fits : (h : Hierarchy) (r : Record) (f : Face) (first second : ℕ) → ComingFits h r false true
     →
     new_face_fault (with_record h r) false f first second ≡ None
     → FaceFits h (with_new_face r false (next_face f first second)) false
 right_fits h r f first second s fits =
-    grind (arith, common_steps, is_some, or-false, without_right, word_of-side)
+    record {
+      head = rw (s.no_right, or-false (is_some r.left)) at s.head;
+      split = s.split;
+      left = s.left;
+      right = rw (word_of-side first, word_of-side second, ← without_right r s.no_right) fits;
+      alone = λ due. absurd cc;
+    }
 
 face_fits : (h : Hierarchy) (r : Record) (left right : Bool) (f : Face) (first second : ℕ)
     → ComingFits h r left right →
@@ -80,7 +96,14 @@ face_fits h r false false f first second s fits = absurd (false≢true s.due)
 
 -- the record goes on, or is complete
 face_goes_on : (h : Hierarchy) (r : Record) → FaceFits h r true → ComingFits h r false true
-face_goes_on h r s = grind (arith, common_steps, is_some, or-false)
+face_goes_on h r s = record {
+  head = rw (or-false (is_some r.left)) s.head;
+  split = s.split;
+  left = s.left;
+  no_right = s.alone refl;
+  no_left = λ due. absurd cc;
+  due = refl;
+}
 
 face_completes : (h : Hierarchy) (r : Record) → FaceFits h r false → record_fault h r ≡ None
 unfolding record_fault
@@ -96,7 +119,13 @@ faces_more h r true n no_right no_left =
     rw (faces_of-with_record h (with_new_face r true n), faces_of-with_record h r)
     (rw (not_some r.left (no_left refl), not_some r.right no_right, append-nil (faces_of h)) refl)
 faces_more h r false n no_right no_left =
-    grind (arith, common_steps, append-nil, append_assoc, faces_of-with_record, not_some)
+    rw (faces_of-with_record h (with_new_face r false n), faces_of-with_record h r)
+    (rw (
+      not_some r.right no_right,
+      append-nil (face_in r.left),
+      append_assoc (faces_of h)
+          (face_in r.left) (n.face ∷ []),
+    ) refl)
 
 -- and the nodes are the same
 nodes_same : (h : Hierarchy) (r : Record) (left : Bool) (n : NewFace) →
@@ -159,7 +188,10 @@ pub face_added : (g g' : Grown) (left right : Bool) (vertices faces faces' : Lis
     IsShaping g' false true vertices faces'
 face_added g g' left right vertices faces faces' f first second a b s there fits first_is second_is
     put marked flags due =
-    grind (arith, common_steps, face_to, some_coming)
+    let at = some_coming g.coming there in
+    rw (rw (at.1, first_is, second_is) at put)
+    (face_to g.counts g.h at.0 left right vertices faces faces' f first second (rw at.1 at s)
+    (rw at.1 at fits) (rw at.1 at marked) flags due)
 
 record_to : (c : Counts) (h : Hierarchy) (r : Record) (left right : Bool)
     (vertices faces faces' : List Bool) (f : Face) (first second : ℕ) →
@@ -174,17 +206,30 @@ record_to : (c : Counts) (h : Hierarchy) (r : Record) (left right : Bool)
     }) false
     false vertices faces'
 record_to c h r left right vertices faces faces' f first second s fits marked flags due =
-    grind (
-      arith,
-      common_steps,
-      AllFit-push,
-      face_completes,
-      face_fits,
-      faces_more,
-      length_with,
-      map_push,
-      nodes_same,
-    )
+    let n = next_face f first second in
+    let fit = face_fits h r left right f first second s.coming_fits fits in
+    let more = faces_more h r left n s.coming_fits.no_right s.coming_fits.no_left in
+    let count = length_with h (with_new_face r left n) r in
+    let complete = face_completes h (with_new_face r left n) (rw due at fit) in
+    record {
+      counts_fit = s.counts_fit;
+      roots_fit = s.roots_fit;
+      bases_fit = s.bases_fit;
+      records_fit =
+          AllFit-push (record_fault_after h.roots h.bases) [] h.records (with_new_face r left n)
+          s.records_fit complete;
+      coming_fits = (refl, refl);
+      roots_most = s.roots_most;
+      bases_most = s.bases_most;
+      records_most = omega (arith, s.records_most);
+      roots_first = λ some. s.roots_first (omega arith);
+      bases_next = λ some. s.bases_next (omega arith);
+      nodes_marked = rw (nodes_same h r left n) s.nodes_marked;
+      node_flags = s.node_flags;
+      faces_marked =
+          rw (more, map_push (λ (x : Face). x.input) (faces_of (with_record h r)) f) marked;
+      face_flags = flags ∙ s.face_flags;
+    }
 
 pub record_added : (g g' g'' : Grown) (left right : Bool) (vertices faces faces' : List Bool)
     (f : Face) (first second : ℕ) (a b : Option Side) →
@@ -200,4 +245,7 @@ pub record_added : (g g' g'' : Grown) (left right : Bool) (vertices faces faces'
     IsShaping g'' false false vertices faces'
 record_added g g' g'' left right vertices faces faces' f first second a b s there fits first_is
     second_is put settled marked flags due =
-    grind (arith, common_steps, record_to, some_coming)
+    let at = some_coming g.coming there in
+    rw (rw (rw (at.1, first_is, second_is) at put) at settled)
+    (record_to g.counts g.h at.0 left right vertices faces faces' f first second (rw at.1 at s)
+    (rw at.1 at fits) (rw at.1 at marked) flags due)

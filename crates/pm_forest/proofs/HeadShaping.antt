@@ -1,9 +1,8 @@
 -- What a shaper keeps with each head that it takes in, and at its end.
-use Rattle.std.proofs.Common.{◌≡◌, ℕ, ℤ, ◌+◌, ◌*◌, ◌<◌, ◌≤◌, eqb, Bool, true, false, not, ◌||◌}
-use Rattle.std.proofs.lemmas.Grind.{common_steps}
-use Rattle.std.proofs.Common.{List, [], ◌∷◌, ◌++◌, length, None, Some, refl, sym}
-use Rattle.std.proofs.Common.{arith, append_assoc}
-use Rattle.std.proofs.lemmas.Bool.{eqb-false, ltb-false, ne_eqb, or_parts}
+use Rattle.std.proofs.Common.{◌≡◌, ℕ, ℤ, ◌+◌, ◌*◌, ◌<◌, ◌≤◌, eqb, ltb, Bool, true, false, not, ◌||◌}
+use Rattle.std.proofs.Common.{List, [], ◌∷◌, ◌++◌, length, None, Some, inl, inr, refl, sym, ◌∙◌}
+use Rattle.std.proofs.Common.{subst, arith, append_assoc}
+use Rattle.std.proofs.lemmas.Bool.{cases_eq, eqb-false, ltb-false, ne_eqb, or_parts}
 use Rattle.std.proofs.lemmas.Bool.Decides.{nat_tests}
 use Rattle.std.proofs.lemmas.List.{append-nil, length_push, flat_map_more}
 use Rattle.pm_base.specs.Place.{place_of}
@@ -13,6 +12,7 @@ use Rattle.pm_forest.specs.declared.parts.Head.{Head}
 use Rattle.pm_forest.specs.declared.parts.Record.{Record}
 use Rattle.pm_forest.specs.Marks.{AreMarked}
 use Rattle.pm_forest.specs.Forest.{Hierarchy}
+use Rattle.pm_forest.specs.Faces.{faces_of}
 use Rattle.pm_forest.specs.Rules.{root_inputs, child_inputs, node_inputs, presence_is_bad}
 use Rattle.pm_forest.specs.Rules.{head_is_bad, head_fault, past_fault, with_record, head_with}
 use Rattle.pm_forest.specs.Rules.{counts_of, HasShape}
@@ -33,15 +33,36 @@ three (x ∷ y ∷ z ∷ w ∷ l) len = absurd (omega arith)
 -- the presence word says which faces are due
 presence_told : (p : ℕ) → presence_is_bad p ≡ false
     → one_if (not (eqb p 2)) + 2 * one_if (not (eqb p 1)) ≡ p
-presence_told p fit = grind (arith, common_steps, eqb-false, ltb-false, or_parts)
+presence_told p fit =
+    let tests = or_parts (eqb p 0) (ltb 3 p) fit in
+    let some = eqb-false p 0 tests.0 in
+    let most = ltb-false 3 p tests.1 in
+    elim (cases_eq p 1) [
+      | inl is ↦ (rw is refl)
+      | inr not_one ↦ elim (cases_eq p 2) [
+        | inl is ↦ (rw is refl)
+        | inr not_two ↦ (let is : p ≡ 3 = omega arith in rw is refl)
+      ]
+    ]
 
 -- and at least one is due
 pub presence_some : (p : ℕ) → not (eqb p 2) || not (eqb p 1) ≡ true
-presence_some p = grind (arith, common_steps, ne_eqb)
+presence_some p = elim (cases_eq p 2) [
+  | inl is ↦ (rw is refl)
+  | inr not_two ↦ (rw (ne_eqb p 2 not_two) refl)
+]
 
 head_told : (d : Head) → length d.t ≡ 3 → length d.u ≡ 3 → presence_is_bad d.presence ≡ false →
     head_with (started d).split (not (eqb d.presence 2)) (not (eqb d.presence 1)) ≡ d
-head_told d t u fit = grind (arith, common_steps, presence_told, three)
+head_told d t u fit = λ i. record {
+  s = d.s;
+  width = d.width;
+  t = three d.t t i;
+  t_input = d.t_input;
+  u = three d.u u i;
+  u_input = d.u_input;
+  presence = presence_told d.presence fit i;
+}
 
 -- a head that has no fault has a presence word in range
 presence_fits : (h : Hierarchy) (d : Head) → head_fault h d ≡ None
@@ -64,18 +85,36 @@ head_to : (c : Counts) (h : Hierarchy) (left right : Bool) (vertices vertices' f
     (not (eqb d.presence 2)) (not (eqb d.presence 1)) vertices' faces
 head_to c h left right vertices vertices' faces d s all_roots all_bases lt t u fits split marked
     flags =
-    grind (
-      arith,
-      common_steps,
-      append-nil,
-      append_assoc,
-      faces_of-with_record,
-      head_told,
-      length_push,
-      nodes_with_record,
-      presence_fits,
-      presence_some,
-    )
+    let r = (started d).split in
+    record {
+      counts_fit = s.counts_fit;
+      roots_fit = s.roots_fit;
+      bases_fit = s.bases_fit;
+      records_fit = s.records_fit;
+      coming_fits = record {
+        head = subst (λ (e : Head). head_fault h e ≡ None)
+            (sym (head_told d t u (presence_fits h d fits))) fits;
+        split = split;
+        left = refl;
+        no_right = refl;
+        no_left = λ due. refl;
+        due = presence_some d.presence;
+      };
+      roots_most = s.roots_most;
+      bases_most = s.bases_most;
+      records_most = omega (arith, length_push h.records r);
+      roots_first = λ some. omega (arith, s.roots_most);
+      bases_next = λ some. omega (arith, s.bases_most);
+      nodes_marked =
+          rw (
+            nodes_with_record h r,
+            ← append_assoc (node_inputs h) (d.t_input ∷ [])
+                (d.u_input ∷ []),
+          ) marked;
+      node_flags = flags ∙ s.node_flags;
+      faces_marked = rw (faces_of-with_record h r, append-nil (faces_of h)) s.faces_marked;
+      face_flags = s.face_flags;
+    }
 
 pub head_added : (g g' : Grown) (left right : Bool) (vertices vertices' faces : List Bool)
     (d : Head) →
@@ -89,13 +128,19 @@ pub head_added : (g g' : Grown) (left right : Bool) (vertices vertices' faces : 
     IsShaping g' (not (eqb d.presence 2)) (not (eqb d.presence 1)) vertices' faces
 head_added g g' left right vertices vertices' faces d s none all_roots all_bases lt t u fits split
     is marked flags =
-    grind (arith, common_steps, head_to)
+    rw is (head_to g.counts g.h left right vertices vertices' faces d (rw (← none) s) all_roots
+    all_bases lt t u fits split marked flags)
 
 -- The end
 
 same_counts : (a b : Counts) → a.leaves ≡ b.leaves → a.roots ≡ b.roots → a.bases ≡ b.bases
     → a.records ≡ b.records → a ≡ b
-same_counts a b leaves roots bases records = grind (arith, common_steps)
+same_counts a b leaves roots bases records = λ i. record {
+  leaves = leaves i;
+  roots = roots i;
+  bases = bases i;
+  records = records i;
+}
 
 pub counts_complete : (g : Grown) (left right : Bool) (vertices faces : List Bool) →
     IsShaping g left right vertices faces → g.coming ≡ None →
@@ -103,7 +148,10 @@ pub counts_complete : (g : Grown) (left right : Bool) (vertices faces : List Boo
     → g.counts.records ≤ length g.h.records →
     counts_of g.h ≡ g.counts
 counts_complete g left right vertices faces s none roots bases records =
-    grind (arith, common_steps, leaves_complete, same_counts)
+    let most : length g.h.records ≤ g.counts.records = rw none at s.records_most in
+    same_counts (counts_of g.h) g.counts
+    (leaves_complete g left right vertices faces s roots) (omega (arith, s.roots_most))
+    (omega (arith, s.bases_most)) (omega arith)
 
 pub shaped : (g : Grown) (left right : Bool) (vertices faces : List Bool)
     → IsShaping g left right vertices faces →
