@@ -36,7 +36,23 @@ module _ (p : Policy) (m : Mesh) where
   brought-first :
       (k : ℕ) → BringsAtMost p m k →
       plane_count_of (p.brought m) (surface_of m) ≤ k * plane_count_of (planes_at m) (surface_of m)
-  brought-first k few = grind (arith, common_steps, cond-false, cond-true, sum_scaled)
+  brought-first k few =
+      let s = surface_of m in
+      sum_scaled (λ v. cond (is_live s v) (length (p.brought m v)) 0)
+      (λ v. cond (is_live s v) (length (planes_at m v)) 0) k (next_vertex s) (λ v.
+      elim (cases_Bool (is_live s v)) [
+        | inl is ↦
+            let one : cond (is_live s v) (length (p.brought m v)) 0 ≡ length (p.brought m v) =
+            cond-true _ _ _ is in
+            let two : cond (is_live s v) (length (planes_at m v)) 0 ≡ length (planes_at m v) =
+            cond-true _ _ _ is in
+            let both = ap (λ n. k * n) two in
+            let each = few v in
+            omega arith
+        | inr is ↦
+            let none : cond (is_live s v) (length (p.brought m v)) 0 ≡ 0 = cond-false _ _ _ is in
+            omega arith
+      ])
 
   brought-kept :
       IsStartOfRun m → (log : List Collapse) → IsRun m log →

@@ -3,7 +3,7 @@ use Rattle.std.proofs.Common.{◌≡◌, ◌≢◌, ℕ, zero, suc, ◌+◌, ◌
 use Rattle.std.proofs.lemmas.Grind.{common_steps}
 use Rattle.std.proofs.Common.{[], ◌∷◌, length, ◌⊎◌, inl, inr, refl, sym, ap, ◌∙◌, arith}
 use Rattle.std.specs.Prelude.{is_some, slice_set}
-use Rattle.std.proofs.lemmas.Bool.{cond-false, ne_eqb}
+use Rattle.std.proofs.lemmas.Bool.{cases_eq, cond-false, ne_eqb}
 use Rattle.std.proofs.lemmas.List.{get_or-set_other}
 use Rattle.pm_base.specs.Place.{Place}
 use Rattle.pm_base.specs.declared.log.Collapse.{Collapse}
@@ -89,7 +89,15 @@ module _ (s : Surface) (sound : IsSurface s) (c : Collapse) (step : IsStep s c) 
 
   pub comes : (cs : List Collapse) (v : ℕ) → v ≢ c.t → v ≢ c.u → WasOrCame s (c ∷ cs) v
       → WasOrCame after cs v
-  comes cs v n_t n_u way = grind (arith, common_steps, new_live, next-after, old_live)
+  comes cs v n_t n_u way =
+      let n = next-after s c.t c.u c.place in
+      elim (cases_eq v (next_vertex s)) [
+        | inl is ↦ inl (ap (is_live after) is ∙ new_live s c.t c.u c.place)
+        | inr n_s ↦ elim way [
+          | inl live ↦ inl (old_live s c.t c.u c.place v n_s n_t n_u ∙ live)
+          | inr (low, high) ↦ inr (omega arith, omega arith)
+        ]
+      ]
 
 pub live-from : (s : Surface) → IsSurface s → (cs : List Collapse) → AreSteps s cs → (v : ℕ)
     → is_live (surface_from s cs) v ≡ true → WasOrCame s cs v × IsSpared v cs

@@ -1,6 +1,7 @@
 -- Border sides, and the pairs at a vertex to which none leads or from which none leads on.
 use Rattle.std.proofs.Common.{◌≡◌, ℕ, ◌⊎◌, inl, inr, refl, sym, ap, ◌∙◌, subst, arith}
 use Rattle.std.proofs.lemmas.Grind.{common_steps}
+use Rattle.std.proofs.lemmas.Bool.{cases_eq}
 use Rattle.pm_base.specs.Sides.{Net, next, prev, side_count, to, third, Stands, twin_of}
 use Rattle.pm_base.specs.Sides.{IsBorderSide, IsBorder}
 use Rattle.pm_base.specs.Fans.{IsPairAt}
@@ -111,7 +112,19 @@ module _ (m : Net) (v : ℕ) where
   IsEndAt e = IsBorderSide m e × ((m.from e ≡ v) ⊎ (to m e ≡ v))
 
   end? : (e : ℕ) → Decided (IsBorderSide m e × ((m.from e ≡ v) ⊎ (to m e ≡ v)))
-  end? e = grind (arith, common_steps, border_side?)
+  end? e =
+      elim (border_side? e) [
+        | inr never ↦ inr (λ h. never h.0)
+        | inl b ↦
+            elim (cases_eq (m.from e) v) [
+              | inl is ↦ inl (b, inl is)
+              | inr first ↦
+                  elim (cases_eq (to m e) v) [
+                    | inl is ↦ inl (b, inr is)
+                    | inr second ↦ inr (λ h. elim h.1 [ inl is ↦ first is | inr is ↦ second is ])
+                  ]
+            ]
+      ]
 
   pub border? : Decided (IsBorder m v)
   border? =

@@ -129,7 +129,12 @@ module _ (words : List ℕ) (bound : ℕ) (flags : List Bool) (are : AreWords bo
       ∙ (before ∙ sym (flag_of_word words (n / 64) j same))))
 
   written_other : (j : ℕ) → j ≢ n → flag_in (set words (n / 64) word) j ≡ flag_in words j
-  written_other j other = grind (arith, common_steps, get_or-set_other, written_beside)
+  written_other j other =
+      elim (cases_eq (j / 64) (n / 64)) [
+        | inl same ↦ written_beside j other same
+        | inr apart ↦
+            ap (λ w. has_bit w (j % 64)) (get_or-set_other words (n / 64) (j / 64) word 0 apart)
+      ]
 
   pub words_after : AreWords bound (set words (n / 64) word)
   words_after = record {

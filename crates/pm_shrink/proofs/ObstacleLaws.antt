@@ -26,7 +26,14 @@ strays_uncommon m a b w x common = x.off ((common w).0 (x.first, x.second))
 
 pub stray_first : (m : Net) (a b e : ℕ) → Stands m e → m.from e ≡ a → IsStray m a b (to m e)
     → Stands m (next e) × Strays m a b (m.from (next e))
-stray_first m a b e st at x = grind (arith, common_steps, stands_next)
+stray_first m a b e st at x = (
+  stands_next m e st,
+  record {
+    first = inl (e, record { stands = st; begins = at; ends = refl });
+    second = x.0;
+    off = x.1;
+  },
+)
 
 pub stray_last : (m : Net) (a b e : ℕ) → Stands m e → m.from e ≡ a → IsStray m a b (third m e)
     → Stands m (prev e) × Strays m a b (m.from (prev e))
@@ -44,7 +51,14 @@ module _ (m : Net) (a b : ℕ) (once : NoSideTwice m) (l g : ℕ) (left : side_f
     (right : side_from_to m b a ≡ Some g) where
   pub only_triangle : (HasFace m a (third m l) (third m g) → HasFace m b (third m l) (third m g)
       → ⊥) → ShareNoTriangle m a b
-  only_triangle never x y r w f k = grind (arith, common_steps, runs-found, same_Some)
+  only_triangle never x y r w f k =
+      let is_left : x ≡ l = same_Some x l (sym (runs-found m a b once x r) ∙ left) in
+      let is_right : y ≡ g = same_Some y g (sym (runs-found m b a once y w) ∙ right) in
+      never
+      (subst (λ (i : ℕ). HasFace m a (third m i) (third m g)) is_left
+      (subst (λ (i : ℕ). HasFace m a (third m x) (third m i)) is_right f))
+      (subst (λ (i : ℕ). HasFace m b (third m i) (third m g)) is_left
+      (subst (λ (i : ℕ). HasFace m b (third m x) (third m i)) is_right k))
 
   pub triangle_told : HasFace m b (third m l) (third m g) → (r : Option Side) →
       MatchOption r (HasFace m a (third m l) (third m g) → ⊥) (λ e. Stands m e.0 × (m.from e.0 ≡ a)

@@ -1,14 +1,14 @@
 -- Whether a pair may be collapsed can be decided.
-use Rattle.std.proofs.Common.{◌≡◌, ◌≢◌, ℕ, ◌⊎◌, inl, inr, refl, sym, subst, arith}
-use Rattle.std.proofs.lemmas.Grind.{common_steps}
+use Rattle.std.proofs.Common.{◌≡◌, ◌≢◌, ℕ, pos, ◌⊎◌, inl, inr, refl, sym, subst, arith}
 use Rattle.std.proofs.lemmas.Bool.{cases_eq}
 use Rattle.std.proofs.lemmas.Int.{by_lt_z, ints}
 use Rattle.pm_base.specs.Place.{Place}
+use Rattle.pm_base.specs.Geometry.{cross_of, dot_of}
 use Rattle.pm_base.specs.Sides.{Net, side_count, next, prev, to, third, Stands, NoSideTwice}
 use Rattle.pm_base.specs.Sides.{HasNoTwin, IsBorder, twin_of}
 use Rattle.pm_base.proofs.Search.{Decided, search_below, option_cases}
 use Rattle.pm_base.proofs.TwinLaws.{stands?, twin-is, twin-none}
-use Rattle.pm_runs.specs.Surfaces.{Surface, net_of_surface}
+use Rattle.pm_runs.specs.Surfaces.{Surface, place_at, net_of_surface}
 use Rattle.pm_runs.specs.Pairs.{Runs, HasSide, Joined, Links, IsThird, HasFace, StaysUpright}
 use Rattle.pm_runs.specs.Pairs.{StayUpright, IsLegalPair}
 use Rattle.pm_runs.specs.Merged.{IsLinkable}
@@ -153,7 +153,11 @@ module _ (s : Surface) (a b : ℕ) (place : Place) where
       × (StaysUpright s place p (to net e) (third net e) → ⊥)
 
   upright? : (p v w : ℕ) → Decided (StaysUpright s place p v w)
-  upright? p v w = grind (arith, common_steps, by_lt_z, ints)
+  upright? p v w =
+      let product =
+      dot_of (cross_of place (place_at s v) (place_at s w))
+      (cross_of (place_at s p) (place_at s v) (place_at s w)) in
+      by_lt_z product (pos 0) (λ under. inr (λ up. omega (arith, ints, under, up))) (λ up. inl up)
 
   turns_over? : (p q e : ℕ) → Decided (TurnsOver p q e)
   turns_over? p q e =
