@@ -16,6 +16,7 @@ use Rattle.obj_scan.specs.Judged.{Scanned}
 use Rattle.obj_scan.specs.Meaning.{scan_meaning_of, IsWithinLimits}
 use Rattle.obj_scan.specs.Fails.{ScanFailsBefore}
 use Rattle.obj_prepare.specs.declared.notes.Notes.{Notes}
+use Rattle.obj_prepare.specs.declared.placing.Fit.{Fit}
 use Rattle.obj_prepare.specs.Prepared.{IsPreparedWith}
 use Rattle.obj_prepare.proofs.PlacingLaws.{length-places_of}
 use Rattle.obj_fit.specs.Texts.{head_line, notes_text}
@@ -25,7 +26,7 @@ use Rattle.obj_fit.specs.declared.fault.Fault.{Fault}
 use Rattle.obj_fit.specs.declared.fault.Fault.TheVariants as faults
 use Rattle.obj_fit.specs.declared.fault.InputFail.{InputFail}
 use Rattle.obj_fit.specs.declared.fault.InputFail.TheVariants as input
-use Rattle.obj_fit.specs.Outcome.{Done, MakesPrepared, cut_in, counts_of, warning_for}
+use Rattle.obj_fit.specs.Outcome.{Done, MakesPrepared, cut_in, places_in, counts_of, warning_for}
 use Rattle.obj_fit.specs.Outcome.{rounded_for, IsPreparedText, bad_line, too_many, no_face, made}
 use Rattle.obj_fit.specs.declared.laying.Laid.{Laid}
 use Rattle.obj_fit.specs.Making.{IsMakeFail, IsLaid}
@@ -89,7 +90,23 @@ pub makes_done : (size : Option ℕ) (s : Scanned) (laid : Laid) (places : List 
     → MakesPrepared size s (record { text = head ++ canonical_text 0 m; notes = said })
 makes_done size s laid places three m notes shown head said is places_are three_are prepared formed
     manifold shown_is some head_is said_is =
-    grind (arith, common_steps)
+    let Said : List Corners → ℕ → List Place → List Corners → List Corners → Fit → List ℕ =
+    λ cut n ps fs fans f. notes_text (counts_of s cut n m) notes
+    (rounded_for s.points ps fs notes.joined) f (warning_for f s.points fans notes.flat) in
+    record {
+      mesh = m;
+      notes = notes;
+      prepared = subst (λ fs. IsPreparedWith (places_in size s) fs m notes)
+          (three_are ∙ is.three)
+          (subst (λ ps. IsPreparedWith ps three m notes) (places_are ∙ is.places) prepared);
+      formed = formed;
+      manifold = manifold;
+      some = subst (λ (fs : List Corners). 0 < length fs) shown_is some;
+      text_is = ap (λ h. h ++ canonical_text 0 m) (head_is ∙ ap head_line is.fit);
+      notes_are = said_is
+          ∙ (λ i. Said (is.cut i) (is.overlapping i) (is.places i) (is.three i) (is.fans i)
+          (is.fit i));
+    }
 
 -- What follows where the source tells its bytes.
 module _ (size : Option ℕ) where

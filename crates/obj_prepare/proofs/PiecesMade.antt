@@ -35,7 +35,9 @@ pub joined_cuttable : (places : List Place) (faces : List Corners) (names again 
     → renamed_again ≡ renamed → stay ≡ kept_of renamed_again → IsCuttable (net_of stay)
 joined_cuttable places faces names again renamed renamed_again stay within are same is same_faces
     kept =
-    grind (arith, common_steps, kept_are_fit, kept_cuttable, renamed_within)
+    rw (kept, same_faces, is, same)
+    (kept_cuttable kept_are_fit (length places) (joined_faces names faces)
+    (renamed_within places faces names within are))
 
 -- Their vertices have places.
 pub joined_placed : (places : List Place) (faces : List Corners) (names again : List ℕ)
@@ -43,9 +45,12 @@ pub joined_placed : (places : List Place) (faces : List Corners) (names again : 
     → IsWithinMesh (length places) faces → AreJoined places faces names → again ≡ names
     → renamed ≡ joined_faces again faces → renamed_again ≡ renamed → stay ≡ kept_of renamed_again
     → ArePlaced (net_of stay) places
-joined_placed places faces names again renamed renamed_again stay within are same is same_faces
-    kept =
-    grind (arith, common_steps, kept_within, renamed_within, side_low)
+joined_placed places faces names again renamed renamed_again stay within are same is same_faces kept
+    =
+    let low = kept_within (length places) (joined_faces names faces)
+    (renamed_within places faces names within are) in
+    rw (kept, same_faces, is, same)
+    (λ e l. side_low (length places) (kept_of (joined_faces names faces)) low e l)
 
 -- Turned faces that stay can be cut.
 turned_cuttable : (n : ℕ) (flags : List Bool) (fs : List Corners) → IsWithinMesh n fs
@@ -63,7 +68,9 @@ pub joined_turned_cuttable : (places : List Place) (faces : List Corners) (names
     → IsCuttable (net_of turned)
 joined_turned_cuttable places faces names again renamed renamed_again stay stay_again flags turned
     within are same is same_faces kept same_stay turned_is =
-    grind (arith, common_steps, renamed_within, turned_cuttable)
+    rw (turned_is, same_stay, kept, same_faces, is, same)
+    (turned_cuttable (length places) flags (joined_faces names faces)
+    (renamed_within places faces names within are))
 
 module _ {places : List Place} {faces : List Corners} {names : List ℕ} {renamed stay : List Corners}
     {flags : List Bool} {counts : TurnCounts} {turned split : List Corners} {old : List ℕ}
@@ -110,7 +117,9 @@ module _ {places : List Place} {faces : List Corners} {names : List ℕ} {rename
       → points ≡ map (place_in_list places) old → fs ≡ split → length old ≤ 1048576
       → IsWellFormed (record { points = points; faces = fs })
   pieces_formed points fs is same few =
-      grind (arith, common_steps, length-map, pieces_cuttable, split_formed)
+      rw same (split_formed (net_of turned) split old points pieces_cuttable.short
+      pieces_cuttable.stand pieces.split_is
+      (ap length is ∙ length-map old (place_in_list places)) few)
 
   -- A mesh over these faces was prepared.
   prepared_of : (points : List Place) (fs : List Corners) → points ≡ map (place_in_list places) old

@@ -1,7 +1,7 @@
 -- The tables of all nodes' bounds, seen as a list of each kind, while the bounds are found.
 use Rattle.std.proofs.Common.{◌≡◌, ℕ, suc, ◌+◌, ◌*◌, ◌<◌, ◌≤◌, ◌-◌, List, length, map, replicate}
 use Rattle.std.proofs.lemmas.Grind.{common_steps}
-use Rattle.std.proofs.Common.{get_or, set, length-set, Option, None, IfSome, inl, inr, sym}
+use Rattle.std.proofs.Common.{get_or, set, length-set, Option, None, IfSome, inl, inr, refl, sym}
 use Rattle.std.proofs.Common.{ap, subst, ◌∙◌, arith}
 use Rattle.std.proofs.lemmas.Bool.{cases_eq}
 use Rattle.std.proofs.lemmas.List.{map-set, get_or-map, get_or-replicate, get_or-set_same}
@@ -144,7 +144,26 @@ pub given_more : (h : Hierarchy) → HasShape h → (leaves : List LeafBounds) �
     → AreGiven h (n + 1) new new_boxes
 given_more h shape leaves seen n l old new old_boxes new_boxes was len places errors radii small
     boxes =
-    grind (arith, common_steps, boxes_set, get_or, given_one, leaf_node-lt, length-map, length-set)
+    let at = leaf_node_of h n in
+    let node = leaf_node-lt h shape n l in
+    let box = (get_or leaves n (bare_leaf_at origin)).normals in
+    let boxes_len = was.boxes_len in
+    let leaves_len = seen.len in
+    record {
+      balls_len = len ∙ was.balls_len;
+      boxes_len = ap length boxes ∙ length-set old_boxes at box ∙ was.boxes_len;
+      places = subst (ArePlaces h) (sym places) was.places;
+      errors = λ v m. ap (λ (t : List ℕ). get_or t v 0) errors ∙ was.errors v m;
+      radii = given_one h shape 0 (leaf_radius h) n (radii_of old) (radii_of new) _ l
+          (length-map old (λ (b : Ball). b.radius) ∙ was.balls_len) was.radii (seen.radii n l)
+          radii;
+      boxes = given_one h shape None (box_under h) n old_boxes new_boxes box l was.boxes_len
+          was.boxes (seen.boxes n l) boxes;
+      small_radii = small;
+      small_boxes =
+          subst AreSmallBoxes (sym boxes)
+          (boxes_set old_boxes at box (omega arith) was.small_boxes (seen.small n (omega arith)).1);
+    }
 
 -- all leaves
 pub given_all : (h : Hierarchy) → HasShape h
@@ -186,20 +205,25 @@ module _ (h : Hierarchy) (shape : HasShape h) (first : List Ball)
       AreGrown h first (set old (s_of h k) b) new_boxes (set old_splits k b) k
   table_step old old_boxes new_boxes old_splits k b l was place error small_error radius
       small_radius boxes =
-      grind (
-        arith,
-        common_steps,
-        AreJoined,
-        IsGrown,
-        copied_step,
-        get_or,
-        grown_step,
-        joined_step,
-        length-set,
-        map-set,
-        places_set,
-        split_node,
-      )
+      let node = split_node h shape k l in
+      let len = was.len in
+      record {
+        len = length-set old (s_of h k) b ∙ len;
+        places = places_set h old (s_of h k) b (omega arith) was.places place;
+        errors = subst (λ (t : List ℕ). IsGrown h (errors_of first) t k)
+            (sym (map-set (λ (b : Ball). b.error) old (s_of h k) b))
+            (grown_step h shape (errors_of first) (errors_of old) k b.error l was.errors error
+            small_error);
+        radii = subst (λ (t : List ℕ). IsGrown h (radii_of first) t k)
+            (sym (map-set (λ (b : Ball). b.radius) old (s_of h k) b))
+            (grown_step h shape (radii_of first) (radii_of old) k b.radius l was.radii radius
+            small_radius);
+        boxes = subst (λ (t : List (Option NormalBox)). AreJoined h t k) (sym boxes)
+            (joined_step h shape old_boxes k
+            (join (get_or old_boxes (t_of h k) None) (get_or old_boxes (u_of h k) None)) l
+            was.boxes refl);
+        copied = copied_step h shape old old_splits len k b l was.copied;
+      }
 
   -- all records
   module _ (balls : List Ball) (boxes : List (Option NormalBox)) (splits : List Ball)
@@ -218,7 +242,43 @@ module _ (h : Hierarchy) (shape : HasShape h) (first : List Ball)
     split_reads f d k l = copied_reads h shape balls splits was.len f d was.copied k l
 
     pub table_bounds : AreBoundsOf h (bound_lists_of balls boxes splits)
-    table_bounds = grind (arith, common_steps, final_errors, final_radii, split_node, split_reads)
+    table_bounds = record {
+      nodes = was.errors.len;
+      records = was.copied.len;
+      places = was.places;
+      errors = final_errors;
+      radii = final_radii;
+      boxes = λ v l. was.boxes.each v l (λ j e. omega arith);
+      splits = λ k l.
+          let node = split_node h shape k l in
+          record {
+            place = split_reads (λ (b : Ball). b.place) origin k l ∙ was.places (s_of h k) node;
+            error = split_reads (λ (b : Ball). b.error) 0 k l ∙ final_errors (s_of h k) node;
+            radius = split_reads (λ (b : Ball). b.radius) 0 k l ∙ final_radii (s_of h k) node;
+          };
+    }
 
     pub table_small : IsBounds (bound_lists_of balls boxes splits)
-    table_small = grind (arith, common_steps, few_nodes, split_node, split_reads)
+    table_small =
+        let few = few_nodes h shape in
+        let errors = was.errors.len in
+        let radii = was.radii.len in
+        let joined = was.boxes.len in
+        let copied = was.copied.len in
+        record {
+          as_many_radii = radii ∙ sym errors;
+          as_many_boxes = joined ∙ sym errors;
+          small_errors = λ v l. (let s = was.errors.small v (omega arith) in omega arith);
+          small_radii = λ v l. (let s = was.radii.small v (omega arith) in omega arith);
+          small_boxes = λ v l. was.boxes.small v (omega arith);
+          small_split_errors = λ k l.
+              let m : k < record_count h = omega arith in
+              let s = was.errors.small (s_of h k) (split_node h shape k m) in
+              let is = split_reads (λ (b : Ball). b.error) 0 k m in
+              omega arith;
+          small_split_radii = λ k l.
+              let m : k < record_count h = omega arith in
+              let s = was.radii.small (s_of h k) (split_node h shape k m) in
+              let is = split_reads (λ (b : Ball). b.radius) 0 k m in
+              omega arith;
+        }

@@ -96,17 +96,19 @@ module _ (h : Hierarchy) (shape : HasShape h) where
   by_side : (x e : ℕ) → x < leaf_count h → e < 3 * face_count h
       → is_border_side_under h (leaf_node_of h x) e ≡ true → IsBorder (leaf_net h) x
   by_side x e below l is =
-      grind (
-        arith,
-        common_steps,
-        or_cases,
-        alone_is x (from_leaf h e) below,
-        alone_is x (to_leaf h e) below,
-        and_parts (is_none (leaf_twin h e)),
-        none_from (leaf_twin h e),
-        shape_is_forest h shape,
-        side-stands h (shape_is_forest h shape) e l,
-        twin-none (leaf_net h) e,
+      let v = leaf_node_of h x in
+      let parts = and_parts (is_none (leaf_twin h e))
+      (holds h v (from_leaf h e) || holds h v (to_leaf h e)) is in (
+        e,
+        record {
+          stands = side-stands h (shape_is_forest h shape) e l;
+          alone =
+              twin-none (leaf_net h) e (none_from (leaf_twin h e) parts.0);
+        },
+        elim (or_cases (holds h v (from_leaf h e)) (holds h v (to_leaf h e)) parts.1) [
+          | inl from ↦ inl (alone_is x (from_leaf h e) below from)
+          | inr to ↦ inr (alone_is x (to_leaf h e) below to)
+        ],
       )
 
   border_found : (x : ℕ) → x < leaf_count h → is_at_border h (leaf_node_of h x) ≡ true

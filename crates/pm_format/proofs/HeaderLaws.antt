@@ -140,7 +140,12 @@ pub header_sound : (held piece kept none left : List ℕ) (n m digits : ℕ) (s 
     → IsSoundDecoding stage left (taken + m))
     → IsSoundDecoding stage left (length held + (n + m))
 header_sound held piece kept none left n m digits s stage is within empty judged sound =
-    grind (arith, common_steps, length-append, length-take-le)
+    let len : length kept ≡ length held + n =
+    ap (λ (l : List ℕ). length l) is
+    ∙ omega (arith, length-append held (take n piece), length-take-le n piece within) in
+    subst (λ (k : ℕ). IsSoundDecoding stage left k) (omega (arith, len))
+    (sound (length kept)
+    (omega (arith, judged.2, judged.3, ap (λ (l : List ℕ). length l) empty)))
 
 -- The header isn't whole, or is refused.
 pub header_stays : (bytes held piece kept : List ℕ) (n : ℕ) (stage : Stage)

@@ -2,7 +2,7 @@
 use Rattle.std.proofs.Common.{◌≡◌, ℕ, ◌*◌, ◌<◌, ◌↔◌, Bool, true, false, None, List, [], ◌∷◌, inl}
 use Rattle.std.proofs.lemmas.Grind.{common_steps}
 use Rattle.std.proofs.Common.{inr}
-use Rattle.std.proofs.Common.{sym, ◌∙◌, subst, arith}
+use Rattle.std.proofs.Common.{sym, ap, ◌∙◌, subst, arith}
 use Rattle.std.proofs.lemmas.Bool.{both_ways}
 use Rattle.std.proofs.lemmas.Option.{none-some}
 use Rattle.pm_base.specs.Sides.{face_of, next, Stands, IsBorderSide, HasNoTwin, twin_of}
@@ -90,12 +90,16 @@ module _ (h : Hierarchy) (tree : IsForest h) (T : ℕ → Bool) where
         let shown = shown-kept a (fixed-stands a l (fixed a border)) in
         both_ways (is_kept h T (face_of a)) dropped shown
     no_way_out a (f ∷ fs) l dropped (c, o, twin, at, off, way, rest) =
-        grind (arith, common_steps, twin-is h a c twin, no_way_out o fs)
+        let low = (twin-is h a c twin).2 in
+        let same : face_of o ≡ face_of c = way.0 in
+        no_way_out o fs (omega arith) (ap (is_kept h T) (same ∙ at) ∙ off) rest
 
     pub alone-from : (e : ℕ) (fs : List ℕ) → Crosses h T e fs None → HasNoTwin (leaf_net h) e
     alone-from e [] none = leaf-alone e none
     alone-from e (f ∷ fs) (c, o, twin, at, off, way, rest) =
-        grind (arith, common_steps, no_way_out o fs, twin-is h e c twin)
+        let low = (twin-is h e c twin).2 in
+        let same : face_of o ≡ face_of c = way.0 in
+        absurd (no_way_out o fs (omega arith) (ap (is_kept h T) (same ∙ at) ∙ off) rest)
 
 module _ (h : Hierarchy) (firm : IsFirm h) (fixed : HasFixedBorder h)
     (T : ℕ → Bool) (closed : IsClosed h T) where
