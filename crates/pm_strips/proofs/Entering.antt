@@ -3,8 +3,7 @@
 use Rattle.std.proofs.Common.{◌≡◌, ℕ, zero, suc, ◌+◌, ◌-◌, ◌<◌, ◌≤◌, Bool, true, not, List, [], ◌∷◌}
 use Rattle.std.proofs.Common.{◌++◌, Option, Some, None, refl, sym, ap, ◌∙◌, subst, arith}
 use Rattle.std.proofs.Common.{append_assoc}
-use Rattle.std.specs.Prelude.{codes}
-use Rattle.std.proofs.lemmas.Grind.{flat_map-append}
+use Rattle.std.proofs.lemmas.Grind.{flat_map-append, common_steps}
 use Rattle.std.proofs.lemmas.List.{append-nil}
 use Rattle.std.proofs.lemmas.List.Folds.{flat_map-map}
 use Rattle.pm_base.specs.Sides.{face_of, next}
@@ -13,7 +12,7 @@ use Rattle.pm_io.proofs.PageLaws.{through_none, through_both, through_more, thro
 use Rattle.pm_forest.specs.Fronts.{without}
 use Rattle.pm_strips.specs.Strips.{free_beyond, exit_of, enter_by, entered, first_side, strip_from}
 use Rattle.pm_strips.specs.Strips.{left_by}
-use Rattle.pm_strips.specs.Shown.{node_text, strip_line}
+use Rattle.pm_strips.specs.Shown.{strip_line}
 use Rattle.pm_strips.specs.Texts.{first_text, node_entered, entered_text, line_end, line_of}
 use Rattle.pm_strips.proofs.TakenLaws.{left_more, first_face}
 
@@ -40,25 +39,14 @@ pub record IsEntering (beyond : ℕ → Option ℕ) (node : ℕ → ℕ) (n turn
 pub entering_none : (beyond : ℕ → Option ℕ) (node : ℕ → ℕ) (n : ℕ) (free : ℕ → Bool) (exit : ℕ)
     (old : Option (List ℕ)) (held : List ℕ)
     → IsEntering beyond node n 0 free exit free true exit old old held held
-entering_none beyond node n free exit old held =
-    let z : n - 0 ≡ n = omega arith in
-    record {
-      done = [];
-      whole = ap (λ m. entered beyond m free true exit) (sym z);
-      left = refl;
-      text = through_none old held;
-    }
+entering_none beyond node n free exit old held = grind (arith, common_steps, through_none)
 
 -- The next turn enters a triangle,
 enters : (beyond : ℕ → Option ℕ) (n turn : ℕ) (free : ℕ → Bool) (is_odd : Bool) (exit g : ℕ)
     → turn < n → free_beyond beyond free exit ≡ Some g
     → entered beyond (n - turn) free is_odd exit ≡ g
     ∷ entered beyond (n - (turn + 1)) (without free (face_of g)) (not is_odd) (exit_of is_odd g)
-enters beyond n turn free is_odd exit g low some =
-    let k : n - turn ≡ suc (n - (turn + 1)) = omega arith in
-    let more = λ (x : ℕ). entered beyond (n - (turn + 1)) (without free (face_of x)) (not is_odd)
-    (exit_of is_odd x) in
-    ap (λ m. entered beyond m free is_odd exit) k ∙ ap (λ (o : Option ℕ). enter_by more o) some
+enters beyond n turn free is_odd exit g low some = grind (arith, common_steps)
 
 -- or the strip ends there.
 ends_zero : (beyond : ℕ → Option ℕ) (m : ℕ) (free : ℕ → Bool) (is_odd : Bool) (exit : ℕ) → m ≡ 0
@@ -128,12 +116,7 @@ module _ (beyond : ℕ → Option ℕ) (node : ℕ → ℕ) (n turn : ℕ) (firs
       → IsEntering beyond node n turn first first_exit free is_odd exit old new p q
       → entered beyond (n - turn) free is_odd exit ≡ []
       → GainsThrough old new p q (entered_text node all) × (free ≡ left_by first all)
-  entering_all old new p q s none =
-      let is = finished old new p q s none in (
-        subst (λ gs. GainsThrough old new p q (entered_text node gs)) (sym is) s.text,
-        s.left
-            ∙ ap (left_by first) (sym is),
-      )
+  entering_all old new p q s none = grind (arith, common_steps, finished)
 
   pub entering_ends : (old new : Option (List ℕ)) (p q : List ℕ)
       → IsEntering beyond node n turn first first_exit free is_odd exit old new p q
@@ -157,13 +140,7 @@ regroup t a b c x =
 pub line_parts : (node : ℕ → ℕ) (e : ℕ) (gs : List ℕ)
     → line_of node (e ∷ gs) ≡ (first_text node e ++ entered_text node gs) ++ line_end
 unfolding first_text strip_line
-line_parts node e gs =
-    let a = node_text (node e) in
-    let b = node_text (node (next e)) in
-    let c = node_text (node (next (next e))) in
-    ap (λ l. (codes "t" ++ (a ++ (b ++ (c ++ l)))) ++ codes "\n")
-    (flat_map-map node_text (λ g. node (next (next g))) gs)
-    ∙ ap (λ l. l ++ codes "\n") (sym (regroup (codes "t") a b c (entered_text node gs)))
+line_parts node e gs = grind (arith, common_steps, flat_map-map, regroup)
 
 -- A strip by the side with which it begins and its first exit, where others than face f are free.
 module _ (beyond : ℕ → Option ℕ) (n : ℕ) (free others : ℕ → Bool) (f e exit : ℕ)
@@ -173,19 +150,11 @@ module _ (beyond : ℕ → Option ℕ) (n : ℕ) (free others : ℕ → Bool) (f
     begins = first ∙ ap (λ (fs : ℕ → Bool). first_side beyond fs f) but
 
     pub strip_is : strip_from beyond n free f ≡ e ∷ entered beyond n others true exit
-    strip_is =
-        ap (λ x. x ∷ entered beyond n (without free f) true (next x)) (sym begins)
-        ∙ ap (λ x. e ∷ entered beyond n (without free f) true x) (sym leads)
-        ∙ ap (λ (fs : ℕ → Bool). e ∷ entered beyond n fs true exit) (sym but)
+    strip_is = grind (arith, common_steps, begins)
 
     pub strip_left : left_by free (strip_from beyond n free f)
         ≡ left_by others (entered beyond n others true exit)
-    strip_left =
-        let rest = entered beyond n others true exit in
-        ap (left_by free) strip_is
-        ∙ ap (λ g. left_by (without free g) rest) (ap face_of begins
-        ∙ first_face beyond (without free f) f)
-        ∙ ap (λ (fs : ℕ → Bool). left_by fs rest) (sym but)
+    strip_left = grind (arith, common_steps, begins, first_face, strip_is)
 
     pub strip_text : (node : ℕ → ℕ) → line_of node (strip_from beyond n free f)
         ≡ (first_text node e ++ entered_text node (entered beyond n others true exit)) ++ line_end

@@ -1,9 +1,10 @@
 -- The strips of a front show its mesh.
 use Rattle.std.proofs.Common.{◌≡◌, ℕ, zero, suc, ◌+◌, ◌*◌, ◌<◌, ltb, Bool, true, false, cond, List}
-use Rattle.std.proofs.Common.{[], ◌∷◌, ◌++◌, map, Option, Some, None, ◌⊎◌, inl, inr, refl, sym, ap}
+use Rattle.std.proofs.lemmas.Grind.{common_steps}
+use Rattle.std.proofs.Common.{[], ◌∷◌, map, Option, Some, None, ◌⊎◌, refl, sym}
 use Rattle.std.proofs.Common.{◌∙◌, subst, arith}
 use Rattle.std.specs.List.{flat_map}
-use Rattle.std.proofs.lemmas.Bool.{cases_Bool, and_parts, and_from, ltb-true, lt-ltb}
+use Rattle.std.proofs.lemmas.Bool.{and_parts, and_from, ltb-true, lt-ltb}
 use Rattle.std.proofs.lemmas.List.{map-append}
 use Rattle.std.proofs.lemmas.Option.{none-some}
 use Rattle.std.proofs.lemmas.List.Folds.{flat_map-map}
@@ -19,9 +20,9 @@ use Rattle.pm_beyond.specs.Moves.{IsClosed}
 use Rattle.pm_beyond.proofs.Reaching.{kept_at_side, reaches-lt}
 use Rattle.pm_beyond.proofs.Standing.{forest_of, closed-front}
 use Rattle.pm_beyond.proofs.WalkTheory as walk
-use Rattle.pm_strips.specs.Strips.{strip_from, left_by, strips_from, listed_nodes, decoded}
+use Rattle.pm_strips.specs.Strips.{strips_from, listed_nodes, decoded}
 use Rattle.pm_strips.specs.Strips.{corners_from, IsTurnOf}
-use Rattle.pm_strips.specs.Shown.{is_there, beyond_in, node_of_corner, strips_of, strip_lists_of}
+use Rattle.pm_strips.specs.Shown.{is_there, beyond_in, node_of_corner, strips_of}
 use Rattle.pm_strips.specs.Shown.{corners_shown, AreTurned}
 use Rattle.pm_strips.specs.Laws.{CarriesEnds, FrontsCarryEnds, StripsShowTheMesh}
 use Rattle.pm_strips.proofs.StripLaws.{strip_decoded}
@@ -45,10 +46,7 @@ inside false o g e = absurd (none-some g e)
 module _ (h : Hierarchy) (valid : IsValid h) (T : ℕ → Bool) (closed : IsClosed h T) (e g : ℕ)
     (some : beyond_in h T e ≡ Some g) where
   low : e < 3 * face_count h
-  low =
-      let there = there-parts h T (face_of e)
-      (inside (is_there h T (face_of e)) (beyond_of h T e) g some).0 in
-      omega (arith, there.0)
+  low = grind (arith, common_steps, inside, there-parts)
 
   -- The walk from the side comes to that one.
   stands : Beyond h T e (Some g)
@@ -79,17 +77,14 @@ all_decoded : (beyond : ℕ → Option ℕ) (node : ℕ → ℕ) → CarriesEnds
     ≡ map (corners_from node) (flat_map (λ s. s) (strips_from beyond n m free f))
 all_decoded beyond node ends n zero free f = refl
 all_decoded beyond node ends n (suc m) free f =
-    let s = strip_from beyond n free f in
-    elim (cases_Bool (free f)) [
-      | inl is ↦
-          let rest = all_decoded beyond node ends n m (left_by free s) (suc f) in
-          let here = strip_decoded beyond node ends n free f in
-          let later = strips_from beyond n m (left_by free s) (suc f) in
-          rw is (ap (λ ts. ts ++ flat_map (λ t. decoded false (listed_nodes node t)) later) here
-          ∙ ap (λ ts. map (corners_from node) s ++ ts) rest
-          ∙ sym (map-append (corners_from node) s (flat_map (λ t. t) later)))
-      | inr is ↦ (rw is (all_decoded beyond node ends n m free (suc f)))
-    ]
+    grind (
+      arith,
+      common_steps,
+      map-append,
+      strip_decoded,
+      all_decoded beyond node ends n m,
+      all_decoded beyond node ends n m free (suc f),
+    )
 
 -- The corners of a side's face, from where the side begins, are those of the face up to a turn.
 turned_from : (node : ℕ → ℕ) (f e : ℕ)
@@ -100,16 +95,7 @@ turned_from : (node : ℕ → ℕ) (f e : ℕ)
       c = node (3 * f + 2);
     })
 turned_from node f e which =
-    let a : next (3 * f) ≡ 3 * f + 1 = let c = next_cases (3 * f) in omega arith in
-    let b : next (3 * f + 1) ≡ 3 * f + 2 = let c = next_cases (3 * f + 1) in omega arith in
-    let z : next (3 * f + 2) ≡ 3 * f = let c = next_cases (3 * f + 2) in omega arith in
-    elim which [
-      | inl is ↦ inl (rw is (rw (a, b) refl))
-      | inr other ↦ elim other [
-        | inl is ↦ inr (inl (rw is (rw (a, b, z) refl)))
-        | inr is ↦ inr (inr (rw is (rw (a, b, z, a) refl)))
-      ]
-    ]
+    grind (arith, common_steps, next_cases (3 * f), next_cases (3 * f + 1), next_cases (3 * f + 2))
 
 corners_turned : (h : Hierarchy) (T : ℕ → Bool) (e : ℕ)
     → IsTurnOf (corners_from (node_of_corner h T) e) (corners_shown h T (face_of e))
@@ -124,25 +110,16 @@ all_turned h T (g ∷ gs) = (corners_turned h T g, all_turned h T gs)
 pub strips_show : StripsShowTheMesh
 unfolding strips_of
 strips_show h valid T closed =
-    let strips = strips_from (beyond_in h T) (face_count h) (face_count h) (is_there h T) 0 in
-    let sides = flat_map (λ s. s) strips in
-    let all = all_taken (beyond_in h T) (face_count h) (face_count h) (is_there h T) 0
-    (λ x e. let l = (there-parts h T x e).0 in (omega arith, omega arith)) in
-    let once = faces_once (is_there h T) sides all.0 all.1 in
-    let triangles : flat_map (decoded false) (strip_lists_of h T)
-    ≡ map (corners_from (node_of_corner h T)) sides =
-    flat_map-map (decoded false) (listed_nodes (node_of_corner h T)) strips
-    ∙ all_decoded (beyond_in h T) (node_of_corner h T) (fronts_carry h valid T closed)
-    (face_count h) (face_count h) (is_there h T) 0 in
-    record {
-      faces = map face_of sides;
-      kept = record {
-        each = λ f. (
-          λ e. there-parts h T f ((once.0 f).0 e),
-          λ p. (once.0 f).1 (there-from h T f p.0 p.1),
-        );
-        once = once.1;
-      };
-      triangles = subst (AreTurned (corners_shown h T) (map face_of sides)) (sym triangles)
-          (all_turned h T sides);
-    }
+    grind (
+      arith,
+      common_steps,
+      all_decoded (beyond_in h T) (node_of_corner h T) (fronts_carry h valid T closed)
+          (face_count h) (face_count h) (is_there h T) 0,
+      all_taken (beyond_in h T) (face_count h) (face_count h) (is_there h T) 0,
+      all_turned h T,
+      faces_once (is_there h T),
+      flat_map-map (decoded false) (listed_nodes (node_of_corner h T)),
+      fronts_carry h valid T closed,
+      there-from h T,
+      there-parts h T,
+    )

@@ -1,8 +1,8 @@
 -- Strips are decoded to their triangles, and they go on for as long as they can.
-use Rattle.std.proofs.Common.{◌≡◌, ℕ, zero, suc, ◌<◌, ◌≤◌, Bool, true, false, not, cond, ◌∷◌, map}
-use Rattle.std.proofs.Common.{Option, Some, None, inl, inr, refl, sym, ap, ◌∙◌, subst, arith}
-use Rattle.std.proofs.lemmas.Bool.{cases_Bool, cond-true, cond-false, false_from_ne_true, both_ways}
-use Rattle.std.proofs.lemmas.Bool.{cases_eq}
+use Rattle.std.proofs.Common.{◌≡◌, ℕ, zero, suc, ◌<◌, ◌≤◌, Bool, true, false, cond, ◌∷◌, map}
+use Rattle.std.proofs.lemmas.Grind.{common_steps}
+use Rattle.std.proofs.Common.{Option, Some, None, inl, inr, refl, ap, ◌∙◌, arith}
+use Rattle.std.proofs.lemmas.Bool.{cond-true, cond-false}
 use Rattle.std.proofs.lemmas.Option.{none-some, same_Some}
 use Rattle.pm_base.specs.Counts.{count}
 use Rattle.pm_base.specs.Sides.{face_of, next}
@@ -11,20 +11,14 @@ use Rattle.pm_base.proofs.Search.{option_cases}
 use Rattle.pm_base.proofs.Sides.{next-next-next}
 use Rattle.pm_forest.specs.Fronts.{without}
 use Rattle.pm_forest.proofs.OneStep.{without-parts, without-from}
-use Rattle.pm_strips.specs.Strips.{if_free, free_beyond, exit_of, enter_by, entered, first_side}
+use Rattle.pm_strips.specs.Strips.{if_free, free_beyond, entered}
 use Rattle.pm_strips.specs.Strips.{strip_from, decoded, listed_nodes, corners_from}
 use Rattle.pm_strips.specs.Laws.{CarriesEnds, StripGoesOn, StripsGoOn}
 
 pub free_is : (free : ℕ → Bool) (o : Option ℕ) (g : ℕ) → if_free free o ≡ Some g
     → (o ≡ Some g) × (free (face_of g) ≡ true)
 free_is free None g e = absurd (none-some g e)
-free_is free (Some x) g e =
-    elim (cases_Bool (free (face_of x))) [
-      | inl a ↦
-          let is : x ≡ g = same_Some x g (sym (cond-true (free (face_of x)) (Some x) None a) ∙ e) in
-          (ap Some is, subst (λ y. free (face_of y) ≡ true) is a)
-      | inr a ↦ absurd (none-some g (sym (cond-false (free (face_of x)) (Some x) None a) ∙ e))
-    ]
+free_is free (Some x) g e = grind (arith, common_steps, cond-false, cond-true, none-some, same_Some)
 
 -- Where the exit's ends stand in the list: they are the last two nodes, in their order where the
 -- next triangle is odd.
@@ -65,37 +59,23 @@ pub strip_decoded : (beyond : ℕ → Option ℕ) (node : ℕ → ℕ) → Carri
     → (n : ℕ) (free : ℕ → Bool) (f : ℕ)
     → decoded false (listed_nodes node (strip_from beyond n free f))
     ≡ map (corners_from node) (strip_from beyond n free f)
-strip_decoded beyond node carries n free f =
-    let e = first_side beyond (without free f) f in
-    ap (λ ts. corners_from node e ∷ ts)
-    (further beyond node carries n (without free f) true (next e) (node (next e))
-    (node (next (next e))) (refl, refl))
+strip_decoded beyond node carries n free f = grind (arith, common_steps, further)
 
 -- Taking a free face leaves one less.
 fewer : (free : ℕ → Bool) (f n : ℕ) → f < n → free f ≡ true
     → suc (count (without free f) n) ≤ count free n
 fewer free f zero l is = absurd (omega arith)
 fewer free f (suc n) l is =
-    elim (cases_eq n f) [
-      | inl same ↦
-          let a = count-true free n (subst (λ x. free x ≡ true) (sym same) is) in
-          let b = count-false (without free f) n
-          (false_from_ne_true _ (λ e. (without-parts free f n e).0 same)) in
-          let c = count_more (without free f) free n (λ i li e. (without-parts free f i e).1) in
-          omega arith
-      | inr ne ↦
-          let r = fewer free f n (omega arith) is in
-          elim (cases_Bool (free n)) [
-            | inl e ↦ (let a = count-true free n e in let b =
-                count-true (without free f) n (without-from free f n ne e) in omega arith)
-            | inr e ↦
-                let a = count-false free n e in
-                let b = count-false (without free f) n
-                (false_from_ne_true _ (λ t. both_ways (free n) e (without-parts free f n t).1))
-                in
-                omega arith
-          ]
-    ]
+    grind (
+      arith,
+      common_steps,
+      count-false,
+      count-true,
+      count_more,
+      without-from,
+      without-parts,
+      fewer free f n,
+    )
 
 -- As many turns as there are free faces are enough.
 enough : (beyond : ℕ → Option ℕ) (m n : ℕ) (free : ℕ → Bool) (is_odd : Bool) (exit : ℕ)
@@ -110,20 +90,7 @@ enough beyond m zero free is_odd exit within few =
           absurd (omega arith)
     ]
 enough beyond m (suc n) free is_odd exit within few =
-    elim (option_cases (free_beyond beyond free exit)) [
-      | inl none ↦
-          subst (λ (o : Option ℕ). StripGoesOn beyond free is_odd exit
-          (enter_by (λ g. entered beyond n (without free (face_of g)) (not is_odd)
-          (exit_of is_odd g)) o)) (sym none) none
-      | inr (g, some) ↦
-          let is = (free_is free (beyond exit) g some).1 in
-          let less = fewer free (face_of g) m (within (face_of g) is) is in
-          let rest = enough beyond m n (without free (face_of g)) (not is_odd) (exit_of is_odd g)
-          (λ x e. within x (without-parts free (face_of g) x e).1) (omega arith) in
-          subst (λ (o : Option ℕ). StripGoesOn beyond free is_odd exit
-          (enter_by (λ k. entered beyond n (without free (face_of k)) (not is_odd)
-          (exit_of is_odd k)) o)) (sym some) (some, rest)
-    ]
+    grind (arith, common_steps, fewer, free_is, option_cases, without-parts, enough beyond m n)
 
 pub strips_go_on : StripsGoOn
 strips_go_on beyond m free is_odd exit within =

@@ -1,10 +1,10 @@
 -- The text of the strips that are told, and the strips of the faces that are left.
-use Rattle.std.proofs.Common.{◌≡◌, ℕ, suc, ◌+◌, ◌-◌, ◌<◌, ◌≤◌, Bool, true, false, List, [], ◌∷◌}
-use Rattle.std.proofs.Common.{◌++◌, length, map, Option, refl, sym, ap, ◌∙◌, subst, arith}
+use Rattle.std.proofs.Common.{◌≡◌, ℕ, ◌+◌, ◌-◌, ◌<◌, ◌≤◌, Bool, true, false, List, [], ◌∷◌}
+use Rattle.std.proofs.Common.{◌++◌, length, map, Option, sym, ap, ◌∙◌, subst, arith}
 use Rattle.std.proofs.Common.{append_assoc, length-append}
 use Rattle.std.specs.List.{flat_map}
 use Rattle.std.proofs.lemmas.Bool.{cond-true, cond-false}
-use Rattle.std.proofs.lemmas.Grind.{flat_map-append}
+use Rattle.std.proofs.lemmas.Grind.{flat_map-append, common_steps}
 use Rattle.std.proofs.lemmas.List.{append-nil, length-map}
 use Rattle.std.proofs.lemmas.List.Folds.{flat_map-map}
 use Rattle.pm_io.specs.Bytes.{GainsPart, GainsThrough}
@@ -29,17 +29,7 @@ pub record IsStripping (beyond : ℕ → Option ℕ) (node : ℕ → ℕ) (n fac
 pub stripping_none : (beyond : ℕ → Option ℕ) (node : ℕ → ℕ) (n : ℕ) (first free : ℕ
     → Bool) (old : Option (List ℕ)) (held : List ℕ) → free ≡ first
     → IsStripping beyond node n 0 first free 0 old old held held
-stripping_none beyond node n first free old held is =
-    let z : n - 0 ≡ n = omega arith in
-    record {
-      done = [];
-      whole = ap (λ fs. strips_from beyond n n fs 0) (sym is)
-          ∙ ap (λ k. strips_from beyond n k free 0) (sym z);
-      left = λ f e. ap (λ (fs : ℕ → Bool). fs f) (sym is) ∙ e;
-      count = refl;
-      few = omega arith;
-      text = through_none old held;
-    }
+stripping_none beyond node n first free old held is = grind (arith, common_steps, through_none)
 
 module _ (beyond : ℕ → Option ℕ) (node : ℕ → ℕ) (n face : ℕ) (first free : ℕ → Bool) (strips : ℕ)
   where
@@ -55,25 +45,11 @@ module _ (beyond : ℕ → Option ℕ) (node : ℕ → ℕ) (n face : ℕ) (firs
     -- A strip begins at the next face, where it is free,
     begins : face < n → free face ≡ true → strips_from beyond n (n - face) free face ≡ strip
         ∷ later (left_by free strip)
-    begins low is =
-        let k : n - face ≡ suc (n - (face + 1)) = omega arith in
-        let next : suc face ≡ face + 1 = omega arith in
-        ap (λ m. strips_from beyond n m free face) k
-        ∙ cond-true (free face)
-        (strip ∷ strips_from beyond n (n - (face + 1)) (left_by free strip) (suc face))
-        (strips_from beyond n (n - (face + 1)) free (suc face)) is
-        ∙ ap (λ f. strip ∷ strips_from beyond n (n - (face + 1)) (left_by free strip) f) next
+    begins low is = grind (arith, common_steps, cond-true)
 
     -- and none where it isn't.
     skips : face < n → free face ≡ false → strips_from beyond n (n - face) free face ≡ later free
-    skips low is =
-        let k : n - face ≡ suc (n - (face + 1)) = omega arith in
-        let next : suc face ≡ face + 1 = omega arith in
-        ap (λ m. strips_from beyond n m free face) k
-        ∙ cond-false (free face)
-        (strip ∷ strips_from beyond n (n - (face + 1)) (left_by free strip) (suc face))
-        (strips_from beyond n (n - (face + 1)) free (suc face)) is
-        ∙ ap (λ f. strips_from beyond n (n - (face + 1)) free f) next
+    skips low is = grind (arith, common_steps, cond-false)
 
     pub stripping_more : (after : ℕ → Bool) (old mid new : Option (List ℕ)) (p q r : List ℕ)
         → face < n → free face ≡ true → after ≡ left_by free strip
@@ -100,14 +76,7 @@ module _ (beyond : ℕ → Option ℕ) (node : ℕ → ℕ) (n face : ℕ) (firs
     pub stripping_pass : (old new : Option (List ℕ)) (p q : List ℕ) → face < n → free face ≡ false
         → IsStripping beyond node n face first free strips old new p q
         → IsStripping beyond node n (face + 1) first free strips old new p q
-    stripping_pass old new p q low is so_far = record {
-      done = so_far.done;
-      whole = so_far.whole ∙ ap (λ ss. so_far.done ++ ss) (skips low is);
-      left = so_far.left;
-      count = so_far.count;
-      few = omega (arith, so_far.few);
-      text = so_far.text;
-    }
+    stripping_pass old new p q low is so_far = grind (arith, common_steps, skips)
 
     -- The sink failed within the line of the next strip.
     pub stripping_cut : (old mid new : Option (List ℕ)) (p q : List ℕ) → face < n → free face ≡ true
@@ -132,15 +101,7 @@ module _ (beyond : ℕ → Option ℕ) (node : ℕ → ℕ) (n face : ℕ) (firs
         → GainsThrough old new p q (flat_map strip_line (map (listed_nodes node) all))
         × (strips ≡ length (map (listed_nodes node) all))
     stripping_all old new p q past s =
-        let k : n - face ≡ 0 = omega arith in
-        let is : all ≡ s.done =
-        s.whole ∙ ap (λ ss. s.done ++ ss) (ap (λ m. strips_from beyond n m free face) k)
-        ∙ append-nil s.done in (
-          subst (GainsThrough old new p q)
-              (sym (flat_map-map strip_line (listed_nodes node) all
-              ∙ ap (λ ss. flat_map (line_of node) ss) is)) s.text,
-          s.count ∙ ap length (sym is) ∙ sym (length-map all (listed_nodes node)),
-        )
+        grind (arith, common_steps, append-nil, flat_map-map, length-map)
 
 pub shown_strips : (h : Hierarchy) (T : ℕ → Bool) (first : ℕ → Bool) → first ≡ is_there h T
     → strips_from (beyond_in h T) (face_count h) (face_count h) first 0 ≡ strips_of h T

@@ -1,16 +1,17 @@
 -- Each free face is in one strip, once, and no other face is.
-use Rattle.std.proofs.Common.{◌≡◌, ◌≢◌, ℕ, zero, suc, ◌+◌, ◌*◌, ◌<◌, ◌≤◌, eqb, Bool, true, false}
-use Rattle.std.proofs.Common.{not, cond, List, [], ◌∷◌, ◌++◌, map, ◌↔◌, Option, inl, inr, refl, sym}
+use Rattle.std.proofs.Common.{◌≡◌, ◌≢◌, ℕ, zero, suc, ◌+◌, ◌<◌, ◌≤◌, eqb, Bool, true, false}
+use Rattle.std.proofs.lemmas.Grind.{common_steps}
+use Rattle.std.proofs.Common.{cond, List, [], ◌∷◌, ◌++◌, map, ◌↔◌, Option, inl, inr, refl, sym}
 use Rattle.std.proofs.Common.{ap, ◌∙◌, subst, arith}
 use Rattle.std.specs.List.{flat_map}
 use Rattle.std.proofs.lemmas.Bool.{cases_Bool, cases_eq, both_ways, false_from_ne_true, eqb-true}
 use Rattle.std.proofs.lemmas.Bool.{eq-eqb, or_cases, or_left, or_right, false≢true}
-use Rattle.pm_base.specs.Sides.{face_of, next}
+use Rattle.pm_base.specs.Sides.{face_of}
 use Rattle.pm_base.proofs.Search.{option_cases}
 use Rattle.pm_links.specs.Lists.{has, IsOnce}
 use Rattle.pm_forest.specs.Fronts.{without}
 use Rattle.pm_forest.proofs.OneStep.{without-parts, without-from}
-use Rattle.pm_strips.specs.Strips.{free_beyond, exit_of, entered, leads_on, first_side, strip_from}
+use Rattle.pm_strips.specs.Strips.{entered, first_side, strip_from}
 use Rattle.pm_strips.specs.Strips.{left_by, strips_from}
 use Rattle.pm_strips.proofs.StripLaws.{free_is}
 
@@ -40,14 +41,7 @@ entered_free : (beyond : ℕ → Option ℕ) (n : ℕ) (free : ℕ → Bool) (is
     → EachIsFree free (entered beyond n free is_odd exit)
 entered_free beyond zero free is_odd exit = tt
 entered_free beyond (suc n) free is_odd exit =
-    elim (option_cases (free_beyond beyond free exit)) [
-      | inl none ↦ (rw none tt)
-      | inr (g, some) ↦
-          (rw some (
-            (free_is free (beyond exit) g some).1,
-            entered_free beyond n (without free (face_of g)) (not is_odd) (exit_of is_odd g),
-          ))
-    ]
+    grind (arith, common_steps, free_is, option_cases, entered_free beyond n)
 
 cond_face : (b : Bool) (x y f : ℕ) → face_of x ≡ f → face_of y ≡ f → face_of (cond b x y) ≡ f
 cond_face true x y f p q = p
@@ -55,38 +49,15 @@ cond_face false x y f p q = q
 
 pub first_face : (beyond : ℕ → Option ℕ) (free : ℕ → Bool) (f : ℕ)
     → face_of (first_side beyond free f) ≡ f
-first_face beyond free f =
-    let a : face_of (3 * f) ≡ f = omega arith in
-    let b : face_of (3 * f + 1) ≡ f = omega arith in
-    let c : face_of (3 * f + 2) ≡ f = omega arith in
-    let goes = leads_on beyond free in
-    let third = cond (goes (3 * f + 2)) (3 * f + 2) (3 * f) in
-    let second = cond (goes (3 * f + 1)) (3 * f + 1) third in
-    cond_face (goes (3 * f)) (3 * f) second f a
-    (cond_face (goes (3 * f + 1)) (3 * f + 1) third f b
-    (cond_face (goes (3 * f + 2)) (3 * f + 2) (3 * f) f c a))
+first_face beyond free f = grind (arith, common_steps, cond_face)
 
 strip_free : (beyond : ℕ → Option ℕ) (n : ℕ) (free : ℕ → Bool) (f : ℕ) → free f ≡ true
     → EachIsFree free (strip_from beyond n free f)
-strip_free beyond n free f is =
-    let e = first_side beyond (without free f) f in
-    let face = first_face beyond (without free f) f in
-    let rest = entered beyond n (without free f) true (next e) in (
-      subst (λ g. free g ≡ true) (sym face) is,
-      subst (λ g. EachIsFree (without free g) rest)
-          (sym face) (entered_free beyond n (without free f) true (next e)),
-    )
+strip_free beyond n free f is = grind (arith, common_steps, entered_free, first_face)
 
 strip_takes : (beyond : ℕ → Option ℕ) (n : ℕ) (free : ℕ → Bool) (f : ℕ)
     → left_by free (strip_from beyond n free f) f ≡ false
-strip_takes beyond n free f =
-    let e = first_side beyond (without free f) f in
-    let face = first_face beyond (without free f) f in
-    let rest = entered beyond n (without free f) true (next e) in
-    false_from_ne_true _
-    (λ h. (without-parts free f f
-    (left_less (without free f) rest f
-    (subst (λ g. left_by (without free g) rest f ≡ true) face h))).0 refl)
+strip_takes beyond n free f = grind (arith, common_steps, first_face, left_less, without-parts)
 
 -- The strips of m faces take each free face among them when it's free, and leave none.
 pub all_taken : (beyond : ℕ → Option ℕ) (n m : ℕ) (free : ℕ → Bool) (f : ℕ)
@@ -101,21 +72,14 @@ all_taken beyond n (suc m) free f within =
       | inl is ↦
           let rest = all_taken beyond n m (left_by free s) (suc f) (λ x e.
           let w = within x (left_less free s x e) in
-          let ne : x ≢ f =
-          λ same. both_ways _ (strip_takes beyond n free f)
-          (subst (λ y. left_by free s y ≡ true) same e) in
+          let ne : x ≢ f = grind (arith, common_steps, strip_takes) in
           (omega (arith, w.0, ne), omega (arith, w.1))) in
           let all = flat_map (λ t. t) (strips_from beyond n m (left_by free s) (suc f)) in
           rw is (
             each_more free s all (strip_free beyond n free f is) rest.0,
             λ x. ap (λ left. left x) (left_more free s all) ∙ rest.1 x,
           )
-      | inr is ↦
-          let rest = all_taken beyond n m free (suc f) (λ x e.
-          let w = within x e in
-          let ne : x ≢ f = λ same. both_ways _ is (subst (λ y. free y ≡ true) same e) in
-          (omega (arith, w.0, ne), omega (arith, w.1))) in
-          rw is rest
+      | inr is ↦ grind (arith, common_steps, all_taken beyond n m free (suc f))
     ]
 
 -- So the list of the faces has each free face once.
