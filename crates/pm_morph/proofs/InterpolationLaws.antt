@@ -1,10 +1,10 @@
 -- Places between two places: their bounds, and both ends of the way.
-use Rattle.std.proofs.Common.{◌≡◌, ℕ, suc, ◌-◌, ◌*◌, ◌/◌, ◌<◌, ◌≤◌, inl, inr, refl, ap, ◌∙◌, arith}
+use Rattle.std.proofs.Common.{◌≡◌, ℕ, suc, ◌-◌, ◌*◌, ◌/◌, ◌<◌, ◌≤◌, refl, ap, ◌∙◌, arith}
+use Rattle.std.proofs.lemmas.Grind.{common_steps}
 use Rattle.std.specs.Prelude.{ℤ, pos, negsuc, ◌+ℤ◌, ◌*ℤ◌, unsigned_abs}
 use Rattle.std.specs.Int.{int_div_euclid}
 use Rattle.std.proofs.Math.IntN.{pos-*ℤ-pos}
 use Rattle.std.proofs.Math.Nat.{mul-div-le, div-le_of_le-mul, mul-div_cancel_left, div-eq_of_lt-le}
-use Rattle.std.proofs.lemmas.Bool.{cases_lt}
 use borrow.Author.Differences.{ints, product_is}
 use Rattle.std.proofs.lemmas.Int.{unsigned_abs-mul}
 use Rattle.std.proofs.lemmas.Nat.{mul-le}
@@ -30,12 +30,7 @@ div_small : (n b : ℕ) → n ≤ b * 32767 → n / b ≤ 32767
 div_small n b l = div-le_of_le-mul b l
 
 div_less : (n b : ℕ) → n < b * 32767 → n / b < 32767
-div_less n b l =
-    elim (cases_lt (n / b) 32767) [
-      | inl m ↦ m
-      | inr m ↦ (let p = mul-div-le n b in let q = mul-le b 32767 b (n / b) (omega arith) m in
-          absurd (omega arith))
-    ]
+div_less n b l = grind (arith, common_steps, mul-div-le, mul-le)
 
 pub part_small : (z : ℤ) (b : ℕ) → 0 < b → unsigned_abs z ≤ b * 32767
     → unsigned_abs (int_div_euclid z (pos b)) ≤ 32767
@@ -56,16 +51,10 @@ nothing : (z : ℤ) → pos 0 *ℤ z ≡ pos 0
 nothing z = omega (arith, ints, product_is (pos 0) z)
 
 pub at_end : (b : ℕ) (elder own : ℤ) → 0 < b → interpolated b b elder own ≡ own
-at_end b elder own some =
-    let none : b - b ≡ 0 = omega arith in
-    let sum : pos 0 *ℤ elder +ℤ pos b *ℤ own ≡ pos b *ℤ own = omega (arith, ints, nothing elder) in
-    rw (none, sum) (shared b own some)
+at_end b elder own some = grind (arith, common_steps, nothing elder, shared b own some)
 
 pub at_start : (b : ℕ) (elder own : ℤ) → 0 < b → interpolated 0 b elder own ≡ elder
-at_start b elder own some =
-    let all : b - 0 ≡ b = omega arith in
-    let sum : pos b *ℤ elder +ℤ pos 0 *ℤ own ≡ pos b *ℤ elder = omega (arith, ints, nothing own) in
-    rw (all, sum) (shared b elder some)
+at_start b elder own some = grind (arith, common_steps, nothing own, shared b elder some)
 
 pub place_at_end : (b : ℕ) (elder own : Place) → 0 < b → place_between b b elder own ≡ own
 place_at_end b elder own some =
