@@ -1,5 +1,6 @@
 -- Counting: in parts, and one to one.
 use Rattle.std.proofs.Common.{◌≡◌, ◌≢◌, ℕ, zero, suc, ◌+◌, ◌*◌, ◌<◌, ◌≤◌, eqb, Bool, true, false}
+use Rattle.std.proofs.lemmas.Grind.{common_steps}
 use Rattle.std.proofs.Common.{◌&&◌, not, inl, inr, refl, sym, ap, ◌∙◌, cond, arith}
 use Rattle.std.proofs.lemmas.Bool.{cases_Bool, cases_eq, eq-eqb, ne_eqb, eqb-true, and_from}
 use Rattle.std.proofs.lemmas.Bool.{and_parts, and_left, and_right, cond-true, cond-false, eqb-false}
@@ -19,26 +20,16 @@ pub count_parts : (p r : ℕ → Bool) (n : ℕ) → count p n ≡ count (both p
 count_parts p r zero = let a = count-zero p in let b = count-zero (both p r) in let c =
     count-zero (only p r) in omega arith
 count_parts p r (suc n) =
-    let h = count_parts p r n in
-    elim (cases_Bool (p n)) [
-      | inr e ↦
-          let a = count-false p n e in
-          let b = count-false (both p r) n (and_left (p n) (r n) e) in
-          let c = count-false (only p r) n (and_left (p n) (not (r n)) e) in
-          omega arith
-      | inl e ↦
-          let a = count-true p n e in
-          elim (cases_Bool (r n)) [
-            | inl g ↦
-                let b = count-true (both p r) n (and_from (p n) (r n) e g) in
-                let c = count-false (only p r) n (and_right (p n) (not (r n)) (ap not g)) in
-                omega arith
-            | inr g ↦
-                let b = count-false (both p r) n (and_right (p n) (r n) g) in
-                let c = count-true (only p r) n (and_from (p n) (not (r n)) e (ap not g)) in
-                omega arith
-          ]
-    ]
+    grind (
+      arith,
+      common_steps,
+      and_from,
+      and_left,
+      and_right,
+      count-false,
+      count-true,
+      count_parts p r n,
+    )
 
 -- The numbers that pass, in a row.
 record Listed (p : ℕ → Bool) (n : ℕ) : Type 0 where
@@ -59,14 +50,7 @@ listed p zero =
 listed p (suc n) =
     let r = listed p n in
     elim (cases_Bool (p n)) [
-      | inr e ↦
-          let a = count-false p n e in
-          record {
-            w = r.w;
-            within = λ i l. let b = r.within i (omega arith) in omega arith;
-            passes = λ i l. r.passes i (omega arith);
-            distinct = λ i j l g. r.distinct i j l (omega arith);
-          }
+      | inr e ↦ grind (arith, common_steps, count-false)
       | inl e ↦
           let a = count-true p n e in
           let k = count p n in
@@ -119,9 +103,7 @@ pub count_matched : (p q : ℕ → Bool) (n : ℕ) (f g : ℕ → ℕ)
     → ((i : ℕ) → i < n → q i ≡ true → (g i < n) × (p (g i) ≡ true) × (f (g i) ≡ i))
     → count p n ≡ count q n
 count_matched p q n f g there back =
-    let a = count_inject p q n f g there in
-    let b = count_inject q p n g f back in
-    omega arith
+    grind (arith, common_steps, count_inject p q n f g there, count_inject q p n g f back)
 
 -- A test that just one number passes, and one that none does.
 pub count_one : (p : ℕ → Bool) (n x : ℕ) → x < n → p x ≡ true
@@ -131,14 +113,7 @@ count_one p n x l e one =
     let a = met-count w 1 n (λ i j a b. absurd (omega arith)) (λ i b. l) in
     count_same p (met w 1) n (λ i b. elim (cases_eq i x) [
       | inl is ↦ ap p is ∙ e ∙ sym (ap (met w 1) is ∙ met-from w 1 0 (omega arith))
-      | inr ne ↦
-          elim (cases_Bool (p i)) [
-            | inl t ↦ absurd (ne (one i b t))
-            | inr t ↦ elim (cases_Bool (met w 1 i)) [
-              | inl m ↦ absurd (ne (met-parts w 1 i m).2)
-              | inr m ↦ t ∙ sym m
-            ]
-          ]
+      | inr ne ↦ grind (arith, common_steps, met, met-parts)
     ]) ∙ a
 
 pub count_none : (p : ℕ → Bool) (n : ℕ) → ((i : ℕ) → i < n → p i ≡ false) → count p n ≡ 0
@@ -172,26 +147,19 @@ pub count_sides : (p : ℕ → Bool) (q : ℕ → Bool) (n : ℕ)
     → count q (3 * n) ≡ 3 * count p n
 count_sides p q zero same = let a = count-zero q in let b = count-zero p in omega arith
 count_sides p q (suc n) same =
-    let h = count_sides p q n same in
-    let m : 3 * suc n ≡ suc (suc (suc (3 * n))) = omega arith in
-    let m1 : suc (3 * n) ≡ 3 * n + 1 = omega arith in
-    let m2 : suc (suc (3 * n)) ≡ 3 * n + 2 = omega arith in
-    let s = same n in
-    let whole = ap (count q) m in
-    elim (cases_Bool (p n)) [
-      | inl e ↦
-          let a = count-true q (suc (suc (3 * n))) (ap q m2 ∙ s.2 ∙ e) in
-          let b = count-true q (suc (3 * n)) (ap q m1 ∙ s.1 ∙ e) in
-          let c = count-true q (3 * n) (s.0 ∙ e) in
-          let d = count-true p n e in
-          omega arith
-      | inr e ↦
-          let a = count-false q (suc (suc (3 * n))) (ap q m2 ∙ s.2 ∙ e) in
-          let b = count-false q (suc (3 * n)) (ap q m1 ∙ s.1 ∙ e) in
-          let c = count-false q (3 * n) (s.0 ∙ e) in
-          let d = count-false p n e in
-          omega arith
-    ]
+    grind (
+      arith,
+      common_steps,
+      count-false q (suc (suc (3 * n))),
+      count-false q (suc (3 * n)),
+      count-false q (3 * n),
+      count-false p n,
+      count-true q (suc (suc (3 * n))),
+      count-true q (suc (3 * n)),
+      count-true q (3 * n),
+      count-true p n,
+      count_sides p q n same,
+    )
 
 -- One number on.
 pub count_next : (p : ℕ → Bool) (n : ℕ) → p n ≡ true → count p (n + 1) ≡ count p n + 1

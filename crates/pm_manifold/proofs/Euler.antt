@@ -1,5 +1,6 @@
 -- The Euler number is the same in every closed front of a firm hierarchy as in the base front.
 use Rattle.std.proofs.Common.{◌≡◌, ℕ, zero, suc, ◌+◌, ◌*◌, ◌<◌, ◌≤◌, ltb, Bool, true, false, None}
+use Rattle.std.proofs.lemmas.Grind.{common_steps}
 use Rattle.std.proofs.Common.{inl, inr, sym, ap, ◌∙◌, arith}
 use Rattle.std.specs.Prelude.{pos, ◌+ℤ◌, ◌-ℤ◌}
 use borrow.Author.Differences.{ints}
@@ -21,7 +22,7 @@ use Rattle.pm_firm.proofs.FirmFronts.{rising, rise-none, rise-with, rise-without
 use Rattle.pm_firm.proofs.FirmFronts.{rise-all}
 use Rattle.pm_firm.proofs.SameSets.{shown-same, beyond-same}
 use Rattle.pm_manifold.specs.Measure.{is_border_side, nodes_shown, faces_shown, border_sides}
-use Rattle.pm_manifold.specs.Measure.{joined_sides, edges_shown, euler_of}
+use Rattle.pm_manifold.specs.Measure.{edges_shown, euler_of}
 use Rattle.pm_manifold.proofs.BorderSides.{border-parts, border-from}
 use Rattle.pm_manifold.proofs.SplitCounts.{sides_shown, grows}
 
@@ -33,10 +34,7 @@ module _ (h : Hierarchy) (valid : IsValid h) (T E : ℕ → Bool) (front : IsFro
 
   active_same : (D F : ℕ → Bool) → ((k : ℕ) → k < record_count h → D k ≡ F k) → (v : ℕ)
       → IsActive h D v → IsActive h F v
-  active_same D F alike v active = (
-    elim active.0 [ inl root ↦ inl root | inr (j, l, t, m) ↦ inr (j, l, sym (alike j l) ∙ t, m) ],
-    λ i l t q. active.1 i l (alike i l ∙ t) q,
-  )
+  active_same D F alike v active = grind (arith, common_steps)
 
   pub nodes_same : nodes_shown h T ≡ nodes_shown h E
   nodes_same =
@@ -65,17 +63,7 @@ module _ (h : Hierarchy) (valid : IsValid h) (T E : ℕ → Bool) (front : IsFro
 
   pub euler-same : euler_of h T ≡ euler_of h E
   unfolding euler_of
-  euler-same =
-      let n = nodes_same in
-      let f = faces_same in
-      let b = borders_same in
-      let s = sides_shown h T in
-      let s' = sides_shown h E in
-      let j : joined_sides h T ≡ joined_sides h E = omega arith in
-      let e : edges_shown h T ≡ edges_shown h E = omega arith in
-      ap (λ x. pos x -ℤ pos (edges_shown h T) +ℤ pos (faces_shown h T)) n
-      ∙ ap (λ x. pos (nodes_shown h E) -ℤ pos x +ℤ pos (faces_shown h T)) e
-      ∙ ap (λ x. pos (nodes_shown h E) -ℤ pos (edges_shown h E) +ℤ pos x) f
+  euler-same = grind (arith, common_steps, borders_same, faces_same, nodes_same, sides_shown)
 
 grown : (n e f m : ℕ) → pos (n + 1) -ℤ pos (e + m + 1) +ℤ pos (f + m) ≡ pos n -ℤ pos e +ℤ pos f
 grown n e f m = omega (arith, ints)

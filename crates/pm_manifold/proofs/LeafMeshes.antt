@@ -1,9 +1,10 @@
 -- The full front has the Euler number of the leaf mesh, and so has every closed front of a firm
 -- hierarchy.
 use Rattle.std.proofs.Common.{◌≡◌, ℕ, zero, suc, ◌+◌, ◌*◌, ◌/◌, ◌<◌, ◌≤◌, ltb, Bool, true, ◌&&◌}
+use Rattle.std.proofs.lemmas.Grind.{common_steps}
 use Rattle.std.proofs.Common.{length, inl, inr, refl, sym, ap, ◌∙◌, arith}
 use Rattle.std.specs.Prelude.{is_some, is_none, pos, ◌+ℤ◌, ◌-ℤ◌}
-use Rattle.std.proofs.lemmas.Bool.{cases_Bool, and_from, and_right, lt-ltb, le-ltb, false≢true}
+use Rattle.std.proofs.lemmas.Bool.{and_from, and_right, lt-ltb, le-ltb, false≢true}
 use Rattle.pm_base.specs.Counts.{count}
 use Rattle.pm_base.specs.Sides.{face_of}
 use Rattle.pm_base.proofs.Counts.{count_same, met, met-parts, met-from, met-count}
@@ -36,12 +37,7 @@ every_closed : (h : Hierarchy) → IsClosed h every
 every_closed h j k l t needs = refl
 
 true_and : (a b c : Bool) → a ≡ true → b ≡ c → (a && b) ≡ c
-true_and a b c t is =
-    elim (cases_Bool b) [
-      | inl s ↦ and_from a b t s ∙ sym s ∙ is
-      | inr s ↦ and_right a b s ∙ sym s
-          ∙ is
-    ]
+true_and a b c t is = grind (arith, common_steps, and_from, and_right)
 
 module _ (h : Hierarchy) (firm : IsFirm h) where
   abbrev tree : IsForest h
@@ -108,17 +104,11 @@ module _ (h : Hierarchy) (firm : IsFirm h) where
 
   full_borders : border_sides h every ≡ count (λ e. is_none (leaf_twin h e)) (3 * face_count h)
   unfolding is_border_side
-  full_borders =
-      count_same (is_border_side h every) (λ e. is_none (leaf_twin h e)) (3 * face_count h) (λ e l.
-      true_and (is_kept h every (face_of e)) (is_none (beyond_of h every e))
-      (is_none (leaf_twin h e)) (kept_here e l) (ap is_none (full_beyond e l)))
+  full_borders = grind (arith, common_steps, count_same, full_beyond, kept_here, true_and)
 
   full_joined : joined_sides h every ≡ count (λ e. is_some (leaf_twin h e)) (3 * face_count h)
   unfolding is_joined_side
-  full_joined =
-      count_same (is_joined_side h every) (λ e. is_some (leaf_twin h e)) (3 * face_count h) (λ e l.
-      true_and (is_kept h every (face_of e)) (is_some (beyond_of h every e))
-      (is_some (leaf_twin h e)) (kept_here e l) (ap is_some (full_beyond e l)))
+  full_joined = grind (arith, common_steps, count_same, full_beyond, kept_here, true_and)
 
   full_edges : edges_shown h every ≡ edges_of (leaf_net h)
   full_edges =
@@ -128,10 +118,7 @@ module _ (h : Hierarchy) (firm : IsFirm h) where
   pub full_euler : euler_of h every ≡ pos (leaf_count h) -ℤ pos (edges_of (leaf_net h)) +ℤ pos
       (face_count h)
   unfolding euler_of
-  full_euler =
-      ap (λ x. pos x -ℤ pos (edges_shown h every) +ℤ pos (faces_shown h every)) full_nodes
-      ∙ ap (λ x. pos (leaf_count h) -ℤ pos x +ℤ pos (faces_shown h every)) full_edges
-      ∙ ap (λ x. pos (leaf_count h) -ℤ pos (edges_of (leaf_net h)) +ℤ pos x) full_faces
+  full_euler = grind (arith, common_steps, full_edges, full_faces, full_nodes)
 
 pub euler_stays : law.EulerNumbersStay
 euler_stays h firm T closed =

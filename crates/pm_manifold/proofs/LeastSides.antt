@@ -1,13 +1,14 @@
 -- Each loop of border sides has one least side.
-use Rattle.std.proofs.Common.{◌≡◌, ℕ, zero, suc, ◌*◌, ◌<◌, leb, Bool, true, false, inl, inr, refl}
+use Rattle.std.proofs.Common.{◌≡◌, ℕ, zero, suc, ◌*◌, ◌<◌, Bool, true, false, inl, inr, refl}
+use Rattle.std.proofs.lemmas.Grind.{common_steps}
 use Rattle.std.proofs.Common.{arith}
-use Rattle.std.proofs.lemmas.Bool.{cases_Bool, cases_order, both_ways, true≢false, and_parts}
+use Rattle.std.proofs.lemmas.Bool.{cases_Bool, true≢false, and_parts}
 use Rattle.std.proofs.lemmas.Bool.{and_cases, leb-false}
 use Rattle.pm_forest.specs.Forest.{Hierarchy}
 use Rattle.pm_forest.specs.Faces.{face_count}
 use Rattle.pm_beyond.specs.Valid.{IsValid}
 use Rattle.pm_beyond.specs.Moves.{IsClosed}
-use Rattle.pm_manifold.specs.Measure.{is_border_side, border_after, is_least_within, begins_loop}
+use Rattle.pm_manifold.specs.Measure.{border_after, is_least_within, begins_loop}
 use Rattle.pm_manifold.specs.Tracing.{IsBorderSideIn, IsInLoop}
 use Rattle.pm_manifold.specs.Laws as law
 use Rattle.pm_manifold.proofs.Loops.{after-zero, after_border, joins, turns, begins_not}
@@ -16,28 +17,17 @@ use Rattle.pm_manifold.proofs.Loops.{after-zero, after_border, joins, turns, beg
 lesser : (h : Hierarchy) (T : ℕ → Bool) (e n : ℕ) → is_least_within h T e n ≡ false
     → (i : ℕ) × (i < n) × (border_after h T e i < e)
 lesser h T e zero off = absurd (true≢false off)
-lesser h T e (suc n) off =
-    elim (and_cases (leb e (border_after h T e n)) (is_least_within h T e n) off) [
-      | inl a ↦ (n, omega arith, leb-false e (border_after h T e n) a)
-      | inr a ↦ (let (i, l, less) = lesser h T e n a in (i, omega arith, less))
-    ]
+lesser h T e (suc n) off = grind (arith, common_steps, and_cases, leb-false, lesser h T e n)
 
 module _ (h : Hierarchy) (valid : IsValid h) (T : ℕ → Bool) (closed : IsClosed h T) where
   border-of : (e : ℕ) → e < 3 * face_count h → begins_loop h T e ≡ true → IsBorderSideIn h T e
   unfolding begins_loop
-  border-of e l t = record {
-    low = l;
-    border = (and_parts (is_border_side h T e) (is_least_within h T e (3 * face_count h)) t).0;
-  }
+  border-of e l t = grind (arith, common_steps, and_parts)
 
   not_least : (e : ℕ) → IsBorderSideIn h T e → begins_loop h T e ≡ false
       → is_least_within h T e (3 * face_count h) ≡ false
   unfolding begins_loop
-  not_least e b off =
-      elim (and_cases (is_border_side h T e) (is_least_within h T e (3 * face_count h)) off) [
-        | inl a ↦ absurd (both_ways (is_border_side h T e) a b.border)
-        | inr a ↦ a
-      ]
+  not_least e b off = grind (arith, common_steps, and_cases)
 
   record Least (e : ℕ) : Type 0 where
     least : ℕ
@@ -67,20 +57,16 @@ module _ (h : Hierarchy) (valid : IsValid h) (T : ℕ → Bool) (closed : IsClos
   same_least : (g k e : ℕ) → IsBorderSideIn h T g → IsBorderSideIn h T k → begins_loop h T g ≡ true
       → begins_loop h T k ≡ true → IsInLoop h T g e → IsInLoop h T k e → g ≡ k
   same_least g k e bg bk tg tk a b =
-      elim (cases_order g k) [
-        | inl is ↦ is
-        | inr o ↦
-            elim o [
-              | inl less ↦
-                  absurd (both_ways (begins_loop h T k)
-                  (begins_not h valid T closed k g less bg
-                  (joins h valid T closed g e k a (turns h valid T closed k e bk b))) tk)
-              | inr less ↦
-                  absurd (both_ways (begins_loop h T g)
-                  (begins_not h valid T closed g k less bk
-                  (joins h valid T closed k e g b (turns h valid T closed g e bg a))) tg)
-            ]
-      ]
+      grind (
+        arith,
+        common_steps,
+        begins_not h valid T closed k g,
+        begins_not h valid T closed g k,
+        joins h valid T closed g e k a (turns h valid T closed k e bk b),
+        joins h valid T closed k e g b (turns h valid T closed g e bg a),
+        turns h valid T closed k e bk b,
+        turns h valid T closed g e bg a,
+      )
 
 pub one_least : law.EachLoopHasOneLeast
 one_least h valid T closed e b =

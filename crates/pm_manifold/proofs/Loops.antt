@@ -1,5 +1,6 @@
 -- Loops of border sides: each comes back to its start, and the least side of each begins it.
-use Rattle.std.proofs.Common.{◌≡◌, ℕ, zero, suc, ◌+◌, ◌-◌, ◌*◌, ◌<◌, ◌≤◌, leb, Bool, true, false}
+use Rattle.std.proofs.Common.{◌≡◌, ℕ, zero, suc, ◌+◌, ◌-◌, ◌*◌, ◌<◌, ◌≤◌, Bool, true, false}
+use Rattle.std.proofs.lemmas.Grind.{common_steps}
 use Rattle.std.proofs.Common.{◌&&◌, Option, Some, ◌↔◌, ◌⊎◌, List, inl, inr, refl, sym, ap, ◌∙◌}
 use Rattle.std.proofs.Common.{subst, arith}
 use Rattle.std.proofs.lemmas.Bool.{cases_lt, cases_eq, both_ways, and_parts, and_from, and_left}
@@ -58,20 +59,12 @@ least-parts : (h : Hierarchy) (T : ℕ → Bool) (e n : ℕ) → is_least_within
     → i < n → e ≤ border_after h T e i
 least-parts h T e zero t i l = absurd (omega arith)
 least-parts h T e (suc n) t i l =
-    let p = and_parts (leb e (border_after h T e n)) (is_least_within h T e n) t in
-    elim (cases_eq i n) [
-      | inl is ↦ subst (λ j. e ≤ border_after h T e j) (sym is)
-          (leb-true e (border_after h T e n) p.0)
-      | inr ne ↦ least-parts h T e n p.1 i (omega arith)
-    ]
+    grind (arith, common_steps, and_parts, leb-true, least-parts h T e n)
 
 least-from : (h : Hierarchy) (T : ℕ → Bool) (e n : ℕ) → ((i : ℕ) → i < n → e ≤ border_after h T e i)
     → is_least_within h T e n ≡ true
 least-from h T e zero all = refl
-least-from h T e (suc n) all =
-    and_from (leb e (border_after h T e n)) (is_least_within h T e n)
-    (le-leb e (border_after h T e n) (all n (omega arith)))
-    (least-from h T e n (λ i l. all i (omega arith)))
+least-from h T e (suc n) all = grind (arith, common_steps, and_from, le-leb, least-from h T e n)
 
 module _ (h : Hierarchy) (valid : IsValid h) (T : ℕ → Bool) (closed : IsClosed h T) where
   abbrev sides : ℕ
@@ -177,14 +170,7 @@ module _ (h : Hierarchy) (valid : IsValid h) (T : ℕ → Bool) (closed : IsClos
   -- loop is marked now.
   pub marks_pass : (n : ℕ) (marks : List Bool) → is_border_side h T n ≡ false
       → AreMarkedBelow h T n marks → AreMarkedBelow h T (n + 1) marks
-  marks_pass n marks off are i = (
-    λ t. let (g, l, b, loop) = (are i).0 t in (g, omega arith, b, loop),
-    λ (g, l, b, loop). elim (cases_eq g n) [
-      | inl is ↦ absurd
-          (both_ways (is_border_side h T n) off (ap (is_border_side h T) (sym is) ∙ b.border))
-      | inr ne ↦ (are i).1 (g, omega arith, b, loop)
-    ],
-  )
+  marks_pass n marks off are i = grind (arith, common_steps)
 
   pub marks_same : (n : ℕ) (marks : List Bool) → set_of marks n ≡ true → AreMarkedBelow h T n marks
       → AreMarkedBelow h T (n + 1) marks

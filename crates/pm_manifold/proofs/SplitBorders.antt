@@ -1,5 +1,6 @@
 -- What a legal split of a firm hierarchy does to the number of border sides.
 use Rattle.std.proofs.Common.{◌≡◌, ◌≢◌, ℕ, ◌*◌, ◌<◌, eqb, Bool, true, false, ◌&&◌, not, cond}
+use Rattle.std.proofs.lemmas.Grind.{common_steps}
 use Rattle.std.proofs.Common.{Option, Some, None, inl, inr, sym, ap, ◌∙◌, subst, arith}
 use Rattle.std.specs.Prelude.{is_some, option_and_then}
 use Rattle.std.proofs.lemmas.Bool.{cases_Bool, both_ways, and_parts, and_from, eqb-true, eq-eqb}
@@ -69,30 +70,10 @@ module _ (h : Hierarchy) (valid : IsValid h) (T : ℕ → Bool) (closed : IsClos
     tells : expected h o ≡ Some e
 
   tells-parts : (e o : ℕ) → o < 3 * face_count h → tells_of h k e o ≡ true → Teller e o
-  tells-parts e o low t =
-      let p = and_parts (is_at k (record_of h o) && not (eqb o (inner_of h k (face_of o))))
-      (is_at e (expected h o)) t in
-      let q = and_parts (is_at k (record_of h o)) (not (eqb o (inner_of h k (face_of o)))) p.0 in
-      record {
-        low = low;
-        outer = (
-          is_at-parts k (record_of h o) q.0,
-          λ is. both_ways (eqb o (inner_of h k (face_of o)))
-              (not-true (eqb o (inner_of h k (face_of o))) q.1)
-              (eq-eqb o (inner_of h k (face_of o)) is),
-        );
-        tells = is_at-parts e (expected h o) p.1;
-      }
+  tells-parts e o low t = grind (arith, common_steps, and_parts, eq-eqb, is_at-parts, not-true)
 
   tells-from : (e o : ℕ) → Teller e o → tells_of h k e o ≡ true
-  tells-from e o t =
-      and_from (is_at k (record_of h o) && not (eqb o (inner_of h k (face_of o))))
-      (is_at e (expected h o))
-      (and_from (is_at k (record_of h o)) (not (eqb o (inner_of h k (face_of o))))
-      (is_at-from k (record_of h o) t.outer.0)
-      (not_from_false (eqb o (inner_of h k (face_of o)))
-      (ne_eqb o (inner_of h k (face_of o)) t.outer.1)))
-      (is_at-from e (expected h o) t.tells)
+  tells-from e o t = grind (arith, common_steps, and_from, is_at-from, ne_eqb, not_from_false)
 
   teller : ℕ → Option ℕ
   teller e = find_below (tells_of h k e) (3 * face_count h)
@@ -137,47 +118,25 @@ module _ (h : Hierarchy) (valid : IsValid h) (T : ℕ → Bool) (closed : IsClos
 
   moved_back-old : (e : ℕ) → record_of h e ≢ Some k → moved_back e ≡ e
   unfolding moved_back
-  moved_back-old e ne =
-      cond-false (is_at k (record_of h e))
-      (or_else (option_and_then (λ o. expected h o) (across h e)) e) e
-      (false_from_ne_true (is_at k (record_of h e)) (λ t. ne (is_at-parts k (record_of h e) t)))
+  moved_back-old e ne = grind (arith, common_steps, cond-false, is_at-parts)
 
   moved_back-new : (e o b : ℕ) → record_of h e ≡ Some k → across h e ≡ Some o
       → expected h o ≡ Some b → moved_back e ≡ b
   unfolding moved_back
-  moved_back-new e o b r x is =
-      cond-true (is_at k (record_of h e))
-      (or_else (option_and_then (λ o. expected h o) (across h e)) e) e
-      (is_at-from k (record_of h e) r)
-      ∙ ap (λ q. or_else (option_and_then (λ o. expected h o) q) e) x ∙ ap (λ q. or_else q e) is
+  moved_back-new e o b r x is = grind (arith, common_steps, cond-true, is_at-from)
 
   not_own : (e : ℕ) → is_shown h T e ≡ true → record_of h e ≢ Some k
   not_own e s r = both_ways (T k) may.unsplit (sym (shown_record h T e k r) ∙ s)
 
   was_shown : (e : ℕ) → is_shown h (with T k) e ≡ true → record_of h e ≢ Some k
       → is_shown h T e ≡ true
-  was_shown e s ne =
-      elim (shown-parts h split_set e s) [
-        | inl none ↦ shown_base h T e none
-        | inr (j, r, t) ↦
-            elim (with-cases T k j t) [
-              | inl is ↦ absurd (ne (r ∙ ap Some is))
-              | inr tj ↦
-                  shown_record h T e j r ∙ tj
-            ]
-      ]
+  was_shown e s ne = grind (arith, common_steps, shown-parts, shown_base, shown_record, with-cases)
 
   not_inner : (e : ℕ) → (IsInner h k e → ⊥) → not (is_inner h k e) ≡ true
-  not_inner e never =
-      not_from_false (is_inner h k e) (false_from_ne_true (is_inner h k e) (λ t.
-      let p = and_parts (is_at k (record_of h e)) (eqb e (inner_of h k (face_of e))) t in
-      never (is_at-parts k (record_of h e) p.0, eqb-true e (inner_of h k (face_of e)) p.1)))
+  not_inner e never = grind (arith, common_steps, and_parts, eqb-true, is_at-parts, not_from_false)
 
   inner_test : (e : ℕ) → not (is_inner h k e) ≡ true → IsInner h k e → ⊥
-  inner_test e t inner =
-      both_ways (is_inner h k e) (not-true (is_inner h k e) t)
-      (and_from (is_at k (record_of h e)) (eqb e (inner_of h k (face_of e)))
-      (is_at-from k (record_of h e) inner.0) (eq-eqb e (inner_of h k (face_of e)) inner.1))
+  inner_test e t inner = grind (arith, common_steps, and_from, eq-eqb, is_at-from, not-true)
 
   abbrev border_before : ℕ → Bool
   border_before e = is_border_side h T e
@@ -280,10 +239,7 @@ module _ (h : Hierarchy) (valid : IsValid h) (T : ℕ → Bool) (closed : IsClos
             let outer_o : IsOuter h k o = subst (λ i. IsOuter h i o) same oo in
             let fl : face_of e < face_count h = omega arith in
             let (c, b', face, outer_c, told) = held_side h k (face_of e) fl rec held in
-            let c_is : c ≡ o = elim (two_outer h e o c x k outer_c face) [
-              | inl z ↦ absurd (none-some b' (sym none ∙ ap (expected h) (sym z) ∙ told))
-              | inr z ↦ z
-            ] in
+            let c_is : c ≡ o = grind (arith, common_steps, none-some, two_outer) in
             let tells : expected h o ≡ Some b' = ap (expected h) (sym c_is) ∙ told in
             let is = moved_back-new e o b' rec x tells in
             let bl = expected-lt h valid.shape k o b' ol outer_o tells in

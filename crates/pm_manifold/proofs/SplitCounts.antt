@@ -1,6 +1,7 @@
 -- What a legal split of a firm hierarchy does to the numbers of nodes, faces and edges.
 use Rattle.std.proofs.Common.{◌≡◌, ◌≢◌, ℕ, suc, ◌+◌, ◌*◌, ◌<◌, Bool, true, false, ◌&&◌, not, Option}
-use Rattle.std.proofs.Common.{Some, None, inl, inr, refl, sym, ap, ◌∙◌, subst, arith}
+use Rattle.std.proofs.lemmas.Grind.{common_steps}
+use Rattle.std.proofs.Common.{Some, None, inl, inr, refl, sym, ap, ◌∙◌, arith}
 use Rattle.std.specs.Prelude.{is_some, is_none}
 use Rattle.std.proofs.lemmas.Bool.{cases_Bool, cases_eq, both_ways, or_cases, and_parts, and_from}
 use Rattle.std.proofs.lemmas.Bool.{and_left, and_right, not-true, not_from_false}
@@ -31,14 +32,7 @@ use Rattle.pm_manifold.proofs.Counted.{both, only, count_parts, count_one, count
 use Rattle.pm_manifold.proofs.SplitBorders.{is_inner, outer_borders, two_faces, one_face}
 
 and-turned : (a b : Bool) → (a && b) ≡ (b && a)
-and-turned a b = elim (cases_Bool a) [
-  | inl t ↦ elim (cases_Bool b) [
-    | inl s ↦ and_from a b t s ∙ sym (and_from b a s t)
-    | inr s ↦
-        and_right a b s ∙ sym (and_left b a s)
-  ]
-  | inr t ↦ and_left a b t ∙ sym (and_right b a t)
-]
+and-turned a b = grind (arith, common_steps, and_from, and_left, and_right)
 
 -- Border sides and joined ones are all sides of kept faces.
 some-none : (r : Option ℕ) → not (is_none r) ≡ is_some r
@@ -87,51 +81,16 @@ module _ (h : Hierarchy) (valid : IsValid h) (T : ℕ → Bool) (closed : IsClos
   active_now v = is_active h (with T k) v
 
   child_new : (v : ℕ) → Makes h k v → IsActive h (with T k) v
-  child_new v makes = (
-    inr (k, l, with-same T k, makes),
-    λ i b f q. elim (with-cases T k i f) [
-      | inl is ↦
-          let o = tree.forest.older k l in
-          let w : s_of h i ≡ s_of h k = ap (s_of h) is in
-          elim makes [ inl c ↦ omega arith | inr c ↦ omega arith ]
-      | inr g ↦ both_ways (T k) may.unsplit (front i k b g (subst (Makes h k) (sym q) makes))
-    ],
-  )
+  child_new v makes = grind (arith, common_steps, front, with-cases, with-same)
 
   child_old : (v : ℕ) → Makes h k v → IsActive h T v → ⊥
-  child_old v makes active =
-      elim active.0 [
-        | inl root ↦ elim makes [ inl e ↦ omega arith | inr e ↦ omega arith ]
-        | inr (j, jl, tj, mj) ↦
-            both_ways (T k) may.unsplit (subst (λ i. T i ≡ true) (makes_once h j k v mj makes) tj)
-      ]
+  child_old v makes active = grind (arith, common_steps, makes_once)
 
   others_stay : (v : ℕ) → (Makes h k v → ⊥) → IsActive h (with T k) v → IsActive h T v
-  others_stay v none active = (
-    elim active.0 [
-      | inl root ↦ inl root
-      | inr (j, jl, tj, mj) ↦
-          elim (with-cases T k j tj) [
-            | inl is ↦ absurd (none (subst (λ i. Makes h i v) is mj))
-            | inr t ↦ inr (j, jl, t, mj)
-          ]
-    ],
-    λ i b f q. active.1 i b (with-from T k i f) q,
-  )
+  others_stay v none active = grind (arith, common_steps, with-cases, with-from)
 
   stay_others : (v : ℕ) → v ≢ s_of h k → IsActive h T v → IsActive h (with T k) v
-  stay_others v ne active = (
-    elim active.0 [
-      | inl root ↦ inl root
-      | inr (j, jl, tj, mj) ↦
-          inr (j, jl, with-from T k j tj, mj)
-    ],
-    λ i b f q. elim (with-cases T k i f) [
-      | inl is ↦ ne (sym q ∙ ap (s_of h) is)
-      | inr t ↦
-          active.1 i b t q
-    ],
-  )
+  stay_others v ne active = grind (arith, common_steps, with-cases, with-from)
 
   not_active : (D : ℕ → Bool) (v : ℕ) → v < node_count h → (IsActive h D v → ⊥)
       → not (is_active h D v) ≡ true

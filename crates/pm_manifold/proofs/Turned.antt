@@ -1,5 +1,7 @@
 -- The walk to the next border side, in plain words.
 use Rattle.std.proofs.Common.{◌≡◌, ℕ, ◌*◌, ◌<◌, Bool, true, Option, Some, None, refl, sym, ap, ◌∙◌}
+use Rattle.std.proofs.Common.{arith}
+use Rattle.std.proofs.lemmas.Grind.{common_steps}
 use Rattle.std.proofs.Common.{subst}
 use Rattle.std.specs.Prelude.{option_map}
 use Rattle.std.proofs.lemmas.Option.{none-some, same_Some}
@@ -30,10 +32,7 @@ module _ (h : Hierarchy) (valid : IsValid h) (T : ℕ → Bool) (front : IsFront
       (beyond-from h (forest_of h valid) T front valid.no_side_twice e r g.low g.shown s)
 
   found : (e : ℕ) → IsGoodSide e → (r : Option ℕ) → beyond_of h T e ≡ r → StandsBeyond h T e r
-  found e g r is =
-      subst (StandsBeyond h T e) is
-      (stands-from h (forest_of h valid) T front valid.no_side_twice e (beyond_of h T e) g.low
-      g.shown (beyond-found h (forest_of h valid) valid.no_side_twice T front e g.low g.shown))
+  found e g r is = grind (arith, common_steps, beyond-found, forest_of, stands-from)
 
   prepend : {a b c : ℕ} → IsGoodSide a → Leads (turn_at h T) a b → TurnsTo h T b c → TurnsTo h T a c
   prepend g at t = t
@@ -69,9 +68,4 @@ module _ (h : Hierarchy) (valid : IsValid h) (T : ℕ → Bool) (front : IsFront
     only g t = one_end (start h valid T front e l b) t turned
 
 pub turned_to : law.NextBordersAreTurnedTo
-turned_to h valid T closed e l b g =
-    let front = closed-front h T closed in (
-      only h valid T front e l b g,
-      λ is. subst (TurnsTo h T (next e)) (sym is)
-          (turned h valid T front e l b),
-    )
+turned_to h valid T closed e l b g = grind (arith, common_steps, closed-front, only, turned)
