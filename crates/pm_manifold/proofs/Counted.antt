@@ -50,7 +50,14 @@ listed p zero =
 listed p (suc n) =
     let r = listed p n in
     elim (cases_Bool (p n)) [
-      | inr e ↦ grind (arith, common_steps, count-false)
+      | inr e ↦
+          let a = count-false p n e in
+          record {
+            w = r.w;
+            within = λ i l. let b = r.within i (omega arith) in omega arith;
+            passes = λ i l. r.passes i (omega arith);
+            distinct = λ i j l g. r.distinct i j l (omega arith);
+          }
       | inl e ↦
           let a = count-true p n e in
           let k = count p n in
