@@ -2,9 +2,10 @@
 -- being opened, these are gathered just as they would be among all others, and in the end there are
 -- no others.
 use Rattle.std.proofs.Common.{◌≡◌, ℕ, suc, ◌+◌, ◌-◌, ◌*◌, ◌<◌, ◌≤◌, Bool, true, false, List, []}
+use Rattle.std.proofs.lemmas.Grind.{common_steps}
 use Rattle.std.proofs.Common.{◌++◌, length, inl, inr, refl, sym, ap, ◌∙◌, arith}
 use Rattle.std.specs.List.{filter, range_with_len}
-use Rattle.std.proofs.lemmas.Bool.{cases_eq, cases_lt, lt-ltb, false≢true, false_from_ne_true}
+use Rattle.std.proofs.lemmas.Bool.{cases_eq, lt-ltb, false≢true, false_from_ne_true}
 use Rattle.std.proofs.lemmas.Bool.{not_from_false}
 use Rattle.std.proofs.lemmas.List.{ext_get_or, get_or-replicate, length-replicate}
 use Rattle.std.proofs.lemmas.List.Elements.{filter-append}
@@ -56,13 +57,7 @@ base-early h e l =
 
 base-late : (h : Hierarchy) (e : ℕ) → e < 3 * face_count h → 3 * length h.bases ≤ e
     → is_base h e ≡ false
-base-late h e l late =
-    false_from_ne_true (is_base h e) (λ t.
-    elim (shown-parts h no_records e t) [
-      | inl none ↦ absurd (let early = (revealed-base h (face_of e) (omega arith)).0 none in
-          omega arith)
-      | inr (j, own, split) ↦ false≢true split
-    ])
+base-late h e l late = grind (arith, common_steps, false≢true, revealed-base, shown-parts)
 
 -- no record has one
 base-outside : (h : Hierarchy) (k : ℕ) → k < record_count h → (e : ℕ) → is_base h e ≡ true
@@ -75,26 +70,21 @@ base-outside h k k_lt e base =
 
 base-numbers : (h : Hierarchy) → filter (is_base h) (numbers_below (3 * face_count h))
     ≡ numbers_below (3 * length h.bases)
-base-numbers h =
-    let few = bases-few h in
-    passing_first (is_base h) (3 * length h.bases) (3 * face_count h) (omega arith) (base-early h)
-    (base-late h)
+base-numbers h = grind (arith, common_steps, base-early, base-late, bases-few, passing_first)
 
 -- these faces are kept
 pub base-kept : (h : Hierarchy) (xs new : List ℕ) → xs ≡ []
     → AreSameNumbers new (range_with_len 0 (length h.bases - 0) ++ xs) → AreShown h no_records new
-base-kept h xs new none are = record {
-  each = λ f. (
-    λ t. (let l = (first_ones (length h.bases) xs new none are f).0 t in
-        (omega (arith, bases-few h), base-early h (3 * f) (omega arith))),
-    λ (l, base). elim (cases_lt f (length h.bases)) [
-      | inl early ↦ (first_ones (length h.bases) xs new none are f).1 early
-      | inr late ↦
-          absurd (false≢true (sym (base-late h (3 * f) (omega arith) (omega arith)) ∙ base))
-    ],
-  );
-  once = are.once;
-}
+base-kept h xs new none are =
+    grind (
+      arith,
+      common_steps,
+      false≢true,
+      base-early h,
+      base-late h,
+      bases-few h,
+      first_ones (length h.bases) xs new none are,
+    )
 
 -- ---- in the lists of the full front
 
@@ -107,14 +97,7 @@ base-list h g =
 
 full-bases : (h : Hierarchy) (g : ℕ)
     → listed (full_base_lists h) g ≡ filter (is_base h) (listed (full_lists h) g)
-full-bases h g =
-    let bases = λ (v : ℕ). filter (is_under h every v) (numbers_below (3 * length h.bases)) in
-    elim (cases_lt g (node_count h)) [
-      | inl l ↦ listed-by_node h bases g l ∙ base-list h g
-          ∙ ap (filter (is_base h)) (sym (listed-by_node h (full_list h) g l))
-      | inr past ↦ listed-past h bases g past
-          ∙ ap (filter (is_base h)) (sym (listed-past h (full_list h) g past))
-    ]
+full-bases h g = grind (arith, common_steps, base-list, listed-by_node, listed-past)
 
 -- ---- in the lists after a collapse
 
@@ -147,31 +130,13 @@ module _ (h : Hierarchy) (k : ℕ) (p : ℕ → Bool) (ls ms : List (List ℕ)) 
 
   pub lists-filtered : (g : ℕ) → listed (collapsed_lists h k ms) g
       ≡ filter p (listed (collapsed_lists h k ls) g)
-  lists-filtered g =
-      elim (cases_lt g (node_count h)) [
-        | inl l ↦ listed-by_node h (collapsed_list h k ms) g l ∙ collapsed-filtered g
-            ∙ ap (filter p) (sym (listed-by_node h (collapsed_list h k ls) g l))
-        | inr past ↦ listed-past h (collapsed_list h k ms) g past
-            ∙ ap (filter p) (sym (listed-past h (collapsed_list h k ls) g past))
-      ]
+  lists-filtered g = grind (arith, common_steps, collapsed-filtered, listed-by_node, listed-past)
 
 -- ---- the calls: no list has any, and each corner of a base face is put in
 
 pub filling-begins : (h : Hierarchy) (v : Lists) → v ≡ empty_lists (3 * face_count h) (node_count h)
     → Filling h (3 * length h.bases) (3 * length h.bases) v
-filling-begins h v is =
-    let m = 3 * length h.bases in
-    let few = bases-few h in
-    record {
-      items = ap (λ (w : Lists). w.items) is;
-      heads = ap (λ (w : Lists). length w.lists) is ∙ length-replicate (node_count h) [];
-      until = omega arith;
-      most = omega arith;
-      each = λ g l.
-          let none : m - m ≡ 0 = omega arith in
-          ap (λ (w : Lists). list_of w g) is ∙ get_or-replicate (node_count h) g [] [] l
-          ∙ ap (λ n. filter (is_under h every g) (range_with_len m n)) (sym none);
-    }
+filling-begins h v is = grind (arith, common_steps, bases-few, get_or-replicate, length-replicate)
 
 -- Once the records from n on are collapsed, each list has the corners of base faces that it would
 -- have among all.
@@ -182,24 +147,15 @@ pub record Gathered (h : Hierarchy) (n : ℕ) (v : Lists) : Type 0 where
 
 pub gathered-begins : (h : Hierarchy) (n : ℕ) (v : Lists) → n ≡ record_count h
     → v.lists ≡ full_base_lists h → Gathered h n v
-gathered-begins h n v all is = record {
-  most = omega (arith, all);
-  heads = ap length is
-      ∙ length-by_node h (λ g. filter (is_under h every g) (numbers_below (3 * length h.bases)));
-  each = λ g. ap (λ ls. listed ls g) is ∙ full-bases h g
-      ∙ ap (λ ls. filter (is_base h) (listed ls g)) (sym (opened-full h)
-      ∙ ap (opened_lists h) (sym all));
-}
+gathered-begins h n v all is =
+    grind (arith, common_steps, full-bases, length-by_node, opened-full, opened_lists)
 
 -- the collapse of one record more; its first half leaves as many lists
 pub first-heads : (h : Hierarchy) → HasShape h → (k : ℕ) → k < record_count h → (v a : Lists)
     → length v.lists ≡ node_count h →
     (s t : ℕ) → s ≡ s_of h k → t ≡ t_of h k → a ≡ with_moved v t s → length a.lists ≡ node_count h
 first-heads h shape k l v a heads s t s_is t_is first =
-    let low = s_below h shape k l in
-    let differs = λ (same : t ≡ s). (children-differ h shape k l).0 (sym t_is ∙ same ∙ s_is) in
-    (after_move v a t s (omega (arith, t_is, heads)) (omega (arith, s_is, low, heads)) differs
-    first).heads ∙ heads
+    grind (arith, common_steps, after_move, children-differ, s_below)
 
 module _ (h : Hierarchy) (shape : HasShape h) (k : ℕ) (k_lt : k < record_count h) (v a w : Lists)
     (old : Gathered h (suc k) v)
@@ -227,13 +183,7 @@ module _ (h : Hierarchy) (shape : HasShape h) (k : ℕ) (k_lt : k < record_count
       s t u s_is t_is u_is u_lt first second
 
   pub gathered-more : Gathered h k w
-  gathered-more = record {
-    most = omega arith;
-    heads = ap length moved-is ∙ length-by_node h (collapsed_list h k v.lists);
-    each = λ g.
-        ap (λ l. listed l g) moved-is ∙ lists-filtered h k (is_base h) ls v.lists old.each g
-        ∙ ap (λ l. filter (is_base h) (listed l g)) (sym (opened-next h k k_lt));
-  }
+  gathered-more = grind (arith, common_steps, length-by_node, lists-filtered, moved-is, opened-next)
 
 pub gathered-ends : (h : Hierarchy) → HasShape h → (n : ℕ) (v : Lists) → Gathered h n v → n ≡ 0
     → v.lists ≡ base_lists h

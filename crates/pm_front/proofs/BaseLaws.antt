@@ -1,6 +1,7 @@
 -- The base front: no record is split.
-use Rattle.std.proofs.Common.{◌≡◌, ℕ, ◌*◌, Bool, false, List, Option, length, replicate, sym, ap}
-use Rattle.std.proofs.Common.{◌∙◌, subst}
+use Rattle.std.proofs.Common.{◌≡◌, ℕ, ◌*◌, Bool, false, List, Option, replicate, ap, arith}
+use Rattle.std.proofs.lemmas.Grind.{common_steps}
+use Rattle.std.proofs.Common.{◌∙◌}
 use Rattle.std.proofs.lemmas.Bool.{false≢true}
 use Rattle.std.proofs.lemmas.List.{length-replicate}
 use Rattle.pm_base.specs.Sides.{NoSideTwice}
@@ -14,7 +15,7 @@ use Rattle.pm_forest.proofs.Flags.{set_of-unset}
 use Rattle.pm_beyond.specs.Walks.{leaf_net}
 use Rattle.pm_sides.specs.Stored.{AreStored}
 use Rattle.pm_front.specs.Active.{AreActive, AreShown}
-use Rattle.pm_front.specs.Corners.{base_lists, AreCorners}
+use Rattle.pm_front.specs.Corners.{base_lists}
 use Rattle.pm_front.specs.Members.{Members}
 use Rattle.pm_front.specs.State.{IsRefinement}
 use Rattle.pm_front.proofs.OpenedLists.{base-right}
@@ -34,18 +35,5 @@ module _ (h : Hierarchy) (flags : List Bool) (none : flags ≡ replicate (record
       kept.bound ≡ face_count h → AreShown h no_records kept.list → AreStored h no_records table
       → IsRefinement h flags corners active kept table
   base-refined shape once corners active kept table items lists bound nodes kept_bound faces
-      beyond = record {
-        shape = shape;
-        once = once;
-        flag_len = ap length none ∙ length-replicate (record_count h) false;
-        front = subst (λ (T : ℕ → Bool). IsFront h T) (sym unset) (base-front h);
-        corner_items = items;
-        corner_lists =
-            subst (λ (T : ℕ → Bool). AreCorners h T corners.lists) (sym unset)
-            (subst (AreCorners h no_records) (sym lists) (base-right h shape));
-        active_bound = bound;
-        active_list = subst (λ (T : ℕ → Bool). AreActive h T active.list) (sym unset) nodes;
-        kept_bound = kept_bound;
-        kept_list = subst (λ (T : ℕ → Bool). AreShown h T kept.list) (sym unset) faces;
-        beyond = subst (λ (T : ℕ → Bool). AreStored h T table) (sym unset) beyond;
-      }
+      beyond =
+      grind (arith, common_steps, base-front, base-right, length-replicate, unset)

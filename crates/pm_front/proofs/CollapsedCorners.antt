@@ -1,6 +1,7 @@
 -- After a legal collapse the corner lists have just the corners of kept faces at each active node,
 -- each once.
-use Rattle.std.proofs.Common.{◌≡◌, ◌≢◌, ℕ, ◌*◌, ◌<◌, Bool, true, not, ◌||◌, eqb, List, [], ◌++◌}
+use Rattle.std.proofs.Common.{◌≡◌, ◌≢◌, ℕ, ◌*◌, ◌<◌, Bool, true, not, List, [], ◌++◌}
+use Rattle.std.proofs.lemmas.Grind.{common_steps}
 use Rattle.std.proofs.Common.{Some, inl, inr, refl, sym, ap, ◌∙◌, subst, arith}
 use Rattle.std.proofs.lemmas.Bool.{or_cases, or_left, or_right, eqb-true, eq-eqb, ne_eqb}
 use Rattle.std.proofs.lemmas.Bool.{cases_Bool, cases_eq, false≢true, both_ways, false_from_ne_true}
@@ -31,23 +32,12 @@ module _ (h : Hierarchy) (k : ℕ) (ls : List (List ℕ)) where
 
   pub collapsed-child : (v : ℕ) → v ≢ s_of h k → Makes h k v → collapsed_list h k ls v ≡ []
   collapsed-child v differs made =
-      cond-false _ _ _ (ne_eqb v (s_of h k) differs)
-      ∙ cond-true _ _ _
-      (elim made [
-        | inl is ↦
-            or_left (eqb v (t_of h k)) (eqb v (u_of h k)) (eq-eqb v (t_of h k) is)
-        | inr is ↦
-            or_right (eqb v (t_of h k)) (eqb v (u_of h k)) (eq-eqb v (u_of h k) is)
-      ])
+      grind (arith, common_steps, cond-false, cond-true, eq-eqb, ne_eqb, or_left, or_right)
 
   pub collapsed-other : (v : ℕ) → v ≢ s_of h k → (Makes h k v → ⊥)
       → collapsed_list h k ls v ≡ rest_of h k ls v
   collapsed-other v differs made =
-      cond-false _ _ _ (ne_eqb v (s_of h k) differs)
-      ∙ cond-false _ _ _
-      (false_from_ne_true (eqb v (t_of h k) || eqb v (u_of h k))
-      (λ t. made (elim (or_cases (eqb v (t_of h k)) (eqb v (u_of h k)) t)
-      [ inl is ↦ inl (eqb-true v (t_of h k) is) | inr is ↦ inr (eqb-true v (u_of h k) is) ])))
+      grind (arith, common_steps, cond-false, eqb-true, ne_eqb, or_cases)
 
 module _ (h : Hierarchy) (tree : IsForest h) (T : ℕ → Bool) (front : IsFront h T) (k : ℕ)
     (k_lt : k < record_count h) (ls : List (List ℕ)) (corners : AreCorners h T ls) where
@@ -87,11 +77,7 @@ module _ (h : Hierarchy) (tree : IsForest h) (T : ℕ → Bool) (front : IsFront
     -- the leaf of a corner is below s exactly where its ancestor is t or u
     below-s : (x : ℕ) → x < leaf_count h → Makes h k (ancestor_of h T x) → Holds h (s_of h k) x
     below-s x l made =
-        let held = holds-ancestor_of h tree.forest T x l in
-        elim made [
-          | inl a ↦ holds-s_from_t h tree.forest k x k_lt (subst (λ v. Holds h v x) a held)
-          | inr a ↦ holds-s_from_u h tree.forest k x k_lt (subst (λ v. Holds h v x) a held)
-        ]
+        grind (arith, common_steps, holds-ancestor_of, holds-s_from_t, holds-s_from_u)
 
     below-made : (x : ℕ) → x < leaf_count h → Holds h (s_of h k) x → Makes h k (ancestor_of h T x)
     below-made x l held =
@@ -152,9 +138,7 @@ module _ (h : Hierarchy) (tree : IsForest h) (T : ℕ → Bool) (front : IsFront
         let leaf = tree.faces.leaves e l in
         elim (cases_Bool (holds h (s_of h k) x)) [
           | inl held ↦
-              let at_s : v ≡ s_of h k =
-              sym is ∙ collapse-under h tree.forest T front k k_lt split t_active u_active x
-              leaf held in
+              let at_s : v ≡ s_of h k = grind (arith, common_steps, collapse-under) in
               let t_rest = rest_of h k ls (t_of h k) in
               let u_rest = rest_of h k ls (u_of h k) in
               ap (λ l. has l e) (collapsed-s h k ls v at_s) ∙ has-append u_rest t_rest e
@@ -164,15 +148,9 @@ module _ (h : Hierarchy) (tree : IsForest h) (T : ℕ → Bool) (front : IsFront
                 | inr a ↦ or_left (has u_rest e) (has t_rest e) (rest-from (u_of h k) e l q.1 a q.0)
               ]
           | inr out ↦
-              let stays : ancestor_of h T x ≡ v =
-              sym (collapse-elsewhere h tree.forest T front k k_lt split t_active u_active x
-              leaf out) ∙ is in
-              let differs : v ≢ s_of h k =
-              λ at. (active-ancestor h tree.forest T x leaf).1 k k_lt split
-              (sym at ∙ sym stays) in
-              let other : Makes h k v → ⊥ =
-              λ made. both_ways (holds h (s_of h k) x) out
-              (below-s x leaf (subst (Makes h k) (sym stays) made)) in
+              let stays : ancestor_of h T x ≡ v = grind (arith, common_steps, collapse-elsewhere) in
+              let differs : v ≢ s_of h k = grind (arith, common_steps, active-ancestor) in
+              let other : Makes h k v → ⊥ = grind (arith, common_steps, below-s) in
               ap (λ l. has l e) (collapsed-other h k ls v differs other)
               ∙ rest-from v e l q.1 stays q.0
         ]
@@ -188,12 +166,7 @@ module _ (h : Hierarchy) (tree : IsForest h) (T : ℕ → Bool) (front : IsFront
               let p = (rest-parts (u_of h k) e in_u).2 in
               let q = (rest-parts (t_of h k) e in_t).2 in
               omega (arith, p, q))))
-          | inr differs ↦
-              elim (cases_made h k v) [
-                | inl made ↦ subst IsOnce (sym (collapsed-child h k ls v differs made)) tt
-                | inr other ↦ subst IsOnce (sym (collapsed-other h k ls v differs other))
-                    (rest-once v)
-              ]
+          | inr differs ↦ grind (arith, common_steps, collapsed-child, collapsed-other, rest-once)
         ]
 
     ancestor-low : (U : ℕ → Bool) (v e : ℕ) → e < 3 * face_count h

@@ -1,5 +1,6 @@
 -- The counts of a set once a record comes to it or has left it.
 use Rattle.std.proofs.Common.{◌≡◌, ℕ, ◌+◌, ◌<◌, ◌≤◌, ◌^◌, Bool, false, List, length, get_or}
+use Rattle.std.proofs.lemmas.Grind.{common_steps}
 use Rattle.std.proofs.Common.{replicate, Option, sym, ◌∙◌, arith}
 use Rattle.std.proofs.lemmas.List.{length-replicate, get_or-replicate}
 use Rattle.pm_forest.specs.Forest.{Hierarchy, record_count}
@@ -63,7 +64,4 @@ module _ (h : Hierarchy) (T : ℕ → Bool) (j : ℕ) (l : j < record_count h) (
 
 -- The counts of the empty set are zero.
 pub counts_none : (h : Hierarchy) → AreNeedCounts h no_records (replicate (record_count h) 0)
-counts_none h = record {
-  len = length-replicate (record_count h) 0;
-  each = λ k l. get_or-replicate (record_count h) k 0 0 l ∙ sym (need_count-empty h k);
-}
+counts_none h = grind (arith, common_steps, get_or-replicate, length-replicate, need_count-empty)

@@ -1,13 +1,13 @@
 -- The corners of the node of a record are dealt to its children, some at a time. What is left to
 -- deal ends where dealing all of them does.
-use Rattle.std.proofs.Common.{◌≡◌, ℕ, suc, ◌+◌, ◌<◌, Some, true, false, not, eqb, List, [], ◌∷◌}
-use Rattle.std.proofs.Common.{◌++◌, length, reverse, take, drop, get_or, ◌⊎◌, inl, inr, refl, sym}
+use Rattle.std.proofs.Common.{◌≡◌, ℕ, ◌+◌, ◌<◌, Some, true, false, not, eqb, List, [], ◌∷◌}
+use Rattle.std.proofs.lemmas.Grind.{common_steps}
+use Rattle.std.proofs.Common.{◌++◌, length, take, drop, get_or, ◌⊎◌, refl, sym}
 use Rattle.std.proofs.Common.{ap, ◌∙◌, arith, length-append}
 use Rattle.std.specs.Prelude.{cond}
-use Rattle.std.specs.List.{filter}
 use Rattle.std.proofs.Math.Seq.{take-append_seam, drop-append_seam, drop-cons}
 use Rattle.std.proofs.lemmas.List.{append-nil, take-take, drop-take, get_or-take, length-take}
-use Rattle.std.proofs.lemmas.Bool.{eq-eqb, ne_eqb, cases_Bool, cases_eq, not_from_false}
+use Rattle.std.proofs.lemmas.Bool.{eq-eqb, ne_eqb, not_from_false}
 use Rattle.std.proofs.lemmas.Bool.{not_from_true, cond-true, cond-false}
 use Rattle.pm_links.specs.Lists.{Lists, list_of, first_of, with_first, without_item, AreFirst}
 use Rattle.pm_links.specs.Lists.{IsSound}
@@ -27,10 +27,7 @@ use Rattle.pm_front.proofs.ListLaws.{filter-same}
 pub next_of_first : (these xs left : List ℕ) (i : ℕ) → AreFirst these xs → i < length these
     → left ≡ drop i xs → left ≡ get_or these i 0 ∷ drop (i + 1) xs
 next_of_first these xs left i first l rest =
-    let n : i + 1 ≡ suc i = omega arith in
-    let few = ap length first ∙ length-take (length these) xs in
-    let same = ap (λ ys. get_or ys i 0) first ∙ get_or-take (length these) xs i 0 l in
-    rest ∙ drop-cons xs i 0 (omega (arith, few)) ∙ rw n (ap (λ y. y ∷ drop (suc i) xs) (sym same))
+    grind (arith, common_steps, drop-cons, get_or, get_or-take, length-take)
 
 -- in two parts
 pub front_is_first : (front back xs : List ℕ) → AreFirst (front ++ back) xs → AreFirst front xs
@@ -50,18 +47,7 @@ back_is_next front back xs first =
 goes : (h : Hierarchy) (k x : ℕ) → (child_of h k x ≡ t_of h k)
     × (eqb (child_of h k x) (t_of h k) ≡ true) ⊎ (child_of h k x ≡ u_of h k)
     × (eqb (child_of h k x) (t_of h k) ≡ false)
-goes h k x =
-    elim (cases_Bool (holds h (t_of h k) x)) [
-      | inl a ↦ let to = cond-true _ (t_of h k) (u_of h k) a in
-          inl (to, eq-eqb (child_of h k x) (t_of h k) to)
-      | inr a ↦
-          let to = cond-false _ (t_of h k) (u_of h k) a in
-          inr (
-            to,
-            ne_eqb (child_of h k x) (t_of h k) (λ is. let u = sym to ∙ is in
-                absurd (omega (arith, u))),
-          )
-    ]
+goes h k x = grind (arith, common_steps, cond-false, cond-true, eq-eqb, ne_eqb)
 
 pub deals_one : (h : Hierarchy) → HasShape h → (k : ℕ) → k < record_count h
     → (v w : Lists) (t u x : ℕ) → t ≡ t_of h k → u ≡ u_of h k → u < node_count h → IsSound v
@@ -81,47 +67,13 @@ deals_one h shape k l v w t u x t_is u_is low sound heads first put =
 -- ---- all of them
 
 to_u : (h : Hierarchy) (k e : ℕ) → not (goes_to h k (t_of h k) e) ≡ goes_to h k (u_of h k) e
-to_u h k e =
-    elim (goes h k (from_leaf h e)) [
-      | inl to ↦ not_from_true _ to.1
-          ∙ sym (ne_eqb (child_of h k (from_leaf h e)) (u_of h k) (λ is. let t = sym to.0 ∙ is in
-          absurd (omega (arith, t))))
-      | inr to ↦ not_from_false _ to.1 ∙ sym (eq-eqb (child_of h k (from_leaf h e)) (u_of h k) to.0)
-    ]
+to_u h k e = grind (arith, common_steps, eq-eqb, goes, ne_eqb, not_from_false, not_from_true)
 
 dealt-is : (h : Hierarchy) → HasShape h → (k : ℕ) → k < record_count h → (v : Lists)
     → list_of v (t_of h k) ≡ [] → list_of v (u_of h k) ≡ [] → (g : ℕ) →
     dealt (goes_to h k (t_of h k)) v (s_of h k) (t_of h k) (u_of h k) g ≡ dealt_list h k v.lists g
 dealt-is h shape k l v t_empty u_empty g =
-    let s = s_of h k in
-    let t = t_of h k in
-    let u = u_of h k in
-    let d = children-differ h shape k l in
-    let from = list_of v s in
-    let goes_t = goes_to h k t in
-    elim (cases_eq g s) [
-      | inl is ↦ rw (eq-eqb g s is) refl
-      | inr not_s ↦
-          elim (cases_eq g t) [
-            | inl is ↦
-                rw (ne_eqb g s not_s, eq-eqb g t is)
-                (ap (λ k. reverse (filter goes_t from) ++ k) t_empty
-                ∙ append-nil (reverse (filter goes_t from))
-                ∙ ap (λ w. reverse (filter (goes_to h k w) from)) (sym is))
-            | inr not_t ↦
-                elim (cases_eq g u) [
-                  | inl is ↦
-                      rw (ne_eqb g s not_s, ne_eqb g t not_t, eq-eqb g u is)
-                      (ap (λ k. reverse (filter (λ e. not (goes_t e)) from) ++ k) u_empty
-                      ∙ append-nil (reverse (filter (λ e. not (goes_t e)) from))
-                      ∙ ap reverse
-                      (filter-same (λ e. not (goes_t e)) (goes_to h k u) from (to_u h k)
-                      ∙ ap (λ w. filter (goes_to h k w) from) (sym is)))
-                  | inr not_u ↦
-                      rw (ne_eqb g s not_s, ne_eqb g t not_t, ne_eqb g u not_u) refl
-                ]
-          ]
-    ]
+    grind (arith, common_steps, append-nil, children-differ, eq-eqb, filter-same, ne_eqb, to_u)
 
 -- none is left
 pub dealt-all : (h : Hierarchy) → HasShape h → (k : ℕ) → k < record_count h → (v w : Lists)

@@ -1,5 +1,6 @@
 -- How many different numbers a list has.
 use Rattle.std.proofs.Common.{◌≡◌, ◌≢◌, ◌↔◌, ℕ, suc, ◌<◌, ◌≤◌, Bool, true, false, eqb, List, []}
+use Rattle.std.proofs.lemmas.Grind.{common_steps}
 use Rattle.std.proofs.Common.{◌∷◌, length, ◌⊎◌, inl, inr, sym, ap, ◌∙◌, subst, arith}
 use Rattle.std.specs.List.{filter}
 use Rattle.std.proofs.lemmas.Bool.{cases_eq, eq-eqb, ne_eqb, or_cases, eqb-true, false≢true}
@@ -44,10 +45,7 @@ at_most (x ∷ xs) ys o p within =
 -- lists of the same numbers, each once, are as long
 as_long : (xs ys : List ℕ) → IsOnce xs → IsOnce ys
     → ((x : ℕ) → (has xs x ≡ true) ↔ (has ys x ≡ true)) → length xs ≡ length ys
-as_long xs ys o p same =
-    let a = at_most xs ys o p (λ x. (same x).0) in
-    let b = at_most ys xs p o (λ x. (same x).1) in
-    omega (arith, a, b)
+as_long xs ys o p same = grind (arith, common_steps, at_most)
 
 -- the numbers below n that pass a test are as many as those of a list that has just these
 pub as_many : (p : ℕ → Bool) (n : ℕ) (xs : List ℕ) → IsOnce xs

@@ -1,24 +1,15 @@
 -- Flags that are cleared or set by names, name after name.
-use Rattle.std.proofs.Common.{◌≡◌, ℕ, ◌+◌, eqb, Bool, ◌&&◌, List, [], inl, inr, refl, sym, ◌∙◌}
+use Rattle.std.proofs.Common.{◌≡◌, ℕ, ◌+◌, eqb, Bool, ◌&&◌, List, [], refl, sym}
+use Rattle.std.proofs.lemmas.Grind.{common_steps}
 use Rattle.std.proofs.Common.{arith}
 use Rattle.std.proofs.Math.Bool.{or-false}
-use Rattle.std.proofs.lemmas.Bool.{cases_eq, eq-eqb, ne_eqb, and_from, and_left, and_right}
+use Rattle.std.proofs.lemmas.Bool.{eq-eqb, ne_eqb, and_from, and_left, and_right}
 use Rattle.pm_base.specs.Counts.{set_of}
 use Rattle.pm_front.specs.Candidates.{is_freed, AreAdded}
 
 -- A sum is zero where both parts are.
 pub sum_zero : (a b : ℕ) → eqb (a + b) 0 ≡ (eqb a 0 && eqb b 0)
-sum_zero a b =
-    elim (cases_eq a 0) [
-      | inl x ↦
-          elim (cases_eq b 0) [
-            | inl y ↦ eq-eqb (a + b) 0 (omega arith)
-                ∙ sym (and_from (eqb a 0) (eqb b 0) (eq-eqb a 0 x) (eq-eqb b 0 y))
-            | inr y ↦ ne_eqb (a + b) 0 (omega arith)
-                ∙ sym (and_right (eqb a 0) (eqb b 0) (ne_eqb b 0 y))
-          ]
-      | inr x ↦ ne_eqb (a + b) 0 (omega arith) ∙ sym (and_left (eqb a 0) (eqb b 0) (ne_eqb a 0 x))
-    ]
+sum_zero a b = grind (arith, common_steps, and_from, and_left, and_right, eq-eqb, ne_eqb)
 
 pub added_none : (a : List Bool) (counts : List ℕ) → AreAdded a a (is_freed [] counts)
 added_none a counts = record { len = refl; each = λ k l. sym (or-false (set_of a k)) }

@@ -1,6 +1,7 @@
 -- The rows of a table of names.
 use Rattle.std.proofs.Common.{◌≡◌, ℕ, ◌+◌, ◌<◌, List, [], ◌∷◌, ◌++◌, length, get_or, Option, inl}
-use Rattle.std.proofs.Common.{inr, refl, sym, ap, ◌∙◌, subst, arith}
+use Rattle.std.proofs.lemmas.Grind.{common_steps}
+use Rattle.std.proofs.Common.{inr, refl, sym, subst, arith}
 use Rattle.std.proofs.Math.ListN.{get_or-append}
 use Rattle.std.proofs.Math.Seq.{get_or-append_seam}
 use Rattle.std.specs.List.{All}
@@ -28,11 +29,7 @@ five_are (p ∷ q ∷ r ∷ s ∷ t ∷ u ∷ xs) a b c x y d e f g h five is_a 
 -- What holds of each of five holds of the list of them.
 pub all_five : {X : Type 0} (P : X → Type 0) (a b c x y : X) → P a → P b → P c → P x → P y
     → All P (a ∷ b ∷ c ∷ x ∷ y ∷ [])
-all_five P a b c x y of_a of_b of_c of_x of_y =
-    All-cons P a (b ∷ c ∷ x ∷ y ∷ []) of_a
-    (All-cons P b (c ∷ x ∷ y ∷ []) of_b
-    (All-cons P c (x ∷ y ∷ []) of_c
-    (All-cons P x (y ∷ []) of_x (All-cons P y [] of_y (All-nil P)))))
+all_five P a b c x y of_a of_b of_c of_x of_y = grind (arith, common_steps, All-cons, All-nil)
 
 -- One more row.
 pub row_more : (h : Hierarchy) (rows : List (List (Option ℕ))) (k : ℕ) → length rows ≡ k
@@ -44,9 +41,5 @@ row_more h rows k len each row named j l =
       | inl before ↦
           subst (AreNamesOf h j) (sym (get_or-append rows (row ∷ []) [] j (omega (arith, len))))
           (each j before)
-      | inr last ↦
-          let at : k ≡ j = omega arith in
-          let seam = ap (λ n. get_or (rows ++ row ∷ []) n []) (sym at ∙ sym len)
-          ∙ get_or-append_seam rows row [] [] in
-          subst (AreNamesOf h j) (sym seam) (subst (λ n. AreNamesOf h n row) at named)
+      | inr last ↦ grind (arith, common_steps, get_or, get_or-append_seam)
     ]

@@ -1,5 +1,6 @@
 -- How often a list of names has a record, and what a record names.
 use Rattle.std.proofs.Common.{◌≡◌, ℕ, zero, suc, ◌+◌, ◌*◌, ◌<◌, ◌≤◌, Bool, true, false, ◌||◌, cond}
+use Rattle.std.proofs.lemmas.Grind.{common_steps}
 use Rattle.std.proofs.Common.{List, [], ◌∷◌, length, map, filter, get_or, Option, None, Some, inl}
 use Rattle.std.proofs.Common.{inr, refl, sym, ap, ◌∙◌, subst, arith, length-append}
 use Rattle.std.specs.List.{All, list_any}
@@ -38,20 +39,13 @@ pub none_pass : {X : Type 0} (p : X → Bool) (xs : List X) → list_any p xs �
     → length (filter p xs) ≡ 0
 none_pass p [] e = refl
 none_pass p (x ∷ xs) e =
-    let (first, later) = or_parts (p x) (list_any p xs) e in
-    let one : ◌≡◌ {A = ℕ} (cond (p x) 1 0) 0 = cond-false (p x) 1 0 first in
-    let rest = none_pass p xs later in
-    omega (arith, passing_more p x xs, one, rest)
+    grind (arith, common_steps, cond-false, or_parts, passing_more, none_pass p xs)
 
 pub some_pass : {X : Type 0} (p : X → Bool) (xs : List X) → list_any p xs ≡ true
     → 0 < length (filter p xs)
 some_pass p [] e = absurd (both_ways false refl e)
 some_pass p (x ∷ xs) e =
-    elim (or_cases (p x) (list_any p xs) e) [
-      | inl here ↦ let one : ◌≡◌ {A = ℕ} (cond (p x) 1 0) 1 =
-          cond-true (p x) 1 0 here in omega (arith, passing_more p x xs, one)
-      | inr later ↦ let rest = some_pass p xs later in omega (arith, passing_more p x xs, rest)
-    ]
+    grind (arith, common_steps, cond-true, or_cases, passing_more, some_pass p xs)
 
 pub any-map : {X Y : Type 0} (p : Y → Bool) (f : X → Y) (xs : List X)
     → list_any p (map f xs) ≡ list_any (λ x. p (f x)) xs
@@ -75,22 +69,10 @@ few_side (Some e) = omega arith
 
 few_in : (o : Option NewFace) → length (neighbours_in o) ≤ 2
 few_in None = omega arith
-few_in (Some n) =
-    omega (
-      arith,
-      length-append (side_in n.first) (side_in n.second),
-      few_side n.first,
-      few_side n.second,
-    )
+few_in (Some n) = grind (arith, common_steps, few_side, length-append)
 
 few_neighbours : (r : Record) → length (neighbours_of r) ≤ 4
-few_neighbours r =
-    omega (
-      arith,
-      length-append (neighbours_in r.left) (neighbours_in r.right),
-      few_in r.left,
-      few_in r.right,
-    )
+few_neighbours r = grind (arith, common_steps, few_in, length-append)
 
 -- A recorded neighbour's side is one of the hierarchy.
 neighbour_below : (most : ℕ) (items : List (Option Side)) (i : ℕ) → i < length items
@@ -155,14 +137,13 @@ module _ (h : Hierarchy) where
   -- It names no more than five.
   pub times_named-most : (j k : ℕ) → times_named h j k ≤ 5
   times_named-most j k =
-      let names = map (record_of h) (neighbours_of (record_at h j)) in
-      omega (
+      grind (
         arith,
-        length-filter (is_at k) (named_by h j),
-        count_by-le-length (is_at k)
-            (named_by h j),
-        length-map (neighbours_of (record_at h j)) (record_of h),
+        common_steps,
+        count_by-le-length (is_at k) (named_by h j),
         few_neighbours (record_at h j),
+        length-filter (is_at k) (named_by h j),
+        length-map (neighbours_of (record_at h j)) (record_of h),
       )
 
   -- The names by the places of the neighbours are these, and none where no neighbour is recorded.
@@ -171,10 +152,7 @@ module _ (h : Hierarchy) where
   revealed_times k [] = refl
   revealed_times k (None ∷ items) = revealed_times k items
   revealed_times k (Some side ∷ items) =
-      let name = record_of h side.0 in
-      passing_more (is_at k) name (map (revealer_of h) items)
-      ∙ ap (λ n. cond (is_at k name) 1 0 + n) (revealed_times k items)
-      ∙ sym (passing_more (is_at k) name (map (record_of h) (sides_in items)))
+      grind (arith, common_steps, passing_more, revealed_times k items)
 
   pub names_times : (j k : ℕ) (items : List (Option Side)) → length items ≡ 4
       → sides_in items ≡ neighbours_of (record_at h j) →

@@ -1,9 +1,10 @@
 -- How often the records of a set name a record: zero exactly where none needs it, and the sum over
 -- the parts of a set.
 use Rattle.std.proofs.Common.{◌≡◌, ℕ, zero, suc, ◌+◌, ◌*◌, ◌<◌, ◌≤◌, eqb, Bool, true, false, not}
+use Rattle.std.proofs.lemmas.Grind.{common_steps}
 use Rattle.std.proofs.Common.{◌&&◌, ◌||◌, cond, inl, inr, refl, sym, ap, ◌∙◌, arith}
-use Rattle.std.proofs.lemmas.Bool.{cases_Bool, cases_eq, eq-eqb, ne_eqb, or_parts, and_from}
-use Rattle.std.proofs.lemmas.Bool.{and_parts, both_ways, false_from_ne_true, cond-true, cond-false}
+use Rattle.std.proofs.lemmas.Bool.{cases_eq, eq-eqb, ne_eqb, or_parts, and_from}
+use Rattle.std.proofs.lemmas.Bool.{and_parts, both_ways, cond-true, cond-false}
 use Rattle.pm_forest.specs.Forest.{Hierarchy, record_count}
 use Rattle.pm_forest.specs.Fronts.{with, no_records}
 use Rattle.pm_runs.proofs.PlaneCounts.{share-most}
@@ -34,22 +35,13 @@ module _ (h : Hierarchy) where
   below_alike : (A B : ℕ → Bool) (k n : ℕ) → ((i : ℕ) → i < n → A i ≡ B i)
       → named_below h A k n ≡ named_below h B k n
   below_alike A B k zero same = below_none A k ∙ sym (below_none B k)
-  below_alike A B k (suc n) same =
-      let here = ap (λ b. cond b (times_named h n k) 0) (same n (omega arith)) in
-      let rest = below_alike A B k n (λ i l. same i (omega arith)) in
-      omega (arith, below_more A k n, below_more B k n, here, rest)
+  below_alike A B k (suc n) same = grind (arith, common_steps, below_more, below_alike A B k n)
 
   -- No record's count is above five times the number of records.
   below_most : (T : ℕ → Bool) (k n : ℕ) → named_below h T k n ≤ 5 * n
   below_most T k zero = omega (arith, below_none T k)
   below_most T k (suc n) =
-      omega (
-        arith,
-        below_more T k n,
-        below_most T k n,
-        share-most (T n) (times_named h n k),
-        times_named-most h n k,
-      )
+      grind (arith, common_steps, below_more, share-most, times_named-most, below_most T k n)
 
   pub need_count-most : (T : ℕ → Bool) (k : ℕ) → need_count h T k ≤ 5 * record_count h
   need_count-most T k = below_most T k (record_count h)
@@ -61,13 +53,8 @@ module _ (h : Hierarchy) where
   unneeded-below T k (suc n) l e =
       let (here, later) = or_parts (T n && needs h n k) (any_below (λ j. T j && needs h j k) n) e in
       let rest = unneeded-below T k n (omega arith) later in
-      let one : cond (T n) (times_named h n k) 0 ≡ 0 = elim (cases_Bool (T n)) [
-        | inl t ↦ cond-true (T n) (times_named h n k) 0 t
-            ∙ times_named-none h n k (omega arith)
-            (false_from_ne_true (needs h n k)
-            (λ u. both_ways _ here (and_from (T n) (needs h n k) t u)))
-        | inr f ↦ cond-false (T n) (times_named h n k) 0 f
-      ] in
+      let one : cond (T n) (times_named h n k) 0 ≡ 0 =
+      grind (arith, common_steps, and_from, cond-false, cond-true, times_named-none) in
       omega (arith, below_more T k n, one, rest)
 
   uncounted-below : (T : ℕ → Bool) (k n : ℕ) → n ≤ record_count h → named_below h T k n ≡ 0
@@ -77,11 +64,8 @@ module _ (h : Hierarchy) where
       let more = below_more T k n in
       let rest = uncounted-below T k n (omega arith) (omega arith) in
       let one : cond (T n) (times_named h n k) 0 ≡ 0 = omega arith in
-      let here : (T n && needs h n k) ≡ false = false_from_ne_true (T n && needs h n k) (λ t.
-      let (is_in, need) = and_parts (T n) (needs h n k) t in
-      let some = times_named-some h n k (omega arith) need in
-      let all = cond-true (T n) (times_named h n k) 0 is_in in
-      absurd (omega arith)) in
+      let here : (T n && needs h n k) ≡ false =
+      grind (arith, common_steps, and_parts, cond-true, times_named-some) in
       ap (λ b. b || any_below (λ j. T j && needs h j k) n) here ∙ rest
 
   pub need_count-unneeded : (T : ℕ → Bool) (k : ℕ) → is_needed h T k ≡ false → need_count h T k ≡ 0
@@ -92,10 +76,7 @@ module _ (h : Hierarchy) where
 
   -- as a test.
   pub zero_test : (T : ℕ → Bool) (k : ℕ) → eqb (need_count h T k) 0 ≡ not (is_needed h T k)
-  zero_test T k = elim (cases_Bool (is_needed h T k)) [
-    | inl t ↦ ne_eqb _ 0 (λ e. both_ways _ (unneeded-count T k e) t) ∙ ap not (sym t)
-    | inr f ↦ eq-eqb _ 0 (need_count-unneeded T k f) ∙ ap not (sym f)
-  ]
+  zero_test T k = grind (arith, common_steps, eq-eqb, ne_eqb, need_count-unneeded, unneeded-count)
 
   -- The counts of a set are those of a part of it and of what remains.
   below_parts : (S F : ℕ → Bool) (k n : ℕ) → ((j : ℕ) → F j ≡ true → S j ≡ true)
@@ -103,14 +84,7 @@ module _ (h : Hierarchy) where
   below_parts S F k zero has =
       omega (arith, below_none S k, below_none F k, below_none (remaining S F) k)
   below_parts S F k (suc n) has =
-      omega (
-        arith,
-        below_more S k n,
-        below_more F k n,
-        below_more (remaining S F) k n,
-        below_parts S F k n has,
-        share (S n) (F n) (times_named h n k) (has n),
-      )
+      grind (arith, common_steps, below_more, share, below_parts S F k n has)
 
   module _ (S F : ℕ → Bool) (has : (j : ℕ) → F j ≡ true → S j ≡ true) (k : ℕ) where
     pub need_count-parts : need_count h S k ≡ need_count h F k + need_count h (remaining S F) k
@@ -127,10 +101,7 @@ module _ (h : Hierarchy) where
     -- as a test.
     pub remaining_test : eqb (need_count h F k) (need_count h S k)
         ≡ not (is_needed h (remaining S F) k)
-    remaining_test = elim (cases_Bool (is_needed h (remaining S F) k)) [
-      | inl t ↦ ne_eqb _ _ (λ e. both_ways _ (remaining-unneeded e) t) ∙ ap not (sym t)
-      | inr f ↦ eq-eqb _ _ (remaining-same f) ∙ ap not (sym f)
-    ]
+    remaining_test = grind (arith, common_steps, eq-eqb, ne_eqb, remaining-same, remaining-unneeded)
 
   -- No record names any.
   below_empty : (k n : ℕ) → named_below h no_records k n ≡ 0
@@ -158,11 +129,7 @@ module _ (h : Hierarchy) where
           let none = cond-false (T n) (times_named h n k) 0 (ap T is ∙ absent) in
           let same = ap (λ i. times_named h i k) is in
           omega (arith, below_more (with T j) k n, below_more T k n, rest, one, none, same)
-      | inr other ↦
-          let rest = past_it n (omega arith) in
-          let same = ap (λ b. cond b (times_named h n k) 0)
-          (cond-false (eqb n j) true (T n) (ne_eqb n j other)) in
-          omega (arith, below_more (with T j) k n, below_more T k n, rest, same)
+      | inr other ↦ grind (arith, common_steps, below_more, cond-false, ne_eqb, past_it n)
     ]
 
     pub need_count-with : j < record_count h

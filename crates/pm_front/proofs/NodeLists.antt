@@ -1,10 +1,11 @@
 -- Lists by node, the corners of a record, and the corner lists of the full front.
 use Rattle.std.proofs.Common.{◌≡◌, ◌↔◌, ℕ, ◌+◌, ◌*◌, ◌<◌, ◌≤◌, leb, ltb, Bool, true, List, []}
-use Rattle.std.proofs.Common.{length, inl, inr, sym, ap, ◌∙◌, subst, arith}
+use Rattle.std.proofs.lemmas.Grind.{common_steps}
+use Rattle.std.proofs.Common.{length, sym, ◌∙◌, subst, arith}
 use Rattle.std.proofs.lemmas.List.{ext_get_or, get_or_past}
 use Rattle.std.proofs.lemmas.List.FromFn.{length-map-range_with_len, get_or-map-range_with_len}
 use Rattle.std.proofs.lemmas.Bool.{and_parts, and_from, eqb-true, eq-eqb, le-leb, lt-ltb, leb-true}
-use Rattle.std.proofs.lemmas.Bool.{ltb-true, cases_lt, false≢true}
+use Rattle.std.proofs.lemmas.Bool.{ltb-true, false≢true}
 use Rattle.pm_links.specs.Lists.{has, IsOnce}
 use Rattle.pm_forest.specs.Forest.{Hierarchy, node_count}
 use Rattle.pm_forest.specs.Fronts.{ancestor_of, every}
@@ -44,24 +45,11 @@ pub each_by_node : (h : Hierarchy) (f : ℕ → List ℕ) (P : ℕ → ℕ → T
     ((v e : ℕ) → P v e → v < node_count h) → (v e : ℕ) → (has (listed (by_node h f) v) e ≡ true)
     ↔ P v e
 each_by_node h f P each low v e =
-    elim (cases_lt v (node_count h)) [
-      | inl l ↦ (
-        λ t. (each v e l).0 (ap (λ k. has k e) (sym (listed-by_node h f v l)) ∙ t),
-        λ p. ap (λ k. has k e) (listed-by_node h f v l) ∙ (each v e l).1 p,
-      )
-      | inr past ↦ (
-        λ t. absurd (false≢true (ap (λ k. has k e) (sym (listed-past h f v past)) ∙ t)),
-        λ p. absurd (let l = low v e p in omega arith),
-      )
-    ]
+    grind (arith, common_steps, false≢true, listed-by_node, listed-past)
 
 pub once_by_node : (h : Hierarchy) (f : ℕ → List ℕ) → ((v : ℕ) → v < node_count h → IsOnce (f v))
     → (v : ℕ) → IsOnce (listed (by_node h f) v)
-once_by_node h f once v =
-    elim (cases_lt v (node_count h)) [
-      | inl l ↦ subst IsOnce (sym (listed-by_node h f v l)) (once v l)
-      | inr past ↦ subst IsOnce (sym (listed-past h f v past)) tt
-    ]
+once_by_node h f once v = grind (arith, common_steps, listed-by_node, listed-past)
 
 -- ---- the corners of a record
 

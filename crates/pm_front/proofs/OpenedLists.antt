@@ -1,5 +1,6 @@
 -- The corner lists while a hierarchy is being opened, from the full front down to the base front.
 use Rattle.std.proofs.Common.{◌≡◌, ℕ, zero, suc, ◌+◌, ◌-◌, ◌<◌, ◌≤◌, Bool, List, inl, inr, refl}
+use Rattle.std.proofs.lemmas.Grind.{common_steps}
 use Rattle.std.proofs.Common.{sym, ap, ◌∙◌, subst, arith}
 use Rattle.std.proofs.Math.Path.{fun_ext}
 use Rattle.std.proofs.lemmas.Bool.{lt-ltb, le-ltb}
@@ -32,10 +33,7 @@ opened-full h = let none : record_count h - record_count h ≡ 0 =
 pub opened-next : (h : Hierarchy) (n : ℕ) → n < record_count h
     → opened_lists h n ≡ collapsed_lists h n (opened_lists h (suc n))
 unfolding opened_after
-opened-next h n l =
-    let done : record_count h - n ≡ suc (record_count h - suc n) = omega arith in
-    let last : record_count h - suc (record_count h - suc n) ≡ n = omega arith in
-    ap (opened_after h) done ∙ ap (λ k. collapsed_lists h k (opened_lists h (suc n))) last
+opened-next h n l = grind (arith, common_steps)
 
 -- the collapses that are still to come lead to the base front
 opened-lowered : (h : Hierarchy) (n : ℕ) → n ≤ record_count h → lowered_lists h n (opened_lists h n)
@@ -76,6 +74,4 @@ opened-corners h shape n l = opened-corners_from h shape (record_count h - n) n 
 -- and in the end those of the base front
 pub base-right : (h : Hierarchy) → HasShape h → AreCorners h no_records (base_lists h)
 base-right h shape =
-    let none : below 0 ≡ no_records = fun_ext (λ j. le-ltb j 0 (omega arith)) in
-    subst (λ (T : ℕ → Bool). AreCorners h T (base_lists h)) none
-    (subst (AreCorners h (below 0)) (opened-base h) (opened-corners h shape 0 (omega arith)))
+    grind (arith, common_steps, fun_ext, le-ltb, opened-base h, opened-corners h shape 0)

@@ -1,5 +1,6 @@
 -- Counts of names that go up, name after name.
 use Rattle.std.proofs.Common.{◌≡◌, ℕ, zero, suc, ◌+◌, ◌<◌, ◌≤◌, ◌^◌, cond, List, [], ◌∷◌, length}
+use Rattle.std.proofs.lemmas.Grind.{common_steps}
 use Rattle.std.proofs.Common.{take, get_or, Option, None, Some, IfSome, refl, ap, ◌∙◌, arith}
 use Rattle.std.specs.List.{All}
 use Rattle.std.proofs.lemmas.Bool.{cond-true, eq-eqb}
@@ -14,23 +15,13 @@ pub times_taken : (k : ℕ) (names : List (Option ℕ)) (i : ℕ) → i < length
 times_taken k [] i l = absurd (omega arith)
 times_taken k (name ∷ names) zero l = omega (arith, passing_more (is_at k) name names)
 times_taken k (name ∷ names) (suc i) l =
-    omega (
-      arith,
-      passing_more (is_at k) name names,
-      passing_more (is_at k) name (take i names),
-      times_taken k names i (omega arith),
-    )
+    grind (arith, common_steps, passing_more, times_taken k names i)
 
 module _ (names : List (Option ℕ)) (i : ℕ) (l : i < length names) where
   pub one_more : (k : ℕ)
       → times_in k (take (i + 1) names)
       ≡ times_in k (take i names) + times_in k (get_or names i None ∷ [])
-  one_more k =
-      omega (
-        arith,
-        length-filter_more (is_at k) names i None l,
-        passing_more (is_at k) (get_or names i None) [],
-      )
+  one_more k = grind (arith, common_steps, get_or, length-filter_more, passing_more)
 
 -- There is room for the next name, and it was counted.
 if_some : (P Q : ℕ → Type 0) (o : Option ℕ) → ((k : ℕ) → o ≡ Some k → P k → Q k) → IfSome o P

@@ -1,5 +1,7 @@
 -- Fronts that keep the records of which their next moves are made.
 use Rattle.std.proofs.Common.{◌≡◌, ℕ, ◌<◌, Bool, true, false, List, [], length, get_or, Option, sym}
+use Rattle.std.proofs.Common.{arith}
+use Rattle.std.proofs.lemmas.Grind.{common_steps}
 use Rattle.std.proofs.Common.{subst}
 use Rattle.std.proofs.Math.ListN.{set}
 use Rattle.pm_forest.specs.Forest.{Hierarchy, record_count}
@@ -28,19 +30,11 @@ module _ (h : Hierarchy) (flags : List Bool) (k : ℕ) (l : k < length flags) (c
     (names : List (List (Option ℕ))) (rows : AreNames h names) where
   pub split_ready : IsSoundFront h (set flags k true) → AreCandidates h (with (set_of flags) k) c
       → IsReadyFront h (set flags k true) c names
-  split_ready sound are = record {
-    sound = sound;
-    names = rows;
-    candidates = subst (λ (T : ℕ → Bool). AreCandidates h T c) (sym (set_of-set flags k l)) are;
-  }
+  split_ready sound are = grind (arith, common_steps, set_of-set flags k l)
 
   pub collapse_ready : IsSoundFront h (set flags k false)
       → AreCandidates h (without (set_of flags) k) c → IsReadyFront h (set flags k false) c names
-  collapse_ready sound are = record {
-    sound = sound;
-    names = rows;
-    candidates = subst (λ (T : ℕ → Bool). AreCandidates h T c) (sym (set_of-clear flags k l)) are;
-  }
+  collapse_ready sound are = grind (arith, common_steps, set_of-clear flags k l)
 
 -- The row of a record has its names.
 pub row_named : (h g : Hierarchy) (names : List (List (Option ℕ))) → AreNames h names → g ≡ h

@@ -1,13 +1,14 @@
 -- After a legal split the corner lists have just the corners of kept faces at each active node,
 -- each once.
-use Rattle.std.proofs.Common.{◌≡◌, ◌≢◌, ℕ, ◌+◌, ◌-◌, ◌*◌, ◌<◌, ◌≤◌, Bool, true, false, ◌||◌, eqb}
+use Rattle.std.proofs.Common.{◌≡◌, ◌≢◌, ℕ, ◌+◌, ◌-◌, ◌*◌, ◌<◌, ◌≤◌, Bool, true, false, eqb}
+use Rattle.std.proofs.lemmas.Grind.{common_steps}
 use Rattle.std.proofs.Common.{List, [], filter, reverse, inl, inr, sym, ap, ◌∙◌, subst, arith}
 use Rattle.std.proofs.lemmas.Bool.{or_cases, or_left, or_right, eqb-true, eq-eqb, ne_eqb}
 use Rattle.std.proofs.lemmas.Bool.{cases_Bool, cases_eq, false≢true, both_ways, false_from_ne_true}
 use Rattle.std.proofs.lemmas.Bool.{cond-true, cond-false}
 use Rattle.pm_links.specs.Lists.{has, IsOnce}
-use Rattle.pm_forest.specs.Forest.{Hierarchy, node_count, record_count, leaf_count, s_of, t_of}
-use Rattle.pm_forest.specs.Forest.{u_of, holds, Holds, Makes}
+use Rattle.pm_forest.specs.Forest.{Hierarchy, node_count, record_count, leaf_count, s_of}
+use Rattle.pm_forest.specs.Forest.{holds, Holds, Makes}
 use Rattle.pm_forest.specs.Fronts.{IsFront, IsActive, ancestor_of, child_of, with}
 use Rattle.pm_forest.specs.Faces.{first_face, face_count, from_leaf, IsForest}
 use Rattle.pm_forest.specs.Kept.{is_shown}
@@ -34,22 +35,10 @@ module _ (h : Hierarchy) (k : ℕ) (ls : List (List ℕ)) where
       → dealt_list h k ls v
       ≡ reverse (filter (λ e. eqb (child_of h k (from_leaf h e)) v) (listed ls (s_of h k)))
   dealt-child v differs made =
-      cond-false _ _ _ (ne_eqb v (s_of h k) differs)
-      ∙ cond-true _ _ _
-      (elim made [
-        | inl is ↦
-            or_left (eqb v (t_of h k)) (eqb v (u_of h k)) (eq-eqb v (t_of h k) is)
-        | inr is ↦
-            or_right (eqb v (t_of h k)) (eqb v (u_of h k)) (eq-eqb v (u_of h k) is)
-      ])
+      grind (arith, common_steps, cond-false, cond-true, eq-eqb, ne_eqb, or_left, or_right)
 
   pub dealt-other : (v : ℕ) → v ≢ s_of h k → (Makes h k v → ⊥) → dealt_list h k ls v ≡ listed ls v
-  dealt-other v differs made =
-      cond-false _ _ _ (ne_eqb v (s_of h k) differs)
-      ∙ cond-false _ _ _
-      (false_from_ne_true (eqb v (t_of h k) || eqb v (u_of h k))
-      (λ t. made (elim (or_cases (eqb v (t_of h k)) (eqb v (u_of h k)) t)
-      [ inl is ↦ inl (eqb-true v (t_of h k) is) | inr is ↦ inr (eqb-true v (u_of h k) is) ])))
+  dealt-other v differs made = grind (arith, common_steps, cond-false, eqb-true, ne_eqb, or_cases)
 
 module _ (h : Hierarchy) (tree : IsForest h) (T : ℕ → Bool) (front : IsFront h T) (k : ℕ)
     (k_lt : k < record_count h) (ls : List (List ℕ)) (corners : AreCorners h T ls)
@@ -69,24 +58,13 @@ module _ (h : Hierarchy) (tree : IsForest h) (T : ℕ → Bool) (front : IsFront
 
   -- no leaf has a child of the record as its ancestor yet
   pub unmade : (x : ℕ) → x < leaf_count h → Makes h k (ancestor_of h T x) → ⊥
-  unmade x leaf made =
-      elim (active-ancestor h tree.forest T x leaf).0 [
-        | inl root ↦ elim made [ inl a ↦ absurd (omega arith) | inr a ↦ absurd (omega arith) ]
-        | inr (j, j_lt, in_T, makes) ↦
-            both_ways (T k) unsplit
-            (subst (λ n. T n ≡ true) (makes_once h j k (ancestor_of h T x) makes made) in_T)
-      ]
+  unmade x leaf made = grind (arith, common_steps, active-ancestor, makes_once)
 
   at_s : (x : ℕ) → x < leaf_count h → Holds h (s_of h k) x → ancestor_of h T x ≡ s_of h k
   at_s x leaf held = ancestor_of-unique h tree.forest T front (s_of h k) x s_active held
 
   child-made : (x : ℕ) → Makes h k (child_of h k x)
-  child-made x =
-      elim (cases_Bool (holds h (t_of h k) x)) [
-        | inl a ↦ inl (cond-true _ _ _ a)
-        | inr a ↦
-            inr (cond-false _ _ _ a)
-      ]
+  child-made x = grind (arith, common_steps, cond-false, cond-true)
 
   child-differs : (v : ℕ) → Makes h k v → v ≢ s_of h k
   child-differs v made is = let o =
@@ -199,10 +177,7 @@ module _ (h : Hierarchy) (tree : IsForest h) (T : ℕ → Bool) (front : IsFront
   split-back v e (l, shown, is) =
       elim (shown_with-parts h T k e shown) [
         | inl own ↦
-            let p = record-corner_of h k e l own in
-            let c = counted in
-            prepend_passing-new (is_under h (with T k) v) first count (dealt_list h k ls v) e p.0
-            (omega (arith, p.1)) (eq-eqb (ancestor_of h (with T k) (from_leaf h e)) v is)
+            grind (arith, common_steps, counted, eq-eqb, prepend_passing-new, record-corner_of)
         | inr old ↦ prepend_passing-old (is_under h (with T k) v) first count (dealt_list h k ls v)
             e (dealt-back v e l old is)
       ]

@@ -8,7 +8,7 @@ use Rattle.std.proofs.lemmas.Bool.{cases_Bool, cases_eq, and_from, and_left, not
 use Rattle.std.proofs.lemmas.Bool.{both_ways, false_from_ne_true, eq-eqb, ne_eqb, cond-true}
 use Rattle.std.proofs.lemmas.Bool.{cond-false}
 use Rattle.std.proofs.lemmas.List.{length-replicate, get_or-replicate, get_or-set_other}
-use Rattle.std.proofs.lemmas.Grind.{get_or-set_at}
+use Rattle.std.proofs.lemmas.Grind.{get_or-set_at, common_steps}
 use Rattle.pm_forest.specs.Forest.{Hierarchy, record_count}
 use Rattle.pm_forest.specs.Fronts.{with, without, no_records}
 use Rattle.pm_forest.specs.Rules.{HasShape}
@@ -42,12 +42,7 @@ need_less false x false f = absurd (both_ways false refl (f refl))
 
 -- Sets with a record taken out, and put back
 pub with-without : (T : ℕ → Bool) (k : ℕ) → T k ≡ true → with (without T k) k ≡ T
-with-without T k split = fun_ext (λ j.
-    elim (cases_eq j k) [
-      | inl is ↦ cond-true (eqb j k) true (without T k j) (eq-eqb j k is) ∙ sym (ap T is ∙ split)
-      | inr other ↦ cond-false (eqb j k) true (without T k j) (ne_eqb j k other)
-          ∙ cond-false (eqb j k) false (T j) (ne_eqb j k other)
-    ])
+with-without T k split = grind (arith, common_steps, cond-false, cond-true, eq-eqb, fun_ext, ne_eqb)
 
 module _ (h : Hierarchy) (shape : HasShape h) where
   module _ (T : ℕ → Bool) (closed : IsClosed h T) (k : ℕ) (l : k < record_count h) where
@@ -126,10 +121,7 @@ module _ (h : Hierarchy) (shape : HasShape h) where
                 let here = eqb (need_count h (without T k) j) 0 in
                 let there = eqb (times_in j names) 0 in
                 elim (cases_eq j k) [
-                  | inl is ↦
-                      get_or-set_at a k j false false is (omega (arith, len))
-                      ∙ sym (and_left (without T k j) (not (is_needed h (without T k) j))
-                      (cond-true (eqb j k) false (T j) (eq-eqb j k is)))
+                  | inl is ↦ grind (arith, common_steps, and_left, cond-true, eq-eqb, get_or-set_at)
                   | inr other ↦
                       let was : is_unneeded h T j ≡ (T j && (here && there)) =
                       ap (λ n. T j && n) (sym (zero_test h T j))
@@ -154,7 +146,4 @@ module _ (h : Hierarchy) (shape : HasShape h) where
 -- The base front: no record is unneeded.
 pub unneeded-none : (h : Hierarchy)
     → AreAnswers h (is_unneeded h no_records) (replicate (record_count h) false)
-unneeded-none h = record {
-  len = length-replicate (record_count h) false;
-  each = λ k k_lt. get_or-replicate (record_count h) k false false k_lt;
-}
+unneeded-none h = grind (arith, common_steps, get_or-replicate, length-replicate)

@@ -8,9 +8,9 @@ use Rattle.std.proofs.lemmas.Bool.{not_from_true, not_from_false, both_ways, fal
 use Rattle.std.proofs.lemmas.Bool.{eq-eqb, ne_eqb, eqb-true, lt-ltb, ltb-true, cond-true}
 use Rattle.std.proofs.lemmas.Bool.{cond-false}
 use Rattle.std.proofs.lemmas.List.{get_or-set_other}
-use Rattle.std.proofs.lemmas.Grind.{get_or-set_at}
+use Rattle.std.proofs.lemmas.Grind.{get_or-set_at, common_steps}
 use Rattle.pm_forest.specs.Forest.{Hierarchy, record_count, s_of, t_of, u_of, maker_of, splitter_of}
-use Rattle.pm_forest.specs.Fronts.{with, without, no_records, made_in, split_in, is_active}
+use Rattle.pm_forest.specs.Fronts.{with, without, no_records, made_in, is_active}
 use Rattle.pm_forest.specs.Moves.{may_try}
 use Rattle.pm_forest.specs.Rules.{HasShape}
 use Rattle.pm_forest.proofs.Nodes.{maker_of-makes, maker_of-from, splitter_of-splits, splitter_of-s}
@@ -84,39 +84,32 @@ module _ (h : Hierarchy) (shape : HasShape h) where
 
   makes_it : (k v : ℕ) → is_at k (maker_of h v) ≡ (eqb v (t_of h k) || eqb v (u_of h k))
   makes_it k v =
-      let t = eqb v (t_of h k) in
-      let u = eqb v (u_of h k) in
-      same_bools (is_at k (maker_of h v)) (t || u)
-      (λ e. elim (maker_of-makes h k v (is_at-parts k (maker_of h v) e)) [
-        | inl a ↦ or_left t u (eq-eqb v (t_of h k) a)
-        | inr a ↦
-            or_right t u (eq-eqb v (u_of h k) a)
-      ])
-      (λ e. is_at-from k (maker_of h v)
-      (maker_of-from h k v
-      (elim (or_cases t u e) [
-        | inl a ↦ inl (eqb-true v (t_of h k) a)
-        | inr a ↦
-            inr (eqb-true v (u_of h k) a)
-      ])))
+      grind (
+        arith,
+        common_steps,
+        eq-eqb,
+        eqb-true,
+        is_at-from,
+        is_at-parts,
+        maker_of-from,
+        maker_of-makes,
+        or_cases,
+        or_left,
+        or_right,
+        same_bools,
+      )
 
   -- A record may be tried where what made its node is split and it isn't.
   tries : (T : ℕ → Bool) (j : ℕ) → j < record_count h
       → may_try h T j ≡ (made_in T (maker_of h (s_of h j)) && not (T j))
   unfolding is_active
-  tries T j l =
-      let made = made_in T (maker_of h (s_of h j)) in
-      ap (λ r. (made && not (split_in T r)) && not (T j))
-      (splitter_of-s h (shape_of_nodes h shape) j l) ∙ try_once made (T j)
+  tries T j l = grind (arith, common_steps, shape_of_nodes, splitter_of-s, try_once)
 
   module _ (T : ℕ → Bool) (closed : IsClosed h T) (k : ℕ) (l : k < record_count h) where
     children_split : (j : ℕ) → j < record_count h →
         is_at k (maker_of h (s_of h j))
         ≡ (is_at j (splitter_of h (t_of h k)) || is_at j (splitter_of h (u_of h k)))
-    children_split j j_lt =
-        makes_it k (s_of h j)
-        ∙ ap (λ t. t || eqb (s_of h j) (u_of h k)) (sym (splits_at (t_of h k) j j_lt))
-        ∙ ap (λ u. is_at j (splitter_of h (t_of h k)) || u) (sym (splits_at (u_of h k) j j_lt))
+    children_split j j_lt = grind (arith, common_steps, makes_it, splits_at)
 
     module _ (unsplit : T k ≡ false) where
       -- Once record k is split
@@ -135,11 +128,16 @@ module _ (h : Hierarchy) (shape : HasShape h) where
                 let u = is_at j (splitter_of h (u_of h k)) in
                 elim (cases_eq j k) [
                   | inl is ↦
-                      get_or-set_at b k j false false is (omega (arith, len))
-                      ∙ sym (tries (with T k) j j_lt
-                      ∙ and_right (made_in (with T k) m) (not (with T k j))
-                      (not_from_true (with T k j)
-                      (cond-true (eqb j k) true (T j) (eq-eqb j k is))))
+                      grind (
+                        arith,
+                        common_steps,
+                        and_right,
+                        cond-true,
+                        eq-eqb,
+                        get_or-set_at,
+                        not_from_true,
+                        tries,
+                      )
                   | inr other ↦
                       get_or-set_other b k j false false other
                       ∙ second.each j (omega (arith, first.len, are.len))
@@ -185,9 +183,15 @@ module _ (h : Hierarchy) (shape : HasShape h) where
                   | inl is ↦
                       let n = maker_of h (s_of h k) in
                       let there : made_in (without T k) n ≡ true =
-                      made_without T k n
-                      ∙ and_from (not (is_at k n)) (made_in T n)
-                      (not_from_false (is_at k n) own_maker) (made_split n refl) in
+                      grind (
+                        arith,
+                        common_steps,
+                        and_from,
+                        made_split,
+                        made_without,
+                        not_from_false,
+                        own_maker,
+                      ) in
                       get_or-set_at b k j true false is (omega (arith, len))
                       ∙ sym (ap (may_try h (without T k)) is ∙ tries (without T k) k l
                       ∙ and_from (made_in (without T k) n) (not (without T k k)) there
@@ -234,12 +238,4 @@ module _ (h : Hierarchy) (shape : HasShape h) where
 
   pub roots_all : (root : ℕ) → root ≡ length h.roots → (a : List Bool)
       → AreAnswers h (λ k. ltb (s_of h k) root) a → AreAnswers h (may_try h no_records) a
-  roots_all root is a are = record {
-    len = are.len;
-    each = λ k k_lt.
-        are.each k k_lt
-        ∙ ap (ltb (s_of h k)) is
-        ∙ sym (made_none (ltb (s_of h k) (length h.roots)) _)
-        ∙ sym (and-true (made_in no_records (maker_of h (s_of h k))))
-        ∙ sym (tries no_records k k_lt);
-  }
+  roots_all root is a are = grind (arith, common_steps, and-true, made_none, tries no_records)
