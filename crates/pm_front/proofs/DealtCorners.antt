@@ -2,12 +2,13 @@
 -- deal ends where dealing all of them does.
 use Rattle.std.proofs.Common.{◌≡◌, ℕ, ◌+◌, ◌<◌, Some, true, false, not, eqb, List, [], ◌∷◌}
 use Rattle.std.proofs.lemmas.Grind.{common_steps}
-use Rattle.std.proofs.Common.{◌++◌, length, take, drop, get_or, ◌⊎◌, refl, sym}
+use Rattle.std.proofs.Common.{◌++◌, length, reverse, take, drop, get_or, ◌⊎◌, inl, inr, refl, sym}
 use Rattle.std.proofs.Common.{ap, ◌∙◌, arith, length-append}
 use Rattle.std.specs.Prelude.{cond}
+use Rattle.std.specs.List.{filter}
 use Rattle.std.proofs.Math.Seq.{take-append_seam, drop-append_seam, drop-cons}
 use Rattle.std.proofs.lemmas.List.{append-nil, take-take, drop-take, get_or-take, length-take}
-use Rattle.std.proofs.lemmas.Bool.{eq-eqb, ne_eqb, not_from_false}
+use Rattle.std.proofs.lemmas.Bool.{eq-eqb, ne_eqb, cases_eq, not_from_false}
 use Rattle.std.proofs.lemmas.Bool.{not_from_true, cond-true, cond-false}
 use Rattle.pm_links.specs.Lists.{Lists, list_of, first_of, with_first, without_item, AreFirst}
 use Rattle.pm_links.specs.Lists.{IsSound}
@@ -73,7 +74,35 @@ dealt-is : (h : Hierarchy) → HasShape h → (k : ℕ) → k < record_count h �
     → list_of v (t_of h k) ≡ [] → list_of v (u_of h k) ≡ [] → (g : ℕ) →
     dealt (goes_to h k (t_of h k)) v (s_of h k) (t_of h k) (u_of h k) g ≡ dealt_list h k v.lists g
 dealt-is h shape k l v t_empty u_empty g =
-    grind (arith, common_steps, append-nil, children-differ, eq-eqb, filter-same, ne_eqb, to_u)
+    let s = s_of h k in
+    let t = t_of h k in
+    let u = u_of h k in
+    let d = children-differ h shape k l in
+    let from = list_of v s in
+    let goes_t = goes_to h k t in
+    elim (cases_eq g s) [
+      | inl is ↦ rw (eq-eqb g s is) refl
+      | inr not_s ↦
+          elim (cases_eq g t) [
+            | inl is ↦
+                rw (ne_eqb g s not_s, eq-eqb g t is)
+                (ap (λ k. reverse (filter goes_t from) ++ k) t_empty
+                ∙ append-nil (reverse (filter goes_t from))
+                ∙ ap (λ w. reverse (filter (goes_to h k w) from)) (sym is))
+            | inr not_t ↦
+                elim (cases_eq g u) [
+                  | inl is ↦
+                      rw (ne_eqb g s not_s, ne_eqb g t not_t, eq-eqb g u is)
+                      (ap (λ k. reverse (filter (λ e. not (goes_t e)) from) ++ k) u_empty
+                      ∙ append-nil (reverse (filter (λ e. not (goes_t e)) from))
+                      ∙ ap reverse
+                      (filter-same (λ e. not (goes_t e)) (goes_to h k u) from (to_u h k)
+                      ∙ ap (λ w. filter (goes_to h k w) from) (sym is)))
+                  | inr not_u ↦
+                      rw (ne_eqb g s not_s, ne_eqb g t not_t, ne_eqb g u not_u) refl
+                ]
+          ]
+    ]
 
 -- none is left
 pub dealt-all : (h : Hierarchy) → HasShape h → (k : ℕ) → k < record_count h → (v w : Lists)
