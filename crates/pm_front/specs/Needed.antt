@@ -61,6 +61,11 @@ pub record AreNeedCounts (h : Hierarchy) (T : ℕ → Bool) (counts : List ℕ) 
   pub len : length counts ≡ record_count h
   pub each : (k : ℕ) → k < record_count h → slice_index_or counts k 0 ≡ need_count h T k
 
+-- A set of records, by a flag for each, and the counts of what they need.
+pub record CountedRecords : Type 0 where
+  pub records : List Bool
+  pub needs : List ℕ
+
 -- The count of each record goes up by how often it is among these names.
 pub record AreRaised (old new : List ℕ) (names : List (Option ℕ)) : Type 0 where
   pub len : length new ≡ length old

@@ -15,6 +15,7 @@ ghost use Rattle.pm_front.specs.Candidates.{AreCleared, AreAdded, AreCandidates}
 
 use crate::OutOfMemory;
 use crate::need_counts::NeedCounts;
+use crate::refinement::Refinement;
 use pm_base::NodeId;
 use pm_forest::Hierarchy;
 use pm_sets::NumberSet;
@@ -154,17 +155,18 @@ impl Candidates {
         add_roots(&mut self.waiting, h);
     }
 
-    /// Those after record `k`, which needs what these names tell, was split. The flags are those
-    /// before. O(1).
-    pub(crate) fn split(&mut self, h: &Hierarchy, names: &[Option<u32>], _set: &[bool], k: u32)
-        requires record { k < record_count h.now }
-        requires names { AreNamesOf h.now k names.now }
-        requires unsplit { set_of _set.now k ≡ false }
-        requires closed { IsClosed h.now (set_of _set.now) }
-        requires candidates { AreCandidates h.now (set_of _set.now) self.old }
-        ensures { AreCandidates h.now (with (set_of _set.now) k) self.new }
+    /// Those after record `k`, which needs what these names tell, is split in this refinement.
+    /// O(1).
+    pub(crate) fn split(&mut self, before: &Refinement, names: &[Option<u32>], k: u32)
+        requires record { k < record_count before.now.h }
+        requires names { AreNamesOf before.now.h k names.now }
+        requires unsplit { set_of before.now.flags k ≡ false }
+        requires closed { IsClosed before.now.h (set_of before.now.flags) }
+        requires candidates { AreCandidates before.now.h (set_of before.now.flags) self.old }
+        ensures { AreCandidates before.now.h (with (set_of before.now.flags) k) self.new }
     {
-        h.invariant();
+        before.invariant();
+        let h = before.hierarchy();
         need_all(&mut self.needs, &mut self.unneeded, names);
         self.unneeded.insert(k);
         let (t, u) = h.children(k);
@@ -173,17 +175,18 @@ impl Candidates {
         self.waiting.remove(k);
     }
 
-    /// Those after record `k`, which needs what these names tell, was collapsed. The flags are
-    /// those before. O(1).
-    pub(crate) fn collapse(&mut self, h: &Hierarchy, names: &[Option<u32>], _set: &[bool], k: u32)
-        requires record { k < record_count h.now }
-        requires names { AreNamesOf h.now k names.now }
-        requires is_split { set_of _set.now k ≡ true }
-        requires closed { IsClosed h.now (set_of _set.now) }
-        requires candidates { AreCandidates h.now (set_of _set.now) self.old }
-        ensures { AreCandidates h.now (without (set_of _set.now) k) self.new }
+    /// Those after record `k`, which needs what these names tell, is collapsed in this refinement.
+    /// O(1).
+    pub(crate) fn collapse(&mut self, before: &Refinement, names: &[Option<u32>], k: u32)
+        requires record { k < record_count before.now.h }
+        requires names { AreNamesOf before.now.h k names.now }
+        requires is_split { set_of before.now.flags k ≡ true }
+        requires closed { IsClosed before.now.h (set_of before.now.flags) }
+        requires candidates { AreCandidates before.now.h (set_of before.now.flags) self.old }
+        ensures { AreCandidates before.now.h (without (set_of before.now.flags) k) self.new }
     {
-        h.invariant();
+        before.invariant();
+        let h = before.hierarchy();
         free_all(&mut self.needs, &mut self.unneeded, names);
         self.unneeded.remove(k);
         let (t, u) = h.children(k);

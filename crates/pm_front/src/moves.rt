@@ -49,12 +49,7 @@ impl Front {
             self.old.corners }
     {
         let names = self.names.of(k);
-        self.candidates.split(
-            self.refinement.hierarchy(),
-            &names,
-            self.refinement.flags(),
-            k,
-        );
+        self.candidates.split(&self.refinement, &names, k);
         self.refinement.split(k);
     }
 
@@ -97,12 +92,7 @@ impl Front {
         ensures corners { self.new.corners ≡ collapsed_lists self.old.h k self.old.corners }
     {
         let names = self.names.of(k);
-        self.candidates.collapse(
-            self.refinement.hierarchy(),
-            &names,
-            self.refinement.flags(),
-            k,
-        );
+        self.candidates.collapse(&self.refinement, &names, k);
         self.refinement.collapse(k);
     }
 }

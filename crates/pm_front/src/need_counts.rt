@@ -1,16 +1,11 @@
 //! For each record how often the records of a set name it among what they need, so that whether one
 //! of them needs it is answered by one look.
-ghost use Rattle.std.specs.Prelude.{ℕ, ◌≡◌, ◌<◌, ◌≤◌, ◌+◌, ◌^◌, false, [], ◌∷◌, length, replicate};
+ghost use Rattle.std.specs.Prelude.{ℕ, ◌≡◌, ◌<◌, ◌≤◌, ◌+◌, ◌^◌, [], ◌∷◌, length, replicate};
 ghost use Rattle.std.specs.Prelude.{slice_index_or, IfOk, IfSome};
 ghost use Rattle.std.specs.List.{All};
-ghost use Rattle.pm_forest.specs.Forest.{record_count};
-ghost use Rattle.pm_forest.specs.Fronts.{with};
-ghost use Rattle.pm_base.specs.Counts.{set_of};
-ghost use Rattle.pm_front.specs.Needed.{times_in, AreNamesOf, AreRaised, AreNeedCounts};
+ghost use Rattle.pm_front.specs.Needed.{times_in, AreRaised};
 
 use crate::OutOfMemory;
-use pm_forest::Hierarchy;
-use pm_sets::NumberSet;
 use std::alloc::Global;
 use std::marker::Model;
 
@@ -18,7 +13,7 @@ use std::marker::Model;
 /// record's node, and the revealers of the faces of its recorded neighbours, once for each.
 /// Contracts see the counts.
 #[derive(Drop)]
-pub struct NeedCounts {
+pub(crate) struct NeedCounts {
     counts: Vec<u32>,
 }
 
@@ -30,8 +25,8 @@ impl Model for NeedCounts {
     ghost view = { λ n. n.counts.items };
 }
 
-// Counts each of these names once more.
-fn raise_all(needs: &mut NeedCounts, names: &[Option<u32>])
+/// Counts each of these names once more.
+pub(crate) fn raise_all(needs: &mut NeedCounts, names: &[Option<u32>])
     requires there { All (λ name. IfSome name (λ k. k < length needs.old)) names.now }
     requires room { (k : ℕ) → k < length needs.old
         → slice_index_or needs.old k 0 + times_in k names.now < 2 ^ 32 }
@@ -42,8 +37,8 @@ fn raise_all(needs: &mut NeedCounts, names: &[Option<u32>])
     }
 }
 
-// Counts each of these names once less.
-fn lower_all(needs: &mut NeedCounts, names: &[Option<u32>])
+/// Counts each of these names once less.
+pub(crate) fn lower_all(needs: &mut NeedCounts, names: &[Option<u32>])
     requires there { All (λ name. IfSome name (λ k. k < length needs.old)) names.now }
     requires counted { (k : ℕ) → k < length needs.old
         → times_in k names.now ≤ slice_index_or needs.old k 0 }
@@ -56,7 +51,7 @@ fn lower_all(needs: &mut NeedCounts, names: &[Option<u32>])
 
 impl NeedCounts {
     /// The counts of the empty set, for so many records. The only call that takes memory.
-    pub fn new(alloc: Global, records: u32) -> Result<NeedCounts, OutOfMemory>
+    pub(crate) fn new(alloc: Global, records: u32) -> Result<NeedCounts, OutOfMemory>
         ensures { IfOk result (λ c. c ≡ replicate records 0) }
     {
         let counts = vec![in alloc; 0; records as usize]?;
@@ -64,7 +59,7 @@ impl NeedCounts {
     }
 
     /// How often record `k` is named. O(1).
-    pub fn count(&self, k: u32) -> u32
+    pub(crate) fn count(&self, k: u32) -> u32
         requires { k < length self.now }
         ensures { result ≡ slice_index_or self.now k 0 }
     {
@@ -91,28 +86,5 @@ impl NeedCounts {
         if let Some(k) = name {
             self.counts[k as usize] -= 1;
         }
-    }
-
-    /// Counts the names of what record `k` needs, which comes to the set. O(1).
-    pub fn add(&mut self, h: &Hierarchy, names: &[Option<u32>], _set: &NumberSet, k: u32)
-        requires record { k < record_count h.now }
-        requires names { AreNamesOf h.now k names.now }
-        requires absent { set_of _set.now k ≡ false }
-        requires counts { AreNeedCounts h.now (set_of _set.now) self.old }
-        ensures { AreNeedCounts h.now (with (set_of _set.now) k) self.new }
-    {
-        h.invariant();
-        raise_all(self, names);
-    }
-
-    /// No longer counts the names of what record `k` needs, which has left the set. O(1).
-    pub fn take_away(&mut self, _h: &Hierarchy, names: &[Option<u32>], _set: &NumberSet, _k: u32)
-        requires record { _k < record_count _h.now }
-        requires names { AreNamesOf _h.now _k names.now }
-        requires absent { set_of _set.now _k ≡ false }
-        requires counts { AreNeedCounts _h.now (with (set_of _set.now) _k) self.old }
-        ensures { AreNeedCounts _h.now (set_of _set.now) self.new }
-    {
-        lower_all(self, names);
     }
 }

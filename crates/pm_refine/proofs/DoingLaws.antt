@@ -19,7 +19,7 @@ use Rattle.pm_beyond.proofs.PlanSteps.{ascending-same, descending-same}
 use Rattle.pm_beyond.proofs.PlanTheory.{legal}
 use Rattle.pm_front.specs.Corners.{moved_lists, corner_lists_after}
 use Rattle.pm_refine.specs.Holding.{HoldsFrom, HoldsMoves}
-use Rattle.pm_refine.specs.Doing.{splits_of, collapses_of, AreToDo}
+use Rattle.pm_refine.specs.Doing.{splits_of, collapses_of, moves_of, AreToDo}
 use Rattle.pm_sets.proofs.FlagLaws.{in_below}
 
 module _ (make : ℕ → Move) (p : ℕ → Bool) where
@@ -133,7 +133,7 @@ module _ (h : Hierarchy) where
   lists-append T [] ys ls = refl
   lists-append T (x ∷ xs) ys ls = lists-append (moved T x) xs ys (moved_lists h T x ls)
 
--- The plan is the splits of the one set and the collapses of the other.
+-- The plan is the splits of the one set and the collapses of the other, and they are legal.
 module _ (h : Hierarchy) (S G : ℕ → Bool) (rises falls : List Bool)
     (m : HoldsMoves (record_count h) S G 0 rises falls) where
   as_held : (p : ℕ → Bool) (flags : List Bool) → HoldsFrom (record_count h) p 0 flags → (j : ℕ)
@@ -142,7 +142,7 @@ module _ (h : Hierarchy) (S G : ℕ → Bool) (rises falls : List Bool)
       same_bools (p j) (set_of flags j) (λ t. holds.there j (omega arith) l t)
       (λ t. (holds.only j t).1)
 
-  pub plan_is : plan h S G ≡ splits_of rises ++ collapses_of falls
+  pub plan_is : plan h S G ≡ moves_of rises falls
   unfolding plan
   plan_is =
       let n = record_count h in
@@ -154,23 +154,25 @@ module _ (h : Hierarchy) (S G : ℕ → Bool) (rises falls : List Bool)
       ∙ ap (descending Collapse (set_of falls)) (sym m.down.len) in
       ap (λ ms. ms ++ descending Collapse (less S G) n) up ∙ ap (λ ms. splits_of rises ++ ms) down
 
-  -- Its first moves are the first splits, and then the first collapses with what is left of the
-  -- budget.
-  pub plan_starts : (budget : ℕ) → take budget (plan h S G) ≡ take budget (splits_of rises)
-      ++ take (budget - length (splits_of rises)) (collapses_of falls)
-  plan_starts budget =
-      ap (take budget) plan_is ∙ take_both budget (splits_of rises) (collapses_of falls)
+  pub plan_legal : IsValid h → IsClosed h S → IsClosed h G → AreLegal h S (moves_of rises falls)
+  plan_legal valid a b = subst (AreLegal h S) plan_is (legal h valid S G a b)
 
-  -- They are legal.
-  pub may_start : IsValid h → IsClosed h S → IsClosed h G → (budget : ℕ)
+-- The first moves of two sets are the first splits, and then the first collapses with what is left
+-- of the budget.
+module _ (rises falls : List Bool) (budget : ℕ) where
+  pub moves_start : take budget (moves_of rises falls) ≡ take budget (splits_of rises)
+      ++ take (budget - length (splits_of rises)) (collapses_of falls)
+  moves_start = take_both budget (splits_of rises) (collapses_of falls)
+
+  -- They are legal where all are.
+  pub may_start : (h : Hierarchy) (S : ℕ → Bool) → AreLegal h S (moves_of rises falls)
       → AreLegal h S (take budget (splits_of rises))
       × AreLegal h (moved_by S (take budget (splits_of rises)))
       (take (budget - length (splits_of rises)) (collapses_of falls))
-  may_start valid a b budget =
+  may_start h S all =
       legal-parts h S (take budget (splits_of rises))
       (take (budget - length (splits_of rises)) (collapses_of falls))
-      (subst (AreLegal h S) (plan_starts budget)
-      (legal-take h S budget (plan h S G) (legal h valid S G a b)))
+      (subst (AreLegal h S) moves_start (legal-take h S budget (moves_of rises falls) all))
 
 -- Some moves of a list are to do; its first one is legal,
 module _ (h : Hierarchy) (T U : ℕ → Bool) (before after : List (List ℕ)) (ms : List Move) where

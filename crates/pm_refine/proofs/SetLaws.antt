@@ -1,12 +1,13 @@
 -- What sets of records hold once a record is put in or taken out, and which record comes out.
-use Rattle.std.proofs.Common.{◌≡◌, ◌≢◌, ℕ, suc, ◌+◌, ◌<◌, ◌≤◌, eqb, Bool, true, false, not, List}
-use Rattle.std.proofs.Common.{length, replicate, get_or, set, length-set, get_or-set_same}
-use Rattle.std.proofs.Common.{get_or-set_other, inl, inr, refl, sym, subst, ◌∙◌, arith}
-use Rattle.std.proofs.lemmas.Bool.{cases_eq, cases_lt, eq-eqb, eqb-true, and_from, not_from_false}
-use Rattle.std.proofs.lemmas.Bool.{both_ways}
+use Rattle.std.proofs.Common.{◌≡◌, ◌≢◌, ℕ, zero, suc, ◌+◌, ◌<◌, ◌≤◌, eqb, Bool, true, false, cond}
+use Rattle.std.proofs.Common.{not, List, length, replicate, get_or, set, length-set}
+use Rattle.std.proofs.Common.{get_or-set_same, get_or-set_other, inl, inr, refl, sym, subst, ◌∙◌}
+use Rattle.std.proofs.Common.{arith}
+use Rattle.std.proofs.lemmas.Bool.{cases_Bool, cases_eq, cases_lt, cond-true, cond-false, eq-eqb}
+use Rattle.std.proofs.lemmas.Bool.{eqb-true, and_from, not_from_false, both_ways}
 use Rattle.std.proofs.lemmas.List.{get_or_past, get_or-replicate, length-replicate}
 use Rattle.pm_base.specs.Counts.{count, set_of}
-use Rattle.pm_sets.specs.Sets.{IsFirst, IsLast}
+use Rattle.pm_sets.specs.Sets.{IsEmptySet, IsGap, IsFirst, IsLast}
 use Rattle.pm_beyond.proofs.PlanLists.{less-parts}
 use Rattle.pm_refine.specs.Holding.{HoldsFrom, HoldsBelow, HoldsMoves}
 use Rattle.pm_refine.proofs.CountLaws.{count_apart, count_some}
@@ -35,13 +36,10 @@ pub out-other : (flags : List Bool) (k j : ℕ) → j ≢ k → set_of flags j �
 out-other flags k j other t = get_or-set_other flags k j false false other ∙ t
 
 -- The first record of a set, and the last.
-pub first_least : (m : List Bool) (k : ℕ) → IsFirst m 0 k → (j : ℕ) → set_of m j ≡ true → k ≤ j
-first_least m k first j t =
-    elim (cases_lt j k) [
-      | inl l ↦ absurd (both_ways _ (first.none j (omega arith) l) t)
-      | inr l ↦
-          l
-    ]
+pub first_from_least : (m : List Bool) (a k : ℕ) → IsFirst m a k → (j : ℕ) → a ≤ j
+    → set_of m j ≡ true → k ≤ j
+first_from_least m a k first j low t =
+    elim (cases_lt j k) [ inl l ↦ absurd (both_ways _ (first.none j low l) t) | inr l ↦ l ]
 
 pub last_greatest : (m : List Bool) (k : ℕ) → IsLast m (length m) k → (j : ℕ) → set_of m j ≡ true
     → j ≤ k
@@ -51,6 +49,51 @@ last_greatest m k last j t =
       | inr l ↦
           l
     ]
+
+-- A set that has none below a number, and none from it on, is empty.
+pub none_from : (m : List Bool) (a : ℕ) → IsGap m a (length m)
+    → ((j : ℕ) → set_of m j ≡ true → a ≤ j) → IsEmptySet m
+none_from m a gap low j =
+    elim (cases_Bool (set_of m j)) [ inl t ↦ gap j (low j t) (in_below m j t) | inr f ↦ f ]
+
+-- How far a set reaches: the least number that is above all of its records below n.
+unfoldable pub reach : List Bool → ℕ → ℕ
+reach m zero = zero
+reach m (suc n) = cond (set_of m n) (suc n) (reach m n)
+
+reach-above : (m : List Bool) (k n : ℕ) → k < n → set_of m k ≡ true → k < reach m n
+unfolding reach
+reach-above m k zero l there = absurd (omega arith)
+reach-above m k (suc n) l there =
+    elim (cases_Bool (set_of m n)) [
+      | inl t ↦ (let e : reach m (suc n) ≡ suc n = cond-true (set_of m n) (suc n) (reach m n) t in
+          omega arith)
+      | inr f ↦
+          let other : k ≢ n = λ is. both_ways _ f (subst (λ i. set_of m i ≡ true) is there) in
+          let e : reach m (suc n) ≡ reach m n = cond-false (set_of m n) (suc n) (reach m n) f in
+          let rest = reach-above m k n (omega arith) there in
+          omega arith
+    ]
+
+reach-most : (m : List Bool) (k n : ℕ) → ((j : ℕ) → set_of m j ≡ true → j < k) → reach m n ≤ k
+unfolding reach
+reach-most m k zero all = let none : reach m 0 ≡ 0 = refl in omega arith
+reach-most m k (suc n) all =
+    elim (cases_Bool (set_of m n)) [
+      | inl t ↦ (let e : reach m (suc n) ≡ suc n = cond-true (set_of m n) (suc n) (reach m n) t in
+          let l = all n t in omega arith)
+      | inr f ↦ (let e : reach m (suc n) ≡ reach m n =
+          cond-false (set_of m n) (suc n) (reach m n) f in let rest = reach-most m k n all in
+          omega arith)
+    ]
+
+-- A set with no record from one of another set on reaches less far.
+pub reach-less : (m new : List Bool) (k : ℕ) → set_of m k ≡ true
+    → ((j : ℕ) → set_of new j ≡ true → j < k) → reach new (length new) < reach m (length m)
+reach-less m new k there below =
+    let above = reach-above m k (length m) (in_below m k there) there in
+    let most = reach-most new k (length new) below in
+    omega arith
 
 -- A set without one of its records has fewer.
 pub fewer_left : (m : List Bool) (k : ℕ) → set_of m k ≡ true

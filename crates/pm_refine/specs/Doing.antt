@@ -1,5 +1,5 @@
 -- The moves of a plan, taken from the sets of their records.
-use Rattle.std.specs.Prelude.{◌≡◌, ℕ, Bool, List, length}
+use Rattle.std.specs.Prelude.{◌≡◌, ◌++◌, ℕ, Bool, List, length}
 use Rattle.pm_forest.specs.Forest.{Hierarchy}
 use Rattle.pm_base.specs.Counts.{set_of}
 use Rattle.pm_beyond.specs.Plans.{Move, Split, Collapse, moved_by, AreLegal, ascending, descending}
@@ -12,6 +12,10 @@ splits_of rises = ascending Split (set_of rises) (length rises)
 -- The collapses of the records of a set, descending.
 abbrev pub collapses_of : List Bool → List Move
 collapses_of falls = descending Collapse (set_of falls) (length falls)
+
+-- All moves of two sets.
+abbrev pub moves_of : List Bool → List Bool → List Move
+moves_of rises falls = splits_of rises ++ collapses_of falls
 
 -- The moves are legal, and lead from a set of records and its corner lists to another one and its
 -- own.

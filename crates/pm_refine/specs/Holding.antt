@@ -1,6 +1,6 @@
 -- What the sets of a refiner hold.
 use Rattle.std.specs.Prelude.{◌≡◌, ℕ, ◌<◌, ◌≤◌, ◌||◌, ◌&&◌, Bool, true, List, length}
-use Rattle.pm_forest.specs.Forest.{Hierarchy, splitter_of}
+use Rattle.pm_forest.specs.Forest.{Hierarchy, t_of, u_of, splitter_of}
 use Rattle.pm_base.specs.Counts.{set_of}
 use Rattle.pm_beyond.specs.Moves.{is_at}
 use Rattle.pm_beyond.specs.Plans.{less}
@@ -12,6 +12,10 @@ Joins old new p = (k : ℕ) → new k ≡ (old k || p k)
 -- Record j splits node v, and the node is wanted.
 abbrev pub leads_to : Hierarchy → (ℕ → Bool) → ℕ → ℕ → Bool
 leads_to h wanted v j = is_at j (splitter_of h v) && wanted v
+
+-- It splits a child of record k that is wanted.
+abbrev pub leads_below : Hierarchy → (ℕ → Bool) → ℕ → ℕ → Bool
+leads_below h wanted k j = leads_to h wanted (t_of h k) j || leads_to h wanted (u_of h k) j
 
 -- Of n records, the set has exactly those from b on that pass the test.
 pub record HoldsFrom (n : ℕ) (p : ℕ → Bool) (b : ℕ) (flags : List Bool) : Type 0 where

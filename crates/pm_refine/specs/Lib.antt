@@ -1,4 +1,5 @@
 pub mod Adapting
+pub mod Aims
 pub mod Showing
 pub mod Holding
 pub mod Finding

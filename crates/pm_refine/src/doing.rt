@@ -3,19 +3,15 @@ ghost use Rattle.std.specs.Prelude.{◌≡◌, ◌-◌, length, take};
 ghost use Rattle.pm_sets.specs.Sets.{IsEmptySet};
 ghost use Rattle.pm_forest.specs.Forest.{record_count};
 ghost use Rattle.pm_base.specs.Counts.{set_of};
-ghost use Rattle.pm_beyond.specs.Moves.{IsClosed};
 ghost use Rattle.pm_beyond.specs.Plans.{moved_by, AreLegal};
 ghost use Rattle.pm_front.specs.Corners.{corner_lists_after};
 ghost use Rattle.pm_front.specs.Needed.{AreNeedCounts};
-ghost use Rattle.pm_refine.specs.Holding.{HoldsMoves};
-ghost use Rattle.pm_refine.specs.Doing.{splits_of, collapses_of};
-ghost use Rattle.pm_refine.specs.Adapting.{view_target, view_plan, adapted_of};
+ghost use Rattle.pm_refine.specs.Doing.{splits_of, collapses_of, moves_of};
+ghost use Rattle.pm_refine.specs.Adapting.{adapted_of};
 
 use crate::Adapted;
-use crate::falls::Falls;
-use pm_front::Front;
+use pm_front::{CountedRecords, Front};
 use pm_sets::NumberSet;
-use pm_view::View;
 
 // Splits the first `budget` records of a set, in ascending order, and answers what is left of the
 // budget.
@@ -43,7 +39,7 @@ fn split_first(front: &mut Front, rises: &mut NumberSet, budget: u32) -> u32
 }
 
 // Collapses the last `budget` records of a set, in descending order.
-fn collapse_last(front: &mut Front, falls: &mut Falls, budget: u32)
+fn collapse_last(front: &mut Front, falls: &mut CountedRecords, budget: u32)
     requires falls { length falls.old.records ≡ record_count front.old.h }
     requires counts { AreNeedCounts front.old.h (set_of falls.old.records) falls.old.needs }
     requires legal { AreLegal front.old.h (set_of front.old.flags)
@@ -74,18 +70,29 @@ fn clear(numbers: &mut NumberSet)
     while let Some(_k) = numbers.take_first() {}
 }
 
-/// Makes the first `budget` moves of the plan of a view: the splits of the records of one set, and
-/// then the collapses of those of the other. It empties both.
+// Takes all records out of a set with counts.
+fn clear_counted(falls: &mut CountedRecords, front: &Front)
+    requires len { length falls.old.records ≡ record_count front.now.h }
+    requires counts { AreNeedCounts front.now.h (set_of falls.old.records) falls.old.needs }
+    ensures len { length falls.new.records ≡ length falls.old.records }
+    ensures empty { IsEmptySet falls.new.records }
+    ensures counts { AreNeedCounts front.now.h (set_of falls.new.records) falls.new.needs }
+{
+    while let Some(_k) = falls.take_last(front) {}
+}
+
+/// Makes the first `budget` moves of two sets: the splits of the records of the one, and then the
+/// collapses of those of the other. It empties both.
 pub(crate) fn advance(
     front: &mut Front,
-    _view: &View,
     rises: &mut NumberSet,
-    falls: &mut Falls,
+    falls: &mut CountedRecords,
     budget: u32,
 )
-    requires closed { IsClosed front.old.h (view_target front.old.h _view.now) }
-    requires moves { HoldsMoves (record_count front.old.h) (set_of front.old.flags)
-        (view_target front.old.h _view.now) 0 rises.old falls.old.records }
+    requires rises { length rises.old ≡ record_count front.old.h }
+    requires falls { length falls.old.records ≡ record_count front.old.h }
+    requires legal { AreLegal front.old.h (set_of front.old.flags)
+        (moves_of rises.old falls.old.records) }
     requires counts { AreNeedCounts front.old.h (set_of falls.old.records) falls.old.needs }
     ensures hierarchy { front.new.h ≡ front.old.h }
     ensures rises_len { length rises.new ≡ length rises.old }
@@ -93,17 +100,15 @@ pub(crate) fn advance(
     ensures no_rises { IsEmptySet rises.new }
     ensures no_falls { IsEmptySet falls.new.records }
     ensures counts { AreNeedCounts front.old.h (set_of falls.new.records) falls.new.needs }
-    ensures moved { let S = set_of front.old.flags in
-        set_of front.new.flags ≡ moved_by S (take budget (view_plan front.old.h S _view.now)) }
-    ensures corners { let S = set_of front.old.flags in front.new.corners
-        ≡ corner_lists_after front.old.h S (take budget (view_plan front.old.h S _view.now))
-        front.old.corners }
+    ensures moved { set_of front.new.flags ≡ moved_by (set_of front.old.flags)
+        (take budget (moves_of rises.old falls.old.records)) }
+    ensures corners { front.new.corners ≡ corner_lists_after front.old.h (set_of front.old.flags)
+        (take budget (moves_of rises.old falls.old.records)) front.old.corners }
 {
-    front.invariant();
     let left = split_first(front, rises, budget);
     collapse_last(front, falls, left);
     clear(rises);
-    falls.clear(front);
+    clear_counted(falls, front);
 }
 
 /// What is told of this many moves.

@@ -4,11 +4,12 @@
 
 mod deciding;
 mod doing;
-mod falls;
 mod finding;
 mod marks;
 mod needs;
+mod plan;
 mod refiner;
+mod sight;
 mod theory;
 
 pub use refiner::{Adapted, Refiner};

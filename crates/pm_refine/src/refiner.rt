@@ -10,14 +10,13 @@ ghost use Rattle.pm_refine.specs.Adapting.{view_target, view_plan, adapted_of};
 ghost use Rattle.pm_refine.specs.declared.refiner.Adapted.TheVariants as answers;
 
 use crate::OutOfMemory;
-use crate::deciding::decide_all;
 use crate::doing::{adapted, advance};
-use crate::falls::Falls;
 use crate::finding::find;
+use crate::plan::Plan;
+use crate::sight::Sight;
 use pm_deviation::Measures;
 use pm_forest::Hierarchy;
 use pm_front::Front;
-use pm_sets::NumberSet;
 use pm_view::{Steps, View};
 use std::alloc::Global;
 use std::marker::Model;
@@ -35,25 +34,20 @@ pub enum Adapted {
 /// sets of records. Contracts see the number of records.
 #[derive(Drop)]
 pub struct Refiner {
-    // Set where a record that will be split needs the record, while it is still to be decided.
-    marks: Vec<bool>,
-    // The records that are still to be decided.
-    work: NumberSet,
-    // The records that will be split.
-    rises: NumberSet,
-    // The records that will be collapsed, with the counts of what they need.
-    falls: Falls,
+    // With no record in it between two views.
+    plan: Plan,
 }
 
 impl Model for Refiner {
     ghost use Rattle.std.specs.Prelude.{ℕ, length};
+    ghost use Rattle.pm_refine.specs.Aims.{sets_of};
     ghost use Rattle.pm_refine.specs.Idle.{IsIdle};
 
     ghost Value = { ℕ };
 
-    ghost view = { λ r. length r.marks.items };
+    ghost view = { λ r. length r.plan.marks.items };
 
-    ghost invariant = { λ r. IsIdle r.marks.items r.work r.rises r.falls.records r.falls.needs };
+    ghost invariant = { λ r. IsIdle (sets_of r.plan) r.plan.falls.needs };
 }
 
 impl Refiner {
@@ -62,17 +56,8 @@ impl Refiner {
     pub fn new(alloc: Global, h: &Hierarchy) -> Result<Refiner, OutOfMemory>
         ensures { IfOk result (λ r. r ≡ record_count h.now) }
     {
-        let records = h.records();
-        let marks = vec![in alloc; false; records as usize]?;
-        let work = NumberSet::new(alloc, records)?;
-        let rises = NumberSet::new(alloc, records)?;
-        let falls = Falls::new(alloc, records)?;
-        Ok(Refiner {
-            marks,
-            work,
-            rises,
-            falls,
-        })
+        let plan = Plan::new(alloc, h.records())?;
+        Ok(Refiner { plan })
     }
 
     /// Does the first `budget` moves of the plan that leads from the front to the target of a view:
@@ -110,26 +95,15 @@ impl Refiner {
             + 2 * length (active_nodes front.old.h S) + 4 * length
             (view_plan front.old.h S view.now) }
     {
-        front.invariant();
-        find(
-            front,
+        let sight = Sight {
+            front: &*front,
             measures,
             view,
-            &mut self.rises,
-            &mut self.work,
-            steps,
-        );
-        let moves = decide_all(
-            front,
-            measures,
-            view,
-            &mut self.marks,
-            &mut self.work,
-            &mut self.rises,
-            &mut self.falls,
-            steps,
-        );
-        advance(front, view, &mut self.rises, &mut self.falls, budget);
+        };
+        sight.invariant();
+        find(&sight, &mut self.plan.rises, &mut self.plan.work, steps);
+        let moves = self.plan.decide_all(&sight, steps);
+        advance(front, &mut self.plan.rises, &mut self.plan.falls, budget);
         front.invariant();
         adapted(moves, budget)
     }

@@ -4,18 +4,15 @@ use Rattle.pm_base.specs.Counts.{set_of}
 use Rattle.pm_beyond.specs.Plans.{moved_by, AreLegal}
 use Rattle.pm_beyond.proofs.PlanLists.{moved_by-append}
 use Rattle.pm_front.specs.Corners.{corner_lists_after}
-use Rattle.pm_refine.specs.Adapting.{view_target}
 use Rattle.pm_refine.specs.Doing.{splits_of, collapses_of}
-use Rattle.pm_refine.proofs.DoingLaws.{may_start, plan_starts, lists-append}
+use Rattle.pm_refine.proofs.DoingLaws.{may_start, moves_start, lists-append}
 use Rattle.pm_refine.proofs.doing.advance.Goals as goal
 
 pub split_first-left-requires-clause-legal : goal.split_first-left-requires-clause-legal
 split_first-left-requires-clause-legal c =
     let h = c.args.front.now.h in
-    (may_start h (set_of c.args.front.now.flags) (view_target h c.args._view.now) c.args.rises.now
-    c.args.falls.now.records c.requires.moves c.invariant.ensures.valid
-    c.invariant.ensures.closed
-    c.requires.closed c.args.budget).0
+    (may_start c.args.rises.now c.args.falls.now.records c.args.budget h
+    (set_of c.args.front.now.flags) c.requires.legal).0
 
 pub collapse_last-requires-clause-legal : goal.collapse_last-requires-clause-legal
 collapse_last-requires-clause-legal c =
@@ -29,9 +26,7 @@ collapse_last-requires-clause-legal c =
     (take left down)) (sym done.hierarchy)
     (subst (λ T. AreLegal h T (take left down)) (sym done.moved)
     (subst (λ i. AreLegal h first (take i down)) (sym done.left)
-    (may_start h S (view_target h c.args._view.now) c.args.rises.now c.args.falls.now.records
-    c.requires.moves c.invariant.ensures.valid c.invariant.ensures.closed c.requires.closed
-    c.args.budget).1))
+    (may_start c.args.rises.now c.args.falls.now.records c.args.budget h S c.requires.legal).1))
 
 pub returns-clause-moved : goal.returns-clause-moved
 returns-clause-moved c =
@@ -44,9 +39,7 @@ returns-clause-moved c =
     ∙ ap (λ (T : ℕ → Bool). moved_by T (take c.split_first-left.result down)) done.moved
     ∙ ap (λ i. moved_by (moved_by S up) (take i down)) done.left
     ∙ sym (moved_by-append S up (take (c.args.budget - length (splits_of c.args.rises.now)) down))
-    ∙ sym (ap (moved_by S)
-    (plan_starts h S (view_target h c.args._view.now) c.args.rises.now c.args.falls.now.records
-    c.requires.moves c.args.budget))
+    ∙ sym (ap (moved_by S) (moves_start c.args.rises.now c.args.falls.now.records c.args.budget))
 
 pub returns-clause-corners : goal.returns-clause-corners
 returns-clause-corners c =
@@ -67,5 +60,4 @@ returns-clause-corners c =
     ∙ ap (corner_lists_after h (moved_by S up) rest) done.corners
     ∙ sym (lists-append h S up rest before)
     ∙ sym (ap (λ ms. corner_lists_after h S ms before)
-    (plan_starts h S (view_target h c.args._view.now) c.args.rises.now c.args.falls.now.records
-    c.requires.moves c.args.budget))
+    (moves_start c.args.rises.now c.args.falls.now.records c.args.budget))

@@ -2,9 +2,9 @@ use Rattle.std.proofs.Common.{◌≡◌, ◌+◌, suc, Bool, List, sym, ap, subs
 use Rattle.std.proofs.lemmas.Bool.{and_from, and_left, and_right}
 use Rattle.pm_base.specs.Counts.{count, set_of}
 use Rattle.pm_base.proofs.Counts.{count-true}
-use Rattle.pm_forest.specs.Forest.{Hierarchy, record_count, s_of}
+use Rattle.pm_forest.specs.Forest.{record_count, s_of}
 use Rattle.pm_forest.specs.Moves.{may_try}
-use Rattle.pm_view.specs.Wanted.{is_wanted}
+use Rattle.pm_refine.specs.Aims.{aim_of}
 use Rattle.pm_refine.specs.Holding.{HoldsBelow}
 use Rattle.pm_refine.specs.Finding.{is_due_now}
 use Rattle.pm_refine.proofs.CountLaws.{count_up}
@@ -12,63 +12,60 @@ use Rattle.pm_sets.proofs.FlagLaws.{in_below}
 use Rattle.pm_refine.proofs.SetLaws.{holds_up, holds_next, holds_past, next_there, none_skipped}
 use Rattle.pm_refine.proofs.FindingLaws.{records_few}
 use Rattle.pm_refine.proofs.finding.see_waiting.Goals as goal
-use Rattle.pm_refine.proofs.finding.see_waiting.Goals.{then-wants_split, else-wants_split}
+use Rattle.pm_refine.proofs.finding.see_waiting.Goals.{then-wants, else-wants}
 
 pub overflow_add-from : goal.overflow_add-from
 overflow_add-from g c =
-    let few = records_few c.args.front.now.h c.invariant.ensures.valid.shape in
+    let few = records_few c.args.sight.now.front.now.h c.invariant.ensures.valid.shape in
     let low = in_below c.waiting.result.now c.in-Some.k c.in-Some.ensures.some.there in
     let len = c.waiting.ensures.len in
     omega arith
 
 pub loop-k-preserved : goal.loop-k-preserved
 loop-k-preserved g c =
-    let h = c.args.front.now.h in
-    let S = set_of c.args.front.now.flags in
-    let view = c.args.view.now in
-    let wanted = is_wanted h view in
-    let n = record_count h in
+    let aim = aim_of c.args.sight.now in
+    let n = record_count aim.h in
     let k = c.in-Some.k in
     let flags = c.loop-k.rises in
-    let test = may_try h S in
-    let found = is_due_now h wanted S in
+    let test = may_try aim.h aim.split in
+    let found = is_due_now aim in
     let first = c.in-Some.ensures.some in
     let next = next_there n test c.waiting.result.now c.waiting.ensures.len c.waiting.ensures.each
     c.loop-k.from k first in
     let none = none_skipped n test c.waiting.result.now c.waiting.ensures.len c.waiting.ensures.each
     c.loop-k.from k first in
     let up = holds_up n found c.loop-k.from k flags first.from c.loop-k.invariant.seen
-    (λ j low high. and_left (test j) (wanted (s_of h j)) (none j low high)) in
-    let answer : c.wants_split.result ≡ wanted (s_of h k) =
-    c.wants_split.ensures.value
-    ∙ ap (λ (x : Hierarchy). is_wanted x view (s_of x k)) c.hierarchy.ensures in
+    (λ j low high. and_left (test j) (aim.wanted (s_of aim.h j)) (none j low high)) in
+    let answer : c.wants.result ≡ aim.wanted (s_of aim.h k) = c.wants.ensures.value in
     let ahead = first.from in
     let low = next.0 in
     let more = count_up test c.loop-k.from k ahead in
     let one = count-true test k next.1 in
     let after : k + 1 ≡ suc k = omega arith in
     let at = ap (count test) after in
-    let cost = c.wants_split.ensures.cost in
+    let cost = c.wants.ensures.cost in
     let before = c.loop-k.invariant.cost in
     record {
       most = omega arith;
-      seen = elim c.if-wants_split.branch [
-        | then-wants_split w ↦
+      seen = elim c.if-wants.branch [
+        | then-wants w ↦
             subst (λ (m : List Bool). HoldsBelow n found (k + 1) m)
             (sym (w.rises-is ∙ w.insert.ensures))
             (holds_next n found k flags low up
-            (and_from (test k) (wanted (s_of h k)) next.1 (sym answer ∙ w.if-wants_split.true)))
-        | else-wants_split w ↦
+            (and_from (test k) (aim.wanted (s_of aim.h k)) next.1 (sym answer
+            ∙ w.if-wants.true)))
+        | else-wants w ↦
             subst (λ (m : List Bool). HoldsBelow n found (k + 1) m) (sym w.rises-is)
             (holds_past n found k flags up
-            (and_right (test k) (wanted (s_of h k)) (sym answer ∙ w.if-wants_split.false)))
+            (and_right (test k) (aim.wanted (s_of aim.h k)) (sym answer ∙ w.if-wants.false)))
       ];
       cost = omega arith;
     }
 
 pub returns-clause-cost : goal.returns-clause-cost
 returns-clause-cost g c =
-    let up = count_up (may_try c.args.front.now.h (set_of c.args.front.now.flags)) c.loop-k.from
-    (record_count c.args.front.now.h) c.loop-k.invariant.most in
+    let up = count_up
+    (may_try c.args.sight.now.front.now.h (set_of c.args.sight.now.front.now.flags))
+    c.loop-k.from (record_count c.args.sight.now.front.now.h) c.loop-k.invariant.most in
     let before = c.loop-k.invariant.cost in
     omega arith

@@ -1,5 +1,5 @@
 use Rattle.std.proofs.Common.{sym, subst}
-use Rattle.pm_forest.specs.Forest.{splitter_of}
+use Rattle.pm_forest.specs.Forest.{Hierarchy, splitter_of, t_of, u_of}
 use Rattle.pm_forest.specs.Fronts.{without}
 use Rattle.pm_base.specs.Counts.{set_of}
 use Rattle.pm_forest.specs.Moves.{may_try}
@@ -14,8 +14,8 @@ use Rattle.pm_front.proofs.candidates.Candidates.collapse.Goals as goal
 
 pub free_all-requires-clause-counted : goal.free_all-requires-clause-counted
 free_all-requires-clause-counted c =
-    let h = c.args.h.now in
-    let T = set_of c.args._set.now in
+    let h = c.args.before.now.h in
+    let T = set_of c.args.before.now.flags in
     let k = c.args.k in
     let before = subst (AreCandidates h T) (sym c.self.view_is) c.requires.candidates in
     let counts =
@@ -26,8 +26,8 @@ free_all-requires-clause-counted c =
 
 pub returns : goal.returns
 returns c =
-    let h = c.args.h.now in
-    let T = set_of c.args._set.now in
+    let h = c.args.before.now.h in
+    let T = set_of c.args.before.now.flags in
     let k = c.args.k in
     let before = subst (AreCandidates h T) (sym c.self.view_is) c.requires.candidates in
     let put = subst (λ S. AreNeedCounts h S c.self.inside.needs)
@@ -36,16 +36,23 @@ returns c =
     counts_without h (without T k) k c.requires.record (without-same T k) c.args.names.now
     c.requires.names.times _ _ put c.free_all.ensures.counts in
     let first = subst
-    (λ v. AreCleared c.self.inside.waiting c.clear_splitter.new.waiting
-    (λ j. is_at j (splitter_of h v))) c.children.ensures.t c.clear_splitter.ensures in
+    (λ (x : Hierarchy). AreCleared c.self.inside.waiting c.clear_splitter.new.waiting
+    (λ j. is_at j (splitter_of x (t_of x k)))) c.hierarchy-h.ensures
+    (subst (λ v. AreCleared c.self.inside.waiting c.clear_splitter.new.waiting
+    (λ j. is_at j (splitter_of c.hierarchy-h.result.now v))) c.children.ensures.t
+    c.clear_splitter.ensures) in
     let second =
-    subst (λ v. AreCleared c.clear_splitter.new.waiting c.clear_splitter-2.new.waiting
-    (λ j. is_at j (splitter_of h v))) c.children.ensures.u c.clear_splitter-2.ensures in
+    subst (λ (x : Hierarchy). AreCleared c.clear_splitter.new.waiting
+    c.clear_splitter-2.new.waiting (λ j. is_at j (splitter_of x (u_of x k))))
+    c.hierarchy-h.ensures
+    (subst (λ v. AreCleared c.clear_splitter.new.waiting c.clear_splitter-2.new.waiting
+    (λ j. is_at j (splitter_of c.hierarchy-h.result.now v))) c.children.ensures.u
+    c.clear_splitter-2.ensures) in
     let waiting =
-    waiting-without h c.invariant.ensures T c.requires.closed k c.requires.record
+    waiting-without h c.invariant.ensures.shape T c.requires.closed k c.requires.record
     c.requires.is_split _ _ _ before.waiting first second in
     let unneeded =
-    unneeded-without h c.invariant.ensures T c.requires.closed k c.requires.record
+    unneeded-without h c.invariant.ensures.shape T c.requires.closed k c.requires.record
     c.requires.is_split _ _ c.args.names.now c.requires.names.times c.free_all.new.needs counts
     before.unneeded c.free_all.ensures.unneeded in
     record {

@@ -1,5 +1,5 @@
 use Rattle.std.proofs.Common.{sym, subst}
-use Rattle.pm_forest.specs.Forest.{splitter_of}
+use Rattle.pm_forest.specs.Forest.{Hierarchy, splitter_of, t_of, u_of}
 use Rattle.pm_forest.specs.Fronts.{with}
 use Rattle.pm_base.specs.Counts.{set_of}
 use Rattle.pm_forest.specs.Moves.{may_try}
@@ -13,29 +13,34 @@ use Rattle.pm_front.proofs.candidates.Candidates.split.Goals as goal
 
 pub need_all-requires-clause-room : goal.need_all-requires-clause-room
 need_all-requires-clause-room c =
-    let h = c.args.h.now in
-    let T = set_of c.args._set.now in
+    let h = c.args.before.now.h in
+    let T = set_of c.args.before.now.flags in
     let before = subst (AreCandidates h T) (sym c.self.view_is) c.requires.candidates in
     room_left h T c.args.k c.requires.record c.requires.unsplit c.args.names.now
-    c.requires.names.times c.invariant.ensures c.self.inside.needs before.counts
+    c.requires.names.times c.invariant.ensures.shape c.self.inside.needs before.counts
 
 pub returns : goal.returns
 returns c =
-    let h = c.args.h.now in
-    let T = set_of c.args._set.now in
+    let h = c.args.before.now.h in
+    let T = set_of c.args.before.now.flags in
     let k = c.args.k in
     let before = subst (AreCandidates h T) (sym c.self.view_is) c.requires.candidates in
-    let first = subst
-    (λ v. AreAdded c.self.inside.waiting c.add_splitter.new.waiting
-    (λ j. is_at j (splitter_of h v))) c.children.ensures.t c.add_splitter.ensures in
+    let first = subst (λ (x : Hierarchy). AreAdded c.self.inside.waiting c.add_splitter.new.waiting
+    (λ j. is_at j (splitter_of x (t_of x k)))) c.hierarchy-h.ensures
+    (subst (λ v. AreAdded c.self.inside.waiting c.add_splitter.new.waiting
+    (λ j. is_at j (splitter_of c.hierarchy-h.result.now v))) c.children.ensures.t
+    c.add_splitter.ensures) in
     let second =
-    subst (λ v. AreAdded c.add_splitter.new.waiting c.add_splitter-2.new.waiting
-    (λ j. is_at j (splitter_of h v))) c.children.ensures.u c.add_splitter-2.ensures in
+    subst (λ (x : Hierarchy). AreAdded c.add_splitter.new.waiting c.add_splitter-2.new.waiting
+    (λ j. is_at j (splitter_of x (u_of x k)))) c.hierarchy-h.ensures
+    (subst (λ v. AreAdded c.add_splitter.new.waiting c.add_splitter-2.new.waiting
+    (λ j. is_at j (splitter_of c.hierarchy-h.result.now v))) c.children.ensures.u
+    c.add_splitter-2.ensures) in
     let waiting =
-    waiting-with h c.invariant.ensures T c.requires.closed k c.requires.record
+    waiting-with h c.invariant.ensures.shape T c.requires.closed k c.requires.record
     c.requires.unsplit _ _ _ before.waiting first second in
     let unneeded =
-    unneeded-with h c.invariant.ensures T c.requires.closed k c.requires.record
+    unneeded-with h c.invariant.ensures.shape T c.requires.closed k c.requires.record
     c.requires.unsplit _ _ c.args.names.now c.requires.names.times before.unneeded
     c.need_all.ensures.unneeded in
     record {

@@ -1,15 +1,14 @@
-use Rattle.std.proofs.Common.{◌<◌, Bool, List, length, arith, subst, sym, ap, ◌∙◌}
-use Rattle.pm_forest.specs.Forest.{Hierarchy, record_count}
+use Rattle.std.proofs.Common.{◌<◌, length, arith, refl, subst, sym, ap, ◌∙◌}
+use Rattle.pm_forest.specs.Forest.{record_count}
 use Rattle.pm_forest.specs.Fronts.{without}
 use Rattle.pm_base.specs.Counts.{set_of}
 use Rattle.pm_forest.proofs.Flags.{set_of-clear}
-use Rattle.pm_beyond.specs.Moves.{IsClosed, MayCollapse}
+use Rattle.pm_beyond.specs.Moves.{MayCollapse}
 use Rattle.pm_firm.specs.Firm.{IsFirm}
-use Rattle.pm_front.specs.Candidates.{AreCandidates}
 use Rattle.pm_front.specs.State.{State}
 use Rattle.pm_front.proofs.Surfaces.{shows_surface}
 use Rattle.pm_front.proofs.FrontLaws.{sound-same, collapse_told, collapse_sound}
-use Rattle.pm_front.proofs.ReadyLaws.{as_read, ready-same, collapse_ready, row_named}
+use Rattle.pm_front.proofs.ReadyLaws.{ready-same, collapse_ready, row_named}
 use Rattle.pm_front.proofs.front.Front.collapse_legal.Goals as goal
 
 pub of-names-requires : goal.of-names-requires
@@ -23,13 +22,11 @@ collapse-requires-clause-names c =
     let s = c.self.inside.refinement in
     let l = subst (λ (s : State). c.args.k < record_count s.h) (sym c.self.view_is)
     c.requires.record in
-    row_named s.h _ c.self.inside.names c.self.invariant.names c.hierarchy.ensures c.args.k l _
-    c.of-names.ensures
+    row_named s.h _ c.self.inside.names c.self.invariant.names refl c.args.k l _ c.of-names.ensures
 
 pub collapse-requires-clause-closed : goal.collapse-requires-clause-closed
 collapse-requires-clause-closed c =
-    as_read (λ (h : Hierarchy) (flags : List Bool). IsClosed h (set_of flags)) _ _ _ _
-    (sym c.hierarchy.ensures) (sym c.flags.ensures) c.self.invariant.sound.closed
+    c.self.invariant.sound.closed
 
 pub collapse-requires-2-clause-told : goal.collapse-requires-2-clause-told
 collapse-requires-2-clause-told c =
@@ -49,13 +46,10 @@ invariant_of-self c =
     c.requires.legal in
     let sound = c.self.invariant.sound in
     let at : k < length s.flags = omega (arith, l, sound.flag_len) in
-    let are = as_read
-    (λ (h : Hierarchy) (flags : List Bool). AreCandidates h (without (set_of flags) k)
-    c.collapse.new.self) _ _ _ _ c.hierarchy.ensures c.flags.ensures c.collapse.ensures in
     ready-same c.collapse-2.new.self s.h _ c.collapse.new.self c.self.inside.names
     c.collapse-2.ensures.h c.collapse-2.ensures.flags
     (collapse_ready s.h s.flags k at c.collapse.new.self c.self.inside.names c.self.invariant.names
-    (collapse_sound s.h s.flags sound k l may) are)
+    (collapse_sound s.h s.flags sound k l may) c.collapse.ensures)
 
 pub returns-clause-surface : goal.returns-clause-surface
 returns-clause-surface c firm =

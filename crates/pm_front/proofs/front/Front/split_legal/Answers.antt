@@ -1,14 +1,12 @@
-use Rattle.std.proofs.Common.{◌<◌, Bool, List, length, arith, subst, sym, ap, ◌∙◌}
-use Rattle.pm_forest.specs.Forest.{Hierarchy, record_count}
-use Rattle.pm_forest.specs.Fronts.{with}
+use Rattle.std.proofs.Common.{◌<◌, length, arith, refl, subst, sym, ap, ◌∙◌}
+use Rattle.pm_forest.specs.Forest.{record_count}
 use Rattle.pm_base.specs.Counts.{set_of}
-use Rattle.pm_beyond.specs.Moves.{IsClosed, MaySplit}
+use Rattle.pm_beyond.specs.Moves.{MaySplit}
 use Rattle.pm_firm.specs.Firm.{IsFirm}
-use Rattle.pm_front.specs.Candidates.{AreCandidates}
 use Rattle.pm_front.specs.State.{State}
 use Rattle.pm_front.proofs.Surfaces.{shows_surface}
 use Rattle.pm_front.proofs.FrontLaws.{sound-same, split_sound}
-use Rattle.pm_front.proofs.ReadyLaws.{as_read, ready-same, split_ready, row_named}
+use Rattle.pm_front.proofs.ReadyLaws.{ready-same, split_ready, row_named}
 use Rattle.pm_front.proofs.front.Front.split_legal.Goals as goal
 
 pub of-names-requires : goal.of-names-requires
@@ -22,13 +20,11 @@ split-requires-clause-names c =
     let s = c.self.inside.refinement in
     let l = subst (λ (s : State). c.args.k < record_count s.h) (sym c.self.view_is)
     c.requires.record in
-    row_named s.h _ c.self.inside.names c.self.invariant.names c.hierarchy.ensures c.args.k l _
-    c.of-names.ensures
+    row_named s.h _ c.self.inside.names c.self.invariant.names refl c.args.k l _ c.of-names.ensures
 
 pub split-requires-clause-closed : goal.split-requires-clause-closed
 split-requires-clause-closed c =
-    as_read (λ (h : Hierarchy) (flags : List Bool). IsClosed h (set_of flags)) _ _ _ _
-    (sym c.hierarchy.ensures) (sym c.flags.ensures) c.self.invariant.sound.closed
+    c.self.invariant.sound.closed
 
 pub invariant_of-self : goal.invariant_of-self
 invariant_of-self c =
@@ -39,13 +35,10 @@ invariant_of-self c =
     c.requires.legal in
     let sound = c.self.invariant.sound in
     let at : k < length s.flags = omega (arith, l, sound.flag_len) in
-    let are = as_read
-    (λ (h : Hierarchy) (flags : List Bool). AreCandidates h (with (set_of flags) k)
-    c.split.new.self) _ _ _ _ c.hierarchy.ensures c.flags.ensures c.split.ensures in
     ready-same c.split-2.new.self s.h _ c.split.new.self c.self.inside.names c.split-2.ensures.h
     c.split-2.ensures.flags
     (split_ready s.h s.flags k at c.split.new.self c.self.inside.names c.self.invariant.names
-    (split_sound s.h s.flags sound k l may) are)
+    (split_sound s.h s.flags sound k l may) c.split.ensures)
 
 pub returns-clause-surface : goal.returns-clause-surface
 returns-clause-surface c firm =

@@ -1,4 +1,4 @@
-//! The records that will be collapsed, and how often they name each record among what they need.
+//! A set of records, with how often they name each record among what they need.
 ghost use Rattle.std.specs.Prelude.{ℕ, ◌≡◌, ◌<◌, ◌≤◌, true, false, length, replicate};
 ghost use Rattle.std.specs.Prelude.{slice_index_or, slice_set, IfOk, IfSome, IfNone};
 ghost use Rattle.pm_sets.specs.Sets.{IsEmptySet, IsLast};
@@ -7,45 +7,55 @@ ghost use Rattle.pm_forest.specs.Forest.{record_count};
 ghost use Rattle.pm_base.specs.Counts.{set_of};
 ghost use Rattle.pm_front.specs.Needed.{AreNamesOf, AreNeedCounts};
 
-use crate::OutOfMemory;
+use crate::need_counts::{NeedCounts, lower_all, raise_all};
+use crate::{Front, OutOfMemory};
 use pm_forest::Hierarchy;
-use pm_front::{Front, NeedCounts};
 use pm_sets::NumberSet;
 use std::alloc::Global;
+use std::marker::Model;
 
 /// A set of records, with the counts of what they need. The counts are those of the set in the
-/// hierarchy that each call is handed; they are all 0 where the set is empty.
+/// hierarchy that each call is handed; they are all 0 where the set is empty. Contracts see a flag
+/// for each record, and the counts.
 #[derive(Drop)]
-pub(crate) struct Falls {
+pub struct CountedRecords {
     records: NumberSet,
     needs: NeedCounts,
 }
 
-impl Falls {
+impl Model for CountedRecords {
+    ghost use Rattle.pm_front.specs.Needed.{CountedRecords};
+
+    ghost Value = { CountedRecords };
+
+    ghost view = { λ c. record { records = c.records; needs = c.needs } };
+}
+
+impl CountedRecords {
     /// No records. The only call that takes memory.
-    pub(crate) fn new(alloc: Global, records: u32) -> Result<Falls, OutOfMemory>
+    pub fn new(alloc: Global, records: u32) -> Result<CountedRecords, OutOfMemory>
         requires { records ≤ BOUND_LIMIT }
         ensures records { IfOk result (λ f. f.records ≡ replicate records false) }
         ensures needs { IfOk result (λ f. f.needs ≡ replicate records 0) }
     {
         let set = NumberSet::new(alloc, records)?;
         let needs = NeedCounts::new(alloc, records)?;
-        Ok(Falls {
+        Ok(CountedRecords {
             records: set,
             needs,
         })
     }
 
-    /// How often the records name record `k` among what they need.
-    pub(crate) fn need_count(&self, k: u32) -> u32
+    /// How often the records name record `k` among what they need. O(1).
+    pub fn need_count(&self, k: u32) -> u32
         requires { k < length self.now.needs }
         ensures { result ≡ slice_index_or self.now.needs k 0 }
     {
         self.needs.count(k)
     }
 
-    /// Puts a record in that isn't there, and that needs what these names tell.
-    pub(crate) fn insert(&mut self, h: &Hierarchy, names: &[Option<u32>], k: u32)
+    /// Puts a record in that isn't there, and that needs what these names tell. O(1).
+    pub fn insert(&mut self, h: &Hierarchy, names: &[Option<u32>], k: u32)
         requires record { k < record_count h.now }
         requires names { AreNamesOf h.now k names.now }
         requires len { length self.old.records ≡ record_count h.now }
@@ -54,12 +64,13 @@ impl Falls {
         ensures put { self.new.records ≡ slice_set self.old.records k true }
         ensures counts { AreNeedCounts h.now (set_of self.new.records) self.new.needs }
     {
-        self.needs.add(h, names, &self.records, k);
+        h.invariant();
+        raise_all(&mut self.needs, names);
         self.records.insert(k);
     }
 
     /// The last of the records, which is taken out. They are records of the hierarchy of a front.
-    pub(crate) fn take_last(&mut self, front: &Front) -> Option<u32>
+    pub fn take_last(&mut self, front: &Front) -> Option<u32>
         requires len { length self.old.records ≡ record_count front.now.h }
         requires counts { AreNeedCounts front.now.h (set_of self.old.records) self.old.needs }
         ensures some { IfSome result (IsLast self.old.records (length self.old.records)) }
@@ -69,19 +80,7 @@ impl Falls {
         ensures counts { AreNeedCounts front.now.h (set_of self.new.records) self.new.needs }
     {
         let k = self.records.take_last()?;
-        self.needs
-            .take_away(front.hierarchy(), &front.named_by(k), &self.records, k);
+        lower_all(&mut self.needs, &front.named_by(k));
         Some(k)
-    }
-
-    /// Takes all records out.
-    pub(crate) fn clear(&mut self, front: &Front)
-        requires len { length self.old.records ≡ record_count front.now.h }
-        requires counts { AreNeedCounts front.now.h (set_of self.old.records) self.old.needs }
-        ensures len { length self.new.records ≡ length self.old.records }
-        ensures empty { IsEmptySet self.new.records }
-        ensures counts { AreNeedCounts front.now.h (set_of self.new.records) self.new.needs }
-    {
-        while let Some(_k) = self.take_last(front) {}
     }
 }
