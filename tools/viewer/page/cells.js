@@ -1,38 +1,42 @@
 // What stands in the cells of a drawn mesh's textures, four numbers each.
 import { putUnit } from "./normals.js";
 
-// Of nodes: the places to which they glide, with their depths; normals; where and when their glides
-// began.
-export function cellsOf({ sums, goals, starts: from, hierarchy: { places: own, depths } }, nodes) {
-  const size = 4 * nodes.length;
+// Of nodes, which have their `numbers` and `slots`: the places to which they glide, with their
+// depths; normals; where and when their glides began; and colours, where there are some.
+export function cellsOf(mesh, { numbers, slots }) {
+  const { sums, goals, starts: from, colours, hierarchy: { places: own, depths } } = mesh;
+  const size = 4 * numbers.length;
   const places = new Int16Array(size), normals = new Int16Array(size);
   const starts = new Float32Array(size);
   for (let i = 0, at = 0; at < size; i++, at += 4) {
-    const node = nodes[i], place = 3 * goals[node], start = 4 * node;
+    const node = numbers[i], place = 3 * goals[node], start = 4 * node;
     places[at] = own[place]; places[at + 1] = own[place + 1]; places[at + 2] = own[place + 2];
     places[at + 3] = depths[node];
     putUnit(sums, 3 * node, normals, at);
     starts[at] = from[start]; starts[at + 1] = from[start + 1];
     starts[at + 2] = from[start + 2]; starts[at + 3] = from[start + 3];
   }
-  return { places, normals, starts };
+  const cells = { slots, places, normals, starts };
+  if (colours !== null) cells.colours = coloursOf(colours, numbers);
+  return cells;
 }
 
-export function coloursOf(all, nodes) {
-  const colours = new Uint8Array(4 * nodes.length);
-  nodes.forEach((node, i) => colours.set(all.subarray(4 * node, 4 * node + 4), 4 * i));
-  return colours;
+// Of four bytes each, which go as one number.
+function coloursOf(all, nodes) {
+  const colours = new Uint32Array(nodes.length);
+  for (let i = 0; i < nodes.length; i++) colours[i] = all[nodes[i]];
+  return new Uint8Array(colours.buffer);
 }
 
 // The corners of the faces that stand there, by where their nodes stand, and the faces' numbers.
-export function cornersAt({ corners, faces, nodes: { of } }, slots) {
-  const cells = new Uint32Array(4 * slots.length);
+export function cornersAt({ corners: all, faces, nodes: { of } }, slots) {
+  const corners = new Uint32Array(4 * slots.length);
   for (let i = 0, to = 0; i < slots.length; i++, to += 4) {
     const face = faces.at[slots[i]], from = 3 * face;
-    cells[to] = of[corners[from]];
-    cells[to + 1] = of[corners[from + 1]];
-    cells[to + 2] = of[corners[from + 2]];
-    cells[to + 3] = face;
+    corners[to] = of[all[from]];
+    corners[to + 1] = of[all[from + 1]];
+    corners[to + 2] = of[all[from + 2]];
+    corners[to + 3] = face;
   }
-  return cells;
+  return { slots, corners };
 }

@@ -1,4 +1,6 @@
-// The mesh of the program's front, kept by what changes (docs/FORMATS.md has the form of a change).
+// The mesh of the program's front, kept by what changes (docs/FORMATS.md). A change has, as arrays
+// of numbers, what is gone, which nodes come, and which faces come or have other corners, with
+// three nodes for each; a frame has its nodes, its faces, and three nodes for each.
 import { NO_PARENT } from "./hierarchy.js";
 import { Marked, Row } from "./slots.js";
 
@@ -26,41 +28,40 @@ export class Front {
   }
 
   // Does what a change says.
-  take({ nodeCount, faceCount, facesGone, nodesGone, nodes, faces }) {
-    for (const face of facesGone) {
-      check(this.faces.has(face));
-      this.count(face, -1);
-      this.faces.remove(face);
+  take({ nodeCount, faceCount, facesGone, nodesGone, nodesCome, facesPut, corners }) {
+    const { nodes, faces, uses } = this;
+    for (let i = 0; i < facesGone.length; i++) this.removeFace(facesGone[i]);
+    for (let i = 0; i < nodesGone.length; i++) {
+      check(nodes.has(nodesGone[i]));
+      nodes.remove(nodesGone[i]);
     }
-    for (let i = 0; i < faces.length; i += 4) {
-      if (this.faces.has(faces[i])) this.count(faces[i], -1);
+    for (let i = 0; i < nodesCome.length; i++) {
+      check(!nodes.has(nodesCome[i]));
+      nodes.add(nodesCome[i]);
     }
-    for (const node of nodesGone) {
-      check(this.nodes.has(node));
-      this.nodes.remove(node);
-    }
-    for (let i = 0; i < nodes.length; i += 4) {
-      check(!this.nodes.has(nodes[i]));
-      this.nodes.add(nodes[i]);
-    }
-    for (let i = 0; i < faces.length; i += 4) this.putFace(faces, i);
-    check(this.nodes.size === nodeCount && this.faces.size === faceCount);
-    check(nodesGone.every((node) => this.uses[node] === 0));
+    for (let i = 0; i < facesPut.length; i++) this.putFace(facesPut[i], corners, 3 * i);
+    check(nodes.size === nodeCount && faces.size === faceCount);
+    for (let i = 0; i < nodesGone.length; i++) check(uses[nodesGone[i]] === 0);
   }
 
-  // Counts a face for its nodes, or no longer.
-  count(face, sign) {
-    for (let corner = 0; corner < 3; corner++) this.uses[this.corners[3 * face + corner]] += sign;
+  removeFace(face) {
+    const { corners, faces, uses } = this, at = 3 * face;
+    check(faces.has(face));
+    uses[corners[at]]--; uses[corners[at + 1]]--; uses[corners[at + 2]]--;
+    faces.remove(face);
   }
 
-  putFace(faces, i) {
-    const face = faces[i];
-    for (let corner = 1; corner <= 3; corner++) {
-      check(this.nodes.has(faces[i + corner]));
-      this.corners[3 * face + corner - 1] = faces[i + corner];
+  putFace(face, three, from) {
+    const { corners, faces, nodes, uses } = this, at = 3 * face, isNew = !faces.has(face);
+    for (let i = 0; i < 3; i++) {
+      const node = three[from + i], before = corners[at + i];
+      check(nodes.has(node));
+      if (!isNew && node === before) continue;
+      if (!isNew) uses[before]--;
+      uses[node]++;
+      corners[at + i] = node;
     }
-    if (!this.faces.has(face)) this.faces.add(face);
-    this.count(face, 1);
+    if (isNew) faces.add(face);
   }
 
   // The node of the front that is or has a node below it; NO_PARENT where there is none.
@@ -72,39 +73,38 @@ export class Front {
   }
 
   // The change that leads to the mesh of a frame.
-  changeTo({ nodes, faces }) {
+  changeTo({ nodes, faces, corners }) {
     const seenNodes = new Marked(this.nodes.of.length);
     const seenFaces = new Marked(this.faces.of.length);
-    const nodesCome = [], facesCome = [];
-    for (let i = 0; i < nodes.length; i += 4) {
-      seenNodes.add(nodes[i]);
-      if (!this.nodes.has(nodes[i])) nodesCome.push(...nodes.subarray(i, i + 4));
-    }
-    for (let i = 0; i < faces.length; i += 4) {
-      seenFaces.add(faces[i]);
-      if (!this.stands(faces, i)) facesCome.push(...faces.subarray(i, i + 4));
-    }
+    for (let i = 0; i < nodes.length; i++) seenNodes.add(nodes[i]);
+    for (let i = 0; i < faces.length; i++) seenFaces.add(faces[i]);
+    const others = faces.map((_, i) => i).filter((i) => !this.stands(faces[i], corners, 3 * i));
+    const put = new Int32Array(3 * others.length);
+    others.forEach((from, to) => put.set(corners.subarray(3 * from, 3 * from + 3), 3 * to));
     return {
-      facesGone: [...this.faces].filter((face) => !seenFaces.has(face)),
-      nodesGone: [...this.nodes].filter((node) => !seenNodes.has(node)),
-      nodes: nodesCome, nodeCount: nodes.length / 4,
-      faces: facesCome, faceCount: faces.length / 4,
+      facesGone: this.faces.numbers.filter((face) => !seenFaces.has(face)),
+      nodesGone: this.nodes.numbers.filter((node) => !seenNodes.has(node)),
+      nodesCome: nodes.filter((node) => !this.nodes.has(node)), nodeCount: nodes.length,
+      facesPut: others.map((i) => faces[i]), corners: put, faceCount: faces.length,
     };
   }
 
   // Whether a face is there with these corners.
-  stands(faces, i) {
-    const { corners } = this, at = 3 * faces[i];
-    return this.faces.has(faces[i]) && corners[at] === faces[i + 1]
-      && corners[at + 1] === faces[i + 2] && corners[at + 2] === faces[i + 3];
+  stands(face, three, from) {
+    const { corners } = this, at = 3 * face;
+    return this.faces.has(face) && corners[at] === three[from]
+      && corners[at + 1] === three[from + 1] && corners[at + 2] === three[from + 2];
   }
 
-  // The mesh as a frame has it.
+  // The mesh as a frame has it, with three coordinates for each node.
   frame() {
-    const { corners, hierarchy: { places } } = this, rising = (a, b) => a - b;
-    const lineOf = (number, three) => [number, ...three.subarray(3 * number, 3 * number + 3)];
-    const lines = (shown, three) =>
-      Int32Array.from([...shown].sort(rising).flatMap((number) => lineOf(number, three)));
-    return { nodes: lines(this.nodes, places), faces: lines(this.faces, corners) };
+    const threeOf = (numbers, three) => {
+      const found = new Int32Array(3 * numbers.length);
+      numbers.forEach((number, i) => found.set(three.subarray(3 * number, 3 * number + 3), 3 * i));
+      return found;
+    };
+    const [nodes, faces] = [this.nodes, this.faces].map(({ numbers }) => numbers.slice().sort());
+    const places = threeOf(nodes, this.hierarchy.places);
+    return { nodes, places, faces, corners: threeOf(faces, this.corners) };
   }
 }

@@ -6,10 +6,15 @@
 // A face is in a front where its corners' ancestors are three nodes there, and these are its
 // corners. So the faces of two fronts together are those of the finer of both, wherever one looks,
 // and a face that goes is flat once all nodes have come to where they go.
-import { cellsOf, coloursOf, cornersAt } from "./cells.js";
+//
+// What a change takes goes up with what it changes, and not with what is drawn: faces that go late
+// are found by the nodes at their corners, and nothing is made anew for a node or a face.
+import { cellsOf, cornersAt } from "./cells.js";
 import { Front, check } from "./front.js";
 import { NO_PARENT } from "./hierarchy.js";
+import { Late } from "./late.js";
 import { GLIDE } from "./layout.js";
+import { Leaving } from "./leaving.js";
 import { addNormal, putNormal } from "./normals.js";
 import { Marked, Row, Slots } from "./slots.js";
 
@@ -21,17 +26,12 @@ function eased(part) {
   return time * time * (3 - 2 * time);
 }
 
-// What of a patch is handed over to the page, and not copied.
-export function handedOver(patch) {
-  const groups = patch ? [patch.nodes, patch.faces] : [];
-  return groups.flatMap((cells) => Object.values(cells).map((array) => array.buffer));
-}
-
 export class KeptMesh {
   // `colours` has four bytes for each node, or is null.
   constructor(hierarchy, colours) {
     const count = hierarchy.parents.length, { faces } = hierarchy;
-    Object.assign(this, { hierarchy, colours, front: new Front(hierarchy) });
+    Object.assign(this, { hierarchy, front: new Front(hierarchy) });
+    this.colours = colours && new Uint32Array(colours.buffer, colours.byteOffset, count);
     this.corners = new Int32Array(3 * faces);   // the nodes at a drawn face's corners
     this.uses = new Int32Array(count);          // how many drawn faces have a node
     this.sums = new Float64Array(3 * count);    // of their normals
@@ -40,45 +40,50 @@ export class KeptMesh {
     this.touched = { nodes: new Marked(count), faces: new Marked(faces) };
     this.split = new Marked(count);   // drawn nodes that a change splits
     this.landing = new Marked(count); // nodes of the front that are drawn from now on
+    this.coming = new Marked(faces);  // faces that a change brings
+    this.near = new Marked(faces);    // late faces at nodes that go
+    this.three = new Int32Array(3);   // the corners that a face gets
     this.normal = new Float64Array(3);
     this.clear();
   }
 
   // Nothing is drawn.
   clear() {
+    const { parents: { length: count }, faces } = this.hierarchy;
     this.front.clear();
-    this.nodes = new Slots(this.hierarchy.parents.length);
-    this.faces = new Row(this.hierarchy.faces);
-    this.leaving = new Map(); // for nodes of the front that aren't drawn yet: those that are, and
-                              // until when
-    this.late = new Row(this.hierarchy.faces); // drawn faces that the front hasn't, or with other
-                                               // corners
+    this.nodes = new Slots(count);
+    this.faces = new Row(faces);
+    this.leaving = new Leaving(count);
+    this.late = new Late(count, this.corners);
     this.uses.fill(0);
     this.sums.fill(0);
-    for (const marked of [this.split, this.landing, ...Object.values(this.touched)]) marked.clear();
+    const { split, landing, coming, near, touched } = this;
+    for (const marked of [split, landing, coming, near, touched.nodes, touched.faces]) {
+      marked.clear();
+    }
   }
 
   // Does what a change says, and gives what becomes another in textures. With `now`, in seconds,
   // nodes glide from where they or their elders are seen then; where it is null, none does.
   take(change, now) {
-    const { facesGone, nodesGone, nodes, faces } = change;
+    const { facesGone, nodesGone, nodesCome, facesPut } = change, { coming, split } = this;
     this.front.take(change);
-    for (const node of nodesGone) this.leave(node, now);
-    for (let i = 0; i < nodes.length; i += 4) this.begin(nodes[i], now);
-    for (const face of facesGone) this.setLate(face, true);
-    const come = [];
-    for (let i = 0; i < faces.length; i += 4) {
-      if (this.faces.has(faces[i])) this.turn(faces[i]);
-      else come.push(faces[i]);
+    for (let i = 0; i < nodesGone.length; i++) this.leave(nodesGone[i], now);
+    for (let i = 0; i < nodesCome.length; i++) this.begin(nodesCome[i], now);
+    for (let i = 0; i < facesGone.length; i++) this.late.set(facesGone[i], true);
+    for (let i = 0; i < facesPut.length; i++) {
+      if (this.faces.has(facesPut[i])) this.turn(facesPut[i]);
+      else coming.add(facesPut[i]);
     }
-    this.landUnclear(come);
+    this.landUnclear(coming.numbers);
     this.land(now);
-    for (const face of come) this.putFace(face);
-    for (const node of this.split.numbers) this.removeNode(node);
-    this.split.clear();
+    for (let i = 0; i < coming.size; i++) this.putFace(coming.at[i]);
+    for (let i = 0; i < split.size; i++) this.removeNode(split.at[i]);
+    coming.clear();
+    split.clear();
     const changes = {
-      nodesCome: nodes.length / 4, nodesGone: nodesGone.length,
-      facesCome: faces.length / 4, facesGone: facesGone.length,
+      nodesCome: nodesCome.length, nodesGone: nodesGone.length,
+      facesCome: facesPut.length, facesGone: facesGone.length,
     };
     return { ...this.patch(), changes };
   }
@@ -94,33 +99,37 @@ export class KeptMesh {
   // A node has left the front. What is drawn of it and below it glides to the node that took its
   // place, and back where that one is split again.
   leave(node, now) {
-    const drawn = this.leaving.get(node)?.nodes ?? [node];
-    this.leaving.delete(node);
-    for (const one of drawn) {
-      const goal = this.front.above(one);
-      if (goal === NO_PARENT) this.split.add(one);
-      else this.aim(one, goal, now);
+    if (!this.leaving.has(node)) {
+      this.depart(node, now);
+      return;
+    }
+    const { next } = this.leaving.nodes;
+    for (let one = this.leaving.drop(node); one >= 0;) {
+      const after = next[one];
+      this.depart(one, now);
+      one = after;
     }
   }
 
-  aim(node, goal, now) {
+  depart(node, now) {
+    const goal = this.front.above(node);
+    if (goal === NO_PARENT) {
+      this.split.add(node);
+      return;
+    }
     this.putStart(node, node, now);
     this.goals[node] = goal;
     this.touched.nodes.add(node);
-    if (goal === node) return;
-    if (!this.leaving.has(goal)) this.leaving.set(goal, { nodes: [], until: 0 });
-    const those = this.leaving.get(goal);
-    those.nodes.push(node);
-    those.until = now === null ? -Infinity : now + GLIDE;
+    if (goal !== node) this.leaving.add(goal, node, now === null ? -Infinity : now + GLIDE);
   }
 
   // A node that comes starts where its elder, the ancestor that is drawn, is seen now. One that is
   // drawn already, or for which others are, has been told by `leave`.
   begin(node, now) {
-    if (this.nodes.has(node) || this.leaving.has(node)) return;
-    const { parents } = this.hierarchy;
+    const { nodes, leaving, hierarchy: { parents } } = this;
+    if (nodes.has(node) || leaving.has(node)) return;
     let elder = parents[node];
-    while (elder !== NO_PARENT && !this.nodes.has(elder)) elder = parents[elder];
+    while (elder !== NO_PARENT && !nodes.has(elder)) elder = parents[elder];
     if (elder === NO_PARENT) this.starts[4 * node + 3] = THERE;
     else this.putStart(node, elder, now);
     this.addNode(node);
@@ -152,34 +161,37 @@ export class KeptMesh {
 
   // The front has other corners for a drawn face: it gets those that are drawn.
   turn(face) {
-    const { nodes, corners, front } = this;
-    this.setCorners(face, (at) => (nodes.has(front.corners[at]) ? front.corners[at] : corners[at]));
-  }
-
-  // Gives a drawn face other corners, by where they stand among those of all faces.
-  setCorners(face, cornerAt) {
-    const { corners, front } = this, first = 3 * face;
-    this.shade(face, -1);
-    let isLate = !front.faces.has(face);
-    for (let at = first; at < first + 3; at++) {
-      corners[at] = cornerAt(at);
-      isLate ||= corners[at] !== front.corners[at];
+    const { corners, front, nodes, three } = this, first = 3 * face;
+    for (let i = 0; i < 3; i++) {
+      const node = front.corners[first + i];
+      three[i] = nodes.has(node) ? node : corners[first + i];
     }
-    this.shade(face, 1);
-    this.touched.faces.add(this.faces.of[face]);
-    this.setLate(face, isLate);
+    this.setCorners(face);
   }
 
-  setLate(face, isLate) {
-    if (isLate === this.late.has(face)) return;
-    if (isLate) this.late.add(face);
-    else this.late.remove(face);
+  // Gives a drawn face the corners `three`.
+  setCorners(face) {
+    const { corners, front, three } = this, first = 3 * face;
+    let moves = false, isLate = !front.faces.has(face);
+    for (let i = 0; i < 3; i++) {
+      if (three[i] !== corners[first + i]) moves = true;
+      if (three[i] !== front.corners[first + i]) isLate = true;
+    }
+    if (moves) {
+      this.late.set(face, false);
+      this.shade(face, -1);
+      corners[first] = three[0]; corners[first + 1] = three[1]; corners[first + 2] = three[2];
+      this.shade(face, 1);
+      this.touched.faces.add(this.faces.of[face]);
+    }
+    this.late.set(face, isLate);
   }
 
   putFace(face) {
+    const { corners, front, nodes } = this;
     for (let at = 3 * face; at < 3 * face + 3; at++) {
-      this.corners[at] = this.front.corners[at];
-      check(this.nodes.has(this.corners[at]));
+      corners[at] = front.corners[at];
+      check(nodes.has(corners[at]));
     }
     this.faces.add(face);
     this.shade(face, 1);
@@ -187,10 +199,10 @@ export class KeptMesh {
   }
 
   removeFace(face) {
+    this.late.set(face, false);
     this.shade(face, -1);
     this.touched.faces.add(this.faces.of[face]);
     this.faces.remove(face);
-    this.setLate(face, false);
   }
 
   // Counts a face for its nodes and adds its normal to their sums, or takes both off.
@@ -211,24 +223,23 @@ export class KeptMesh {
   // which another corner is split. What is told of a face doesn't say which of several drawn nodes
   // would be its corner then.
   landUnclear(come) {
-    const { corners, front, leaving, landing, split, late } = this;
-    for (const face of come) {
-      for (let at = 3 * face; at < 3 * face + 3; at++) {
+    const { front, late, leaving, landing, near, split } = this;
+    for (let i = 0; i < come.length; i++) {
+      for (let at = 3 * come[i]; at < 3 * come[i] + 3; at++) {
         if (leaving.has(front.corners[at])) landing.add(front.corners[at]);
       }
     }
-    if (split.numbers.length === 0) return;
-    for (const face of late.at) {
-      const at = 3 * face;
-      const isNear = split.has(corners[at]) || split.has(corners[at + 1])
-        || split.has(corners[at + 2]);
-      if (isNear && !front.faces.has(face)) landing.add(this.meeting(face));
+    for (let i = 0; i < split.size; i++) late.markAt(split.at[i], near);
+    for (let i = 0; i < near.size; i++) {
+      if (!front.faces.has(near.at[i])) landing.add(this.meeting(near.at[i]));
     }
+    near.clear();
   }
 
   // Where two corners of a face that goes come together.
   meeting(face) {
-    const [a, b, c] = this.corners.subarray(3 * face, 3 * face + 3).map((one) => this.goals[one]);
+    const { corners, goals } = this, at = 3 * face;
+    const a = goals[corners[at]], b = goals[corners[at + 1]], c = goals[corners[at + 2]];
     const goal = a === b ? a : c;
     check((a === b || b === c || c === a) && this.leaving.has(goal));
     return goal;
@@ -237,44 +248,44 @@ export class KeptMesh {
   // Draws the nodes of the front that land, also those whose glides are over, and no longer those
   // that glide to them.
   land(now) {
-    const { corners, goals, landing, leaving, late } = this;
-    for (const [node, { until }] of leaving) if (now === null || until <= now) landing.add(node);
-    const lands = (at) => goals[corners[at]] !== corners[at] && landing.has(goals[corners[at]]);
-    for (let i = late.size - 1; i >= 0 && landing.numbers.length > 0; i--) {
-      const face = late.at[i], at = 3 * face;
-      if (!lands(at) && !lands(at + 1) && !lands(at + 2)) continue;
-      this.setCorners(face, (one) => (lands(one) ? goals[corners[one]] : corners[one]));
-      if (this.isFlat(face)) this.removeFace(face);
-    }
-    for (const node of landing.numbers) {
-      for (const one of leaving.get(node).nodes) this.removeNode(one);
-      leaving.delete(node);
-      this.starts[4 * node + 3] = THERE;
-      this.addNode(node);
-    }
+    const { landing, late, leaving, near } = this;
+    leaving.markOver(now, landing);
+    for (let i = 0; i < landing.size; i++) leaving.markAt(landing.at[i], late, near);
+    for (let i = 0; i < near.size; i++) this.landFace(near.at[i]);
+    for (let i = 0; i < landing.size; i++) this.landNode(landing.at[i]);
+    near.clear();
     landing.clear();
   }
 
-  isFlat(face) {
-    const { corners } = this, a = corners[3 * face], b = corners[3 * face + 1];
-    const c = corners[3 * face + 2];
-    return a === b || b === c || c === a;
+  landFace(face) {
+    const { corners, goals, landing, three } = this, first = 3 * face;
+    for (let i = 0; i < 3; i++) {
+      const node = corners[first + i], goal = goals[node];
+      three[i] = landing.has(goal) ? goal : node;
+    }
+    const isFlat = three[0] === three[1] || three[1] === three[2] || three[2] === three[0];
+    if (isFlat) this.removeFace(face);
+    else this.setCorners(face);
+  }
+
+  landNode(goal) {
+    const { nodes } = this.leaving;
+    for (let one = this.leaving.drop(goal); one >= 0; one = nodes.next[one]) this.removeNode(one);
+    this.starts[4 * goal + 3] = THERE;
+    this.addNode(goal);
   }
 
   // What becomes another in textures, and how large the front and what is drawn are.
   patch() {
-    const { nodes, faces, touched, colours, front, leaving } = this;
-    const shown = touched.nodes.numbers.filter((node) => nodes.has(node));
-    const slots = touched.faces.numbers.filter((slot) => slot < faces.size);
+    const { nodes, faces, touched, front, leaving } = this;
+    const cells = cellsOf(this, touched.nodes.standing(nodes));
+    const corners = cornersAt(this, touched.faces.numbers.filter((slot) => slot < faces.size));
     touched.nodes.clear();
     touched.faces.clear();
-    const cells = cellsOf(this, shown);
-    if (colours !== null) cells.colours = coloursOf(colours, shown);
     return {
       nodeCount: front.nodes.size, faceCount: front.faces.size,
       drawn: faces.size, glides: leaving.size > 0,
-      nodes: { slots: Int32Array.from(shown.map((node) => nodes.of[node])), ...cells },
-      faces: { slots: Int32Array.from(slots), corners: cornersAt(this, slots) },
+      nodes: cells, faces: corners,
     };
   }
 }

@@ -8,16 +8,16 @@ export function coordinate(units, digits) {
 }
 
 // The lines of the nodes and faces, whose corners are told by the numbers of the nodes' lines.
-export function objText({ nodes, faces }, digits) {
+export function objText({ nodes, places, faces, corners }, digits) {
   const lines = [], numbers = new Map();
-  for (let i = 0; i < nodes.length; i += 4) {
-    numbers.set(nodes[i], i / 4 + 1);
-    const place = [...nodes.subarray(i + 1, i + 4)].map((c) => coordinate(c, digits));
+  nodes.forEach((node, i) => {
+    numbers.set(node, i + 1);
+    const place = [...places.subarray(3 * i, 3 * i + 3)].map((c) => coordinate(c, digits));
     lines.push(`v ${place.join(" ")}\n`);
-  }
-  for (let i = 0; i < faces.length; i += 4) {
-    const corners = [...faces.subarray(i + 1, i + 4)].map((node) => numbers.get(node));
-    lines.push(`f ${corners.join(" ")}\n`);
-  }
+  });
+  faces.forEach((_, i) => {
+    const three = [...corners.subarray(3 * i, 3 * i + 3)].map((node) => numbers.get(node));
+    lines.push(`f ${three.join(" ")}\n`);
+  });
   return lines.join("");
 }

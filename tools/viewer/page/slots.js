@@ -1,32 +1,26 @@
 // Where nodes and faces stand in textures, and which of them have changed.
-const NOWHERE = -1;
+export const NOWHERE = -1;
 
 // Numbers that stand where they are until they go, and leave holes for those that come.
 export class Slots {
   constructor(count) {
     this.of = new Int32Array(count).fill(NOWHERE);
-    this.at = [];
-    this.holes = [];
+    this.holes = new Int32Array(count);
+    this.end = 0;       // of the slots that were taken once
+    this.holeCount = 0;
   }
 
-  get size() { return this.at.length - this.holes.length; }
+  get size() { return this.end - this.holeCount; }
 
   has(number) { return this.of[number] >= 0; }
 
   add(number) {
-    const slot = this.holes.pop() ?? this.at.length;
-    this.of[number] = slot;
-    this.at[slot] = number;
+    this.of[number] = this.holeCount > 0 ? this.holes[--this.holeCount] : this.end++;
   }
 
   remove(number) {
-    this.at[this.of[number]] = NOWHERE;
-    this.holes.push(this.of[number]);
+    this.holes[this.holeCount++] = this.of[number];
     this.of[number] = NOWHERE;
-  }
-
-  *[Symbol.iterator]() {
-    for (const number of this.at) if (number !== NOWHERE) yield number;
   }
 }
 
@@ -34,27 +28,28 @@ export class Slots {
 export class Row {
   constructor(count) {
     this.of = new Int32Array(count).fill(NOWHERE);
-    this.at = [];
+    this.at = new Int32Array(count);
+    this.size = 0;
   }
-
-  get size() { return this.at.length; }
 
   has(number) { return this.of[number] >= 0; }
 
   add(number) {
-    this.of[number] = this.at.length;
-    this.at.push(number);
+    this.of[number] = this.size;
+    this.at[this.size++] = number;
   }
 
   remove(number) {
-    const slot = this.of[number], last = this.at.pop();
+    const slot = this.of[number], last = this.at[--this.size];
     this.of[number] = NOWHERE;
     if (last === number) return;
     this.of[last] = slot;
     this.at[slot] = last;
   }
 
-  [Symbol.iterator]() { return this.at[Symbol.iterator](); }
+  get numbers() { return this.at.subarray(0, this.size); }
+
+  [Symbol.iterator]() { return this.numbers[Symbol.iterator](); }
 }
 
 // Numbers, each once, in the order in which they came first.
@@ -62,19 +57,59 @@ export class Marked {
   constructor(count) {
     this.rounds = new Uint32Array(count);
     this.round = 1;
-    this.numbers = [];
+    this.at = new Int32Array(count);
+    this.size = 0;
   }
 
   has(number) { return this.rounds[number] === this.round; }
 
   add(number) {
-    if (this.has(number)) return;
+    if (this.rounds[number] === this.round) return;
     this.rounds[number] = this.round;
-    this.numbers.push(number);
+    this.at[this.size++] = number;
+  }
+
+  get numbers() { return this.at.subarray(0, this.size); }
+
+  // The numbers that a row or slots have, and where they stand there.
+  standing({ of }) {
+    const numbers = this.numbers.filter((number) => of[number] >= 0);
+    return { numbers, slots: numbers.map((number) => of[number]) };
   }
 
   clear() {
     this.round++;
-    this.numbers = [];
+    this.size = 0;
+  }
+}
+
+// A list of numbers for each owner. A number is in one list at most.
+export class Lists {
+  constructor(owners, numbers) {
+    this.first = new Int32Array(owners).fill(NOWHERE);
+    this.next = new Int32Array(numbers);
+    this.before = new Int32Array(numbers);
+  }
+
+  add(owner, number) {
+    const { first, next, before } = this, second = first[owner];
+    next[number] = second;
+    before[number] = NOWHERE;
+    if (second >= 0) before[second] = number;
+    first[owner] = number;
+  }
+
+  remove(owner, number) {
+    const { first, next, before } = this, after = next[number], earlier = before[number];
+    if (earlier >= 0) next[earlier] = after;
+    else first[owner] = after;
+    if (after >= 0) before[after] = earlier;
+  }
+
+  // Empties a list; its numbers are still found from the first on, which is given.
+  drop(owner) {
+    const first = this.first[owner];
+    this.first[owner] = NOWHERE;
+    return first;
   }
 }

@@ -29,12 +29,16 @@ export class Texture {
   // Puts `values`, four for each, into some cells, and then the rows that have changed.
   change(slots, values) {
     this.gl.bindTexture(this.gl.TEXTURE_2D, this.texture);
-    this.makeRoom(slots.reduce((most, slot) => Math.max(most, slot), 0) + 1);
+    let most = 0;
+    for (let i = 0; i < slots.length; i++) most = Math.max(most, slots[i]);
+    this.makeRoom(most + 1);
     const { data } = this, isChanged = new Uint8Array(this.room + 1);
-    slots.forEach((slot, i) => {
-      for (let part = 0; part < 4; part++) data[4 * slot + part] = values[4 * i + part];
-      isChanged[Math.floor(slot / WIDTH)] = 1;
-    });
+    for (let i = 0, from = 0; i < slots.length; i++, from += 4) {
+      const to = 4 * slots[i];
+      data[to] = values[from]; data[to + 1] = values[from + 1];
+      data[to + 2] = values[from + 2]; data[to + 3] = values[from + 3];
+      isChanged[Math.floor(slots[i] / WIDTH)] = 1;
+    }
     for (let first = isChanged.indexOf(1); first >= 0; first = isChanged.indexOf(1, first)) {
       const end = isChanged.indexOf(0, first);
       this.upload(data, first, end - first);

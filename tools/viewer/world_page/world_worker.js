@@ -70,13 +70,10 @@ const tasks = {
 };
 
 // The hierarchy of a base mesh, which has no records, and its colours.
-function baseOf(name, { nodes, faces }) {
-  const count = nodes.length / 4, places = new Int16Array(3 * count);
-  for (let node = 0; node < count; node++) {
-    places.set(nodes.subarray(4 * node + 1, 4 * node + 4), 3 * node);
-  }
+function baseOf(name, frame) {
+  const { nodes: { length: count }, faces: { length: faces } } = frame;
   const parents = new Int32Array(count).fill(NO_PARENT), depths = new Uint8Array(count);
-  return [{ parents, depths, places, faces: faces.length / 4 }, tint(name, count)];
+  return [{ parents, depths, places: Int16Array.from(frame.places), faces }, tint(name, count)];
 }
 
 answerBy(tasks);
