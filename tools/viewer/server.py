@@ -24,11 +24,12 @@ from .websocket import WebSocket, accepted
 PAGE = Path(__file__).resolve().parent / "page"
 _KINDS = {".html": "text/html", ".css": "text/css", ".js": "text/javascript"}
 FILES = (
-    "index.html", "style.css", "boot.js", "camera.js", "cells.js", "connection.js", "controls.js",
-    "faults.js", "follower.js", "front.js", "glides.js", "hierarchy.js", "keeping.js", "layout.js",
-    "late.js", "leaving.js", "main.js", "matrices.js", "mesh.js", "normals.js", "obj.js",
-    "panel.js", "picking.js", "renderer.js", "replies.js", "scene.js", "session.js", "shaders.js",
-    "slots.js", "tasks.js", "textures.js", "views.js", "work.js", "worker.js",
+    "index.html", "style.css", "boot.js", "camera.js", "cells.js", "connection.js",
+    "controls.js", "faults.js", "folding.js", "follower.js", "front.js", "glides.js",
+    "hierarchy.js", "keeping.js", "late.js", "layout.js", "leaving.js", "main.js", "matrices.js",
+    "mesh.js", "normals.js", "obj.js", "panel.js", "picking.js", "renderer.js", "replies.js",
+    "scene.js", "session.js", "shaders.js", "slots.js", "tasks.js", "textures.js", "views.js",
+    "work.js", "worker.js",
 )
 Content = Tuple[str, Callable[[], bytes]]  # its kind, and what gives it
 LONGEST_BODY = 1 << 10

@@ -4,6 +4,7 @@ import { farther, homeOf } from "./camera.js";
 import { GONE } from "./connection.js";
 import { Controls } from "./controls.js";
 import { showFault } from "./faults.js";
+import { foldWhereNarrow, toggle } from "./folding.js";
 import { copy, saveFlight, saveMesh, savePicture } from "./keeping.js";
 import { Glides } from "./glides.js";
 import * as panel from "./panel.js";
@@ -88,7 +89,7 @@ class Viewer {
       moved: () => this.moved(),
       picked: (x, y) => this.pick(x, y),
       keys: {
-        ...panel.KEYS, r: () => this.home(), p: () => this.savePicture(), h: () => panel.toggle(),
+        ...panel.KEYS, r: () => this.home(), p: () => this.savePicture(), h: toggle,
       },
     });
     panel.watchPanel((name) => this.settingChanged(name));
@@ -98,8 +99,8 @@ class Viewer {
       "save-mesh": () => saveMesh(this.work),
       "copy-view": () => this.copyView(),
       home: () => this.home(),
-      hide: () => panel.toggle(),
-      unhide: () => panel.toggle(),
+      hide: toggle,
+      unhide: toggle,
     });
     addEventListener("resize", () => this.change({}));
   }
@@ -290,4 +291,5 @@ class Viewer {
   }
 }
 
+foldWhereNarrow();
 boot((canvas) => new Viewer(canvas));

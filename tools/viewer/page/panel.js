@@ -6,7 +6,6 @@ export const counted = (n) => n.toLocaleString("en");
 const pixels = (n) => `${n < 10 ? Number(n.toFixed(2)) : Math.round(n)} px`;
 const milliseconds = (n) => (n < 10 ? n.toFixed(1) : n.toFixed(0));
 const kilobytes = (n) => `${counted(Math.round(n / 1024))} kB`;
-const NARROW = 560; // pixels, below which the settings would hide the picture
 export const ALL_MOVES = 4294967295;
 
 // A budget of the command line, which the slider may be unable to show; null once it was moved.
@@ -57,7 +56,6 @@ export function sayModel({ name, proved, prepared, coloured, budget }) {
   part("notice").hidden = notices.length === 0;
   document.querySelector("input[value=own]").disabled = !coloured;
   if (coloured) choose("own")();
-  if (innerWidth < NARROW && !part("panel").hidden) toggle();
   told.budget = budget;
   part("budget").value = Math.round(Math.log2(Math.max(1, budget)));
 }
@@ -88,11 +86,6 @@ export const KEYS = {
   b: press("beside"), y: press("upright"), d: other("judged"),
   1: choose("stone"), 2: choose("depth"), 3: choose("own"), 4: choose("wire"),
 };
-
-export function toggle() {
-  part("panel").hidden = !part("panel").hidden;
-  part("unhide").hidden = !part("panel").hidden;
-}
 
 // What is shown, what it took, and how often it changes.
 let said = "";

@@ -6,7 +6,7 @@ from frames import read_frames
 from viewer.program import replies_to
 
 from .common import model, program
-from .pages import Page
+from .pages import HEIGHT, WIDTH, Page
 
 
 class Detail(Page):
@@ -114,6 +114,40 @@ class Detail(Page):
         self.slide("budget", 20)
         self.page.until("viewer.session.budget === 4294967295 && viewer.isSettled")
         self.assertGreater(self.faces(), 1000)
+
+
+class Folding(Page):
+    hidden = "[panel, unhide].map((name) => name.hidden)"
+
+    def resize(self, width: int, height: int) -> None:
+        self.page.resize(width, height)
+        self.page.until(f"innerWidth === {width} && {self.settled}")
+
+    def test_in_a_narrow_window_settings_are_folded_until_their_button_is_pressed(self) -> None:
+        self.addCleanup(self.page.resize, WIDTH, HEIGHT)
+        for width, height in ((390, 844), (700, 480), (720, 900)):
+            self.page.resize(width, height)
+            self.look_at(model("asteroid.obj"))
+            self.assertEqual(self.value(self.hidden), [True, False])
+            self.press("#unhide")
+            self.assertEqual(self.value(self.hidden), [False, False])
+            self.assertEqual(self.text("unhide"), "Close")
+            top, bottom = self.value(
+                "(({ top, bottom }) => [top, bottom])(panel.getBoundingClientRect())"
+            )
+            self.assertGreater(top, height / 2)
+            self.assertLessEqual(bottom, height)
+            self.press("input[value=distance]+span")
+            self.settle()
+            self.assertTrue(self.asked().startswith("v "))
+            self.press("#unhide")
+            self.assertEqual(self.value(self.hidden), [True, False])
+
+    def test_settings_fold_as_a_window_becomes_narrow(self) -> None:
+        self.addCleanup(self.page.resize, WIDTH, HEIGHT)
+        for width, hidden in ((721, [False, True]), (720, [True, False]), (900, [False, True])):
+            self.resize(width, HEIGHT)
+            self.assertEqual(self.value(self.hidden), hidden)
 
 
 class Failing(Page):

@@ -4,6 +4,7 @@ import { boot } from "./boot.js";
 import { farther, focalOf, homeOf } from "./camera.js";
 import { Controls } from "./controls.js";
 import { showFault } from "./faults.js";
+import { foldWhereNarrow, toggle } from "./folding.js";
 import { Glides } from "./glides.js";
 import { counted, rowOf } from "./panel.js";
 import { NO_FACE, Renderer, watchTheme } from "./renderer.js";
@@ -83,6 +84,7 @@ class WorldViewer {
     part("panel").addEventListener("input", () => this.changed());
     part("panel").addEventListener("submit", (event) => event.preventDefault());
     part("home").onclick = () => this.goHome();
+    part("unhide").onclick = toggle;
     addEventListener("resize", () => { this.dirty = true; });
     this.changed();
   }
@@ -179,4 +181,5 @@ class WorldViewer {
   }
 }
 
+foldWhereNarrow();
 boot((canvas) => new WorldViewer(canvas));
