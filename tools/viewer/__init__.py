@@ -8,6 +8,7 @@
     manual      the cures that docs/COMMANDS.md has for faults
     program     the child `vdpm live` over pipes
     library     the same by the library, in this process
+    arrays      what it tells as arrays, and not as lines
     showing     a model and its program, which may be started anew
     server      the page, and what it asks for
     websocket   the server's end of the line over which scripts come

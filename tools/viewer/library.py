@@ -5,14 +5,15 @@ import threading
 import time
 from concurrent.futures import ThreadPoolExecutor
 from pathlib import Path
-from typing import List, Optional
+from typing import List, Optional, Tuple
 
 from quick_start.record import is_current
 from quick_start.sources import LIBRARY
 from quick_start.sources import Program as Sources
 
 from . import manual
-from .program import MARKING, Answer, ProgramEnded, marks, script_lines
+from .arrays import Arrays, can_tell, change_of, frame_of
+from .program import GOING_ON, MARKING, Answer, ProgramEnded, marks, script_lines
 
 TOP = Path(__file__).resolve().parent.parent.parent
 NOT_BUILT = "the library isn't built of these sources"
@@ -55,20 +56,27 @@ class LibraryProgram:
             raise ProgramEnded(f"{library}: {fault}") from fault
         self.opening = 1000 * (time.perf_counter() - begun)
 
-    def ask(self, text: str) -> Answer:
-        """The replies to the lines of a script."""
+    def ask(self, text: str, arrays: bool = False) -> Answer:
+        """The replies to the lines of a script; with `arrays`, its frame or change as arrays where
+        it has just one, and the library can."""
         lines = script_lines(text)
+        asked = arrays and can_tell(self._vdpm) and sum(line in GOING_ON for line in lines) == 1
         with self._lock:
             if self._closed:
                 raise ProgramEnded("the session was closed")
-            return self._thread.submit(self._done, lines).result()
+            return self._thread.submit(self._done, lines, asked).result()
 
-    def _done(self, lines: List[str]) -> Answer:
+    def _done(self, lines: List[str], asked: bool) -> Answer:
         begun, first, replies = time.perf_counter(), None, []
+        arrays: Optional[Arrays] = None
         for line in lines:
             self._lines += 1
             try:
-                replies.append(self._session.line(line))
+                if asked and line in GOING_ON:
+                    reply, arrays = self._told(line)
+                else:
+                    reply = self._session.line(line)
+                replies.append(reply)
             except self._vdpm.Fault as fault:
                 said = f"fault {fault.number} line {self._lines}"
                 raise ProgramEnded(said, manual.cure_of(said, manual.SCRIPT)) from fault
@@ -80,7 +88,10 @@ class LibraryProgram:
             self._mark = next(marks)
         first = first or end
         times = 1000 * (first - begun), 1000 * (end - first)
-        return Answer(b"".join(replies), *times, before, self._mark)
+        return Answer(b"".join(replies), *times, before, self._mark, arrays)
+
+    def _told(self, line: str) -> Tuple[bytes, Arrays]:
+        return change_of(self._session) if line == "d" else frame_of(self._session)
 
     def close(self) -> None:
         with self._lock:

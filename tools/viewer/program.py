@@ -19,6 +19,7 @@ from subprocess import PIPE
 from typing import IO, Iterator, List, NamedTuple, Optional, Sequence
 
 from . import manual
+from .arrays import Arrays
 
 try:
     import fcntl
@@ -44,7 +45,7 @@ _LINE = re.compile(
     rf"|b {_COUNT}|[wmdkl]"
 )
 MARKING = ("d", "k")  # lines after which the front is marked
-_GOING_ON = ("d", "w")  # lines whose reply goes on to a line `end`
+GOING_ON = ("d", "w")  # lines whose reply goes on to a line `end`
 marks = itertools.count(1)
 
 
@@ -69,6 +70,7 @@ class Answer(NamedTuple):
     rest: float  # until all was read: mostly the text of a frame or of what changed
     before: int = 0  # the marked front when the script came
     after: int = 0  # the marked front now
+    arrays: Optional[Arrays] = None  # what the text then has of a frame or a change no longer
 
 
 def script_lines(text: str) -> List[str]:
@@ -156,7 +158,7 @@ class _Awaited:
     frame and a change, which go on to their line `end`."""
 
     def __init__(self, lines: Sequence[str]) -> None:
-        self.marks = [b"\nend\n" if line in _GOING_ON else b"\n" for line in lines]
+        self.marks = [b"\nend\n" if line in GOING_ON else b"\n" for line in lines]
         self.done = 0
         self.searched = 0
 
@@ -208,8 +210,8 @@ class Program:
         """The child's number at the system."""
         return self._child.pid
 
-    def ask(self, text: str) -> Answer:
-        """The replies to the lines of a script."""
+    def ask(self, text: str, arrays: bool = False) -> Answer:
+        """The replies to the lines of a script: a text, whether arrays are asked for or not."""
         lines = script_lines(text)
         with self._lock:
             if self._closed:

@@ -6,8 +6,9 @@ only the printed address tells. A script or a start has to come from the page it
 Origin shows. No file is read from disk but those listed here.
 
 Scripts come by a WebSocket, a message each. The replies go back as bytes, since the page reads them
-several times faster than Python could, after four numbers of 32 bits: the program's two times, and
-which front was marked before the script and which is now. What went wrong goes back as a text.
+several times faster than Python could, after five numbers of 32 bits: the program's two times,
+which front was marked before the script and which is now, and how many bytes the replies have.
+Arrays may stand behind them (arrays.py). What went wrong goes back as a text.
 """
 import hmac
 import json
@@ -17,6 +18,7 @@ from http.server import BaseHTTPRequestHandler, ThreadingHTTPServer
 from pathlib import Path
 from typing import Callable, Dict, Optional, Tuple, Type
 
+from .arrays import packed
 from .program import ALL_MOVES, Answer, BadScript, ProgramEnded
 from .showing import Showing
 from .websocket import WebSocket, accepted
@@ -24,7 +26,7 @@ from .websocket import WebSocket, accepted
 PAGE = Path(__file__).resolve().parent / "page"
 _KINDS = {".html": "text/html", ".css": "text/css", ".js": "text/javascript"}
 FILES = (
-    "index.html", "style.css", "boot.js", "camera.js", "cells.js", "connection.js",
+    "index.html", "style.css", "arrays.js", "boot.js", "camera.js", "cells.js", "connection.js",
     "controls.js", "faults.js", "folding.js", "follower.js", "front.js", "glides.js",
     "hierarchy.js", "keeping.js", "late.js", "layout.js", "leaving.js", "main.js", "matrices.js",
     "mesh.js", "normals.js", "obj.js", "panel.js", "picking.js", "renderer.js", "replies.js",
@@ -172,7 +174,9 @@ class Page(BaseHTTPRequestHandler):
             line.send_text(json.dumps({"reason": fault.reason, "cure": fault.cure}))
         else:
             times, marks = (answer.first, answer.rest), (answer.before, answer.after)
-            line.send_bytes(struct.pack("<2f2I", *times, *marks), answer.text)
+            head = struct.pack("<2f3I", *times, *marks, len(answer.text))
+            body = packed(answer.text, answer.arrays) if answer.arrays else answer.text
+            line.send_bytes(head, body)
 
     def _body(self) -> Optional[str]:
         """The body; None where it was refused."""

@@ -3,6 +3,7 @@ import threading
 from pathlib import Path
 from typing import Dict, Optional, Union
 
+from .arrays import parted
 from .library import LibraryProgram, is_proved
 from .model import Model
 from .program import ALL_MOVES, Answer, Program, ProgramEnded, replies_to
@@ -50,13 +51,15 @@ class Showing:
             return self._program
 
     def ask(self, script: str) -> Answer:
-        """The replies to a script, which is then a part of the flight."""
+        """The replies to a script, whose lines are then a part of the flight. Where it asks for
+        arrays they come if the program can tell them."""
+        arrays, lines = parted(script)
         with self._lock:
             if self._program is None:
                 raise ProgramEnded("the program isn't running")
-            answer = self._program.ask(script)
-            self._flight += script.encode("ascii")
-            for line in script.splitlines():
+            answer = self._program.ask(lines, arrays)
+            self._flight += lines.encode("ascii")
+            for line in lines.splitlines():
                 if line.startswith("b "):
                     self.budget = int(line[2:])
         return answer

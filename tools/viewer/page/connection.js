@@ -1,6 +1,7 @@
 // The line to the server: what comes answers what was sent, in order.
+import { arraysOf } from "./arrays.js";
 
-const HEAD = 16; // bytes before the replies: two times, and two numbers of marked fronts
+const HEAD = 20; // bytes before the replies: two times, two numbers of marked fronts, and a size
 
 export const GONE = "The server doesn't answer any more, so ./viewer has ended. "
   + "Start it again, and open the address that it prints.";
@@ -31,8 +32,9 @@ export class Connection {
     for (const { reject } of this.waiting.splice(0)) reject(new Fault(GONE));
   }
 
-  // The bytes of the replies, the milliseconds of each part of the way, and the numbers of the
-  // fronts that were marked before the script and after it.
+  // The bytes of the replies, the arrays that came with them or null, how many bytes all had, the
+  // milliseconds of each part of the way, and the numbers of the fronts that were marked before the
+  // script and after it.
   ask(script) {
     return new Promise((resolve, reject) => {
       if (this.socket.readyState !== WebSocket.OPEN) throw new Fault(GONE);
@@ -52,9 +54,10 @@ export class Connection {
       reject(new Fault(reason, cure));
     } else {
       const [view, text] = new Float32Array(data, 0, 2);
-      const [before, after] = new Uint32Array(data, 8, 2);
+      const [before, after, size] = new Uint32Array(data, 8, 3);
       const times = { view, text, transfer: milliseconds - view - text };
-      resolve({ data: new Uint8Array(data, HEAD), times, before, after });
+      const replies = new Uint8Array(data, HEAD, size), arrays = arraysOf(data, HEAD + size);
+      resolve({ replies, arrays, bytes: data.byteLength - HEAD, times, before, after });
     }
   }
 }

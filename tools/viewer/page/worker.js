@@ -1,5 +1,6 @@
 // Talks with the server and keeps the mesh that is shown, by what changes. While the replies to one
 // script are read, the next may be on its way.
+import { ARRAYS } from "./arrays.js";
 import { Connection, fetched } from "./connection.js";
 import { Follower } from "./follower.js";
 import { meanColours, readHierarchy } from "./hierarchy.js";
@@ -19,7 +20,8 @@ const tasks = {
     const about = await (await fetched("about")).json();
     hierarchy = readHierarchy(await (await fetched("stream")).arrayBuffer());
     colours = about.coloured ? meanColours(hierarchy, await bytesOf("colours")) : null;
-    follower = new Follower(new KeptMesh(hierarchy, colours), talk);
+    const mesh = new KeptMesh(hierarchy, colours);
+    follower = new Follower(mesh, (script) => talk(`${ARRAYS}${script}`));
     const { digits, faces, deepest, low, high } = hierarchy;
     return { about, hierarchy: { digits, faces, deepest, low, high } };
   },
@@ -53,10 +55,10 @@ const tasks = {
 
 // The answer to a script, and where the time went, in milliseconds.
 async function talk(script) {
-  const { times: { view, text, transfer }, data, ...answer } = await connection.ask(script);
-  const cameAt = performance.now(), found = readReplies(data);
+  const { times, replies, arrays, bytes, ...answer } = await connection.ask(script);
+  const cameAt = performance.now(), found = readReplies(replies, arrays);
   const read = performance.now() - cameAt;
-  return { ...answer, ...found, cameAt, times: { view, text, transfer, read, bytes: data.length } };
+  return { ...answer, ...found, cameAt, times: { ...times, read, bytes } };
 }
 
 const bytesOf = async (path) => new Uint8Array(await (await fetched(path)).arrayBuffer());

@@ -1,13 +1,14 @@
 """The mesh that is kept by what changes: what is drawn is what the program shows."""
 import os
 import signal
-from typing import Dict, List, Tuple
+from typing import Dict, List, Optional, Tuple
 
 from frames import Frame
 from viewer.program import Answer, replies_to
 
 from .common import model, program
 from .pages import Page
+from .telling import without_first
 
 # The faces of the textures by number: the places of their corners, and their nodes' normals.
 DRAWN = """(() => {
@@ -50,7 +51,13 @@ def normals_of(frame: Frame) -> "Dict[int, Tuple[float, ...]]":
     return units
 
 
-class Following(Page):
+def remove(lines: List[bytes], place: int) -> List[bytes]:
+    return lines[:place] + lines[place + 1:]
+
+
+class Followed(Page):
+    """A page whose kept mesh is looked at."""
+
     def check(self, wholes: int, most: int = 0) -> int:
         """What is drawn is the front, and whole frames came so often, or up to `most` times; how
         often is given."""
@@ -78,6 +85,32 @@ class Following(Page):
     def fly(self, steps: int = 12, milliseconds: int = 30) -> None:
         self.value(f"{FLY}({steps}, {milliseconds})")
 
+    def without(self, answer: Answer, word: str) -> Optional[Answer]:
+        """The answer without the first line of its change that begins with a word, or without its
+        numbers where it has arrays; None where there is none."""
+        if answer.arrays is not None:
+            less = without_first(answer.arrays, word)
+            return less and answer._replace(arrays=less)
+        lines = answer.text.splitlines(keepends=True)
+        found = [place for place, line in enumerate(lines) if line.startswith(word.encode())]
+        return answer._replace(text=b"".join(remove(lines, found[0]))) if found else None
+
+    def spoil(self, word: str) -> None:
+        """Lets the next change that has one lack a line."""
+        ask = self.server.showing.ask
+
+        def spoilt(script: str) -> Answer:
+            answer = ask(script)
+            less = self.without(answer, word) if script.endswith("d\n") else None
+            if less is None:
+                return answer
+            setattr(self.server.showing, "ask", ask)
+            return less
+
+        setattr(self.server.showing, "ask", spoilt)
+
+
+class Following(Followed):
     def test_after_flights_budgets_picks_and_freezing(self) -> None:
         self.check(1)
         self.fly()
@@ -150,19 +183,9 @@ class Following(Page):
         self.check(2)
 
     def test_a_change_that_does_not_fit_is_made_good(self) -> None:
-        ask, wholes = self.server.showing.ask, 1
-        for tolerance, word in ((14, b"-f "), (8, b"-v "), (14, b"v "), (8, b"f ")):
-
-            def spoilt(script: str) -> Answer:
-                answer = ask(script)
-                lines = answer.text.splitlines(keepends=True)
-                found = [place for place, line in enumerate(lines) if line.startswith(word)]
-                if script.endswith("d\n") and found:
-                    del lines[found[0]]
-                    setattr(self.server.showing, "ask", ask)
-                return answer._replace(text=b"".join(lines))
-
-            setattr(self.server.showing, "ask", spoilt)
+        wholes = 1
+        for tolerance, word in ((14, "-f "), (8, "-v "), (14, "v "), (8, "f ")):
+            self.spoil(word)
             self.slide("tolerance", tolerance)
             self.fly(2)
             wholes = self.check(wholes + 1, wholes + 2)

@@ -14,6 +14,7 @@ from viewer.showing import Showing
 from .common import STREAM, Case, asked_at_once, end, model, program
 from .following import Following
 from .programs import VIEW
+from .telling import told
 
 
 def library() -> Optional[Path]:
@@ -38,6 +39,17 @@ class Libraries(Case):
             one, other = ours.ask(script), theirs.ask(script)
             self.assertEqual(one.text, other.text)
             self.assertEqual(one.before == one.after, other.before == other.after)
+
+    def test_its_arrays_have_the_numbers_of_its_texts(self) -> None:
+        ours, theirs = self.opened(), self.opened()
+        far, near = VIEW, VIEW.replace(" -900 ", " -90 ")
+        for script in ("w\nk\n", f"{near}\nd\n", f"{far}\nd\n", f"{near}\nd\nm\n", "d\n", "m\n"):
+            answer, text = ours.ask(script, arrays=True), theirs.ask(script)
+            if answer.arrays is None and script != "m\n":
+                self.skipTest("the library tells no change as arrays")
+            self.assertEqual((answer.text, answer.arrays), (told(text).text, told(text).arrays))
+        twice = "d\nw\n"
+        self.assertEqual(ours.ask(twice, arrays=True).text, theirs.ask(twice).text)
 
     def test_calls_from_several_threads_are_done_one_by_one(self) -> None:
         texts = asked_at_once(self.opened().ask, "w\nm\n", 8)

@@ -19,7 +19,7 @@ from viewer.server import FILES, PAGE, Server
 
 from .common import STREAM, TOP, Case, model, program
 
-HEAD = 16  # bytes of numbers before the replies
+HEAD = 20  # bytes of numbers before the replies
 # What plays a film is in the same folder, and isn't served.
 OF_FILMS = {"film.html", "film.js", "flight.js", "reel.js"}
 
@@ -160,7 +160,7 @@ class Serving(Case):
 
     def test_answers_tell_which_front_was_marked(self) -> None:
         line = self.line()
-        heads = [self.said(line, script)[8:HEAD] for script in ("w\n", "w\nk\n", "d\n")]
+        heads = [self.said(line, script)[8:16] for script in ("w\n", "w\nk\n", "d\n")]
         (one, same), (before, kept), (marked, last) = (struct.unpack("<2I", h) for h in heads)
         self.assertEqual((same, before, marked), (one, one, kept))
         self.assertNotEqual(last, kept)

@@ -32,8 +32,8 @@ async function followerOf(name) {
 }
 
 async function talk(name, script) {
-  const { data, ...answer } = await connection.ask(`tile ${name}\n${script}`);
-  return { ...answer, ...readReplies(data) };
+  const { replies, ...answer } = await connection.ask(`tile ${name}\n${script}`);
+  return { ...answer, ...readReplies(replies) };
 }
 
 const tasks = {
