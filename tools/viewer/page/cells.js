@@ -1,9 +1,9 @@
 // What stands in the cells of a drawn mesh's textures, four numbers each.
 import { putUnit } from "./normals.js";
 
-// Of nodes, which have their `numbers` and `slots`: the places to which they glide, with their
+// Of nodes, by their numbers and where they stand: the places to which they glide, with their
 // depths; normals; where and when their glides began; and colours, where there are some.
-export function cellsOf(mesh, { numbers, slots }) {
+export function cellsOf(mesh, numbers, slots) {
   const { sums, goals, starts: from, colours, hierarchy: { places: own, depths } } = mesh;
   const size = 4 * numbers.length;
   const places = new Int16Array(size), normals = new Int16Array(size);

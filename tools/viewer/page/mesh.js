@@ -278,8 +278,9 @@ export class KeptMesh {
   // What becomes another in textures, and how large the front and what is drawn are.
   patch() {
     const { nodes, faces, touched, front, leaving } = this;
-    const cells = cellsOf(this, touched.nodes.standing(nodes));
-    const corners = cornersAt(this, touched.faces.numbers.filter((slot) => slot < faces.size));
+    const slots = touched.nodes.standing(nodes);
+    const cells = cellsOf(this, touched.nodes.numbers, slots);
+    const corners = cornersAt(this, touched.faces.below(faces.size));
     touched.nodes.clear();
     touched.faces.clear();
     return {

@@ -71,10 +71,25 @@ export class Marked {
 
   get numbers() { return this.at.subarray(0, this.size); }
 
-  // The numbers that a row or slots have, and where they stand there.
+  // Drops the numbers that slots haven't, and gives where the others stand.
   standing({ of }) {
-    const numbers = this.numbers.filter((number) => of[number] >= 0);
-    return { numbers, slots: numbers.map((number) => of[number]) };
+    const { at, size } = this, slots = new Int32Array(size);
+    this.size = 0;
+    for (let i = 0; i < size; i++) {
+      const number = at[i];
+      if (of[number] < 0) continue;
+      slots[this.size] = of[number];
+      at[this.size++] = number;
+    }
+    return slots.slice(0, this.size);
+  }
+
+  // The numbers below another.
+  below(end) {
+    const { at, size } = this, found = new Int32Array(size);
+    let count = 0;
+    for (let i = 0; i < size; i++) if (at[i] < end) found[count++] = at[i];
+    return found.slice(0, count);
   }
 
   clear() {
