@@ -7,12 +7,12 @@ ghost use Rattle.pm_front.specs.Shown.{kept_faces};
 ghost use Rattle.pm_arrays.specs.Arrays.{face_nodes, face_positions, node_array, position_array};
 ghost use Rattle.pm_arrays.specs.Arrays.{ArePositions};
 
-use crate::store::{store, store_three};
+use crate::storing::{store, store_three};
 use pm_base::FaceId;
 use pm_front::Front;
 
-// The nodes at the corners of a kept face.
-fn corners_of(front: &Front, face: u32) -> [u32; 3]
+/// The nodes at the corners of a kept face, in its corner order.
+pub fn corners_of(front: &Front, face: u32) -> [u32; 3]
     requires there { face < face_count front.now.h }
     requires kept { is_kept front.now.h (set_of front.now.flags) face ≡ true }
     ensures { result ≡ face_nodes front.now.h (set_of front.now.flags) face }

@@ -5,8 +5,9 @@
 mod faces;
 mod laws;
 mod nodes;
-mod store;
+mod storing;
 
-pub use faces::write_faces;
+pub use faces::{corners_of, write_faces};
 pub use laws::positions_are_sound;
 pub use nodes::write_nodes;
+pub use storing::{store, store_place, store_three};

@@ -5,7 +5,7 @@ ghost use Rattle.pm_forest.specs.Forest.{node_count};
 ghost use Rattle.pm_front.specs.Shown.{active_nodes};
 ghost use Rattle.pm_arrays.specs.Arrays.{coordinates_of, place_array, ArePositions};
 
-use crate::store::{store, store_place};
+use crate::storing::{store, store_place};
 use pm_base::NodeId;
 use pm_front::Front;
 

@@ -4,7 +4,7 @@ ghost use Rattle.std.specs.Prelude.{◌≡◌, ◌+◌, ◌*◌, ◌≤◌, ◌<
 use pm_base::Point;
 
 /// Stores a number behind the first `count`.
-pub(crate) fn store(to: &mut [u32], count: usize, number: u32)
+pub fn store(to: &mut [u32], count: usize, number: u32)
     requires { count < length to.old }
     ensures stored { take (count + 1) to.new ≡ take count to.old ++ number ∷ [] }
     ensures len { length to.new ≡ length to.old }
@@ -13,7 +13,7 @@ pub(crate) fn store(to: &mut [u32], count: usize, number: u32)
 }
 
 /// Stores three numbers behind the first `count` threes.
-pub(crate) fn store_three(to: &mut [u32], count: usize, three: [u32; 3])
+pub fn store_three(to: &mut [u32], count: usize, three: [u32; 3])
     requires { 3 * count + 3 ≤ length to.old }
     ensures stored { take (3 * (count + 1)) to.new ≡ take (3 * count) to.old ++ three }
     ensures len { length to.new ≡ length to.old }
@@ -34,7 +34,7 @@ fn store_coordinate(to: &mut [i32], count: usize, number: i32)
 }
 
 /// Stores a place behind the first `count` places.
-pub(crate) fn store_place(to: &mut [i32], count: usize, place: &Point)
+pub fn store_place(to: &mut [i32], count: usize, place: &Point)
     requires { 3 * count + 3 ≤ length to.old }
     ensures stored { take (3 * (count + 1)) to.new ≡ take (3 * count) to.old ++ place.now.x
         ∷ place.now.y ∷ place.now.z ∷ [] }
