@@ -7,3 +7,5 @@ pub mod Laws
 pub mod Parts
 pub mod Gathering
 pub mod Costs
+pub mod Arrays
+pub mod Storing

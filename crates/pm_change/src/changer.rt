@@ -1,14 +1,20 @@
 //! Writes what changed since a marked front.
-ghost use Rattle.std.specs.Prelude.{◌≡◌, ◌+◌, ◌<◌, ◌≤◌, IfOk};
+ghost use Rattle.std.specs.Prelude.{◌≡◌, ◌+◌, ◌<◌, ◌≤◌, length, IfOk, IfErr, OnOk, OnErr};
 ghost use Rattle.pm_io.specs.Puts.{Puts};
 ghost use Rattle.pm_base.specs.Counts.{set_of};
+ghost use Rattle.pm_forest.specs.Forest.{Hierarchy};
 ghost use Rattle.pm_morph.specs.Marks.{AreMarksOf};
 ghost use Rattle.pm_change.specs.Room.{room_of};
 ghost use Rattle.pm_change.specs.Texts.{change_text};
 ghost use Rattle.pm_change.specs.Costs.{most_steps};
+ghost use Rattle.pm_change.specs.Changes.{change_of};
+ghost use Rattle.pm_change.specs.Arrays.{sizes_of_change, ChangeFits, BeginWith};
+ghost use Rattle.pm_change.specs.Gathering.{AreEmptySets, AreSetsOf, HaveRoomFor};
 
 use crate::OutOfMemory;
+use crate::fitting::ChangeSizes;
 use crate::sets::ChangeSets;
+use crate::storing::store_sets;
 use crate::telling::write_sets;
 use pm_forest::Hierarchy;
 use pm_front::Front;
@@ -59,6 +65,32 @@ fn write_uncounted<K: Sink, L: Ledger>(
 {
     let mut steps: Steps<L> = Steps::new(blank);
     changer.write_counted(front, marks, &mut steps, out)
+}
+
+// Gathers a change where nobody counts the steps.
+fn gather_uncounted<L: Ledger>(sets: &mut ChangeSets, front: &Front, marks: &[bool], blank: Blank)
+    requires marks { AreMarksOf front.now.h marks.now }
+    requires room { HaveRoomFor front.now.h sets.old }
+    requires empty { AreEmptySets sets.old }
+    requires name { blank.name ≡ L.name }
+    requires parts { blank.parts ≡ L.parts }
+    requires some { 0 < L.parts }
+    ensures { AreSetsOf front.now.h (set_of marks.now) (set_of front.now.flags) sets.new }
+{
+    let mut steps: Steps<L> = Steps::new(blank);
+    sets.gather(front, marks, &mut steps);
+}
+
+// Takes all numbers out where nobody counts the steps.
+fn clear_uncounted<L: Ledger>(sets: &mut ChangeSets, blank: Blank)
+    requires name { blank.name ≡ L.name }
+    requires parts { blank.parts ≡ L.parts }
+    requires some { 0 < L.parts }
+    ensures room { (h : Hierarchy) → HaveRoomFor h sets.old → HaveRoomFor h sets.new }
+    ensures empty { AreEmptySets sets.new }
+{
+    let mut steps: Steps<L> = Steps::new(blank);
+    sets.clear(&mut steps);
 }
 
 impl Changer {
@@ -118,6 +150,65 @@ impl Changer {
         self.sets.gather(front, marks, steps);
         let told = write_sets(front, marks, &self.sets, steps, out);
         self.sets.clear(steps);
+        told
+    }
+
+    /// Writes the same change to the front of the arrays, each ascending: the faces and the nodes
+    /// that are gone; the nodes that are new, and their places, three coordinates for each; and the
+    /// faces that are new or have another corner, and the nodes at their corners, three for each.
+    /// It answers how many entries the lists have. It is refused exactly where an array has less
+    /// room, with the same answer, and nothing is written then: a caller can make room and ask
+    /// again. It takes no memory, and costs what `write_counted` says.
+    pub fn store(
+        &mut self,
+        front: &Front,
+        marks: &[bool],
+        gone_faces: &mut [u32],
+        gone_nodes: &mut [u32],
+        new_nodes: &mut [u32],
+        new_places: &mut [i32],
+        put_faces: &mut [u32],
+        put_corners: &mut [u32],
+    ) -> Result<ChangeSizes, ChangeSizes>
+        requires room { self.old ≡ room_of front.now.h }
+        requires marks { AreMarksOf front.now.h marks.now }
+        ensures fits { let c = change_of front.now.h (set_of marks.now) (set_of front.now.flags) in
+            OnOk result (ChangeFits (sizes_of_change c) (length gone_faces.old)
+            (length gone_nodes.old) (length new_nodes.old) (length new_places.old)
+            (length put_faces.old) (length put_corners.old)) }
+        ensures refused { let c = change_of front.now.h (set_of marks.now)
+            (set_of front.now.flags) in
+            OnErr result (ChangeFits (sizes_of_change c) (length gone_faces.old)
+            (length gone_nodes.old) (length new_nodes.old) (length new_places.old)
+            (length put_faces.old) (length put_corners.old) → ⊥) }
+        ensures sizes { let c = change_of front.now.h (set_of marks.now) (set_of front.now.flags) in
+            IfOk result (λ s. s ≡ sizes_of_change c) }
+        ensures wanted { let c = change_of front.now.h (set_of marks.now)
+            (set_of front.now.flags) in
+            IfErr result (λ s. s ≡ sizes_of_change c) }
+        ensures arrays { let c = change_of front.now.h (set_of marks.now)
+            (set_of front.now.flags) in
+            OnOk result (BeginWith c gone_faces.new gone_nodes.new new_nodes.new new_places.new
+            put_faces.new put_corners.new) }
+        ensures unwritten { OnErr result ((gone_faces.new ≡ gone_faces.old)
+            × (gone_nodes.new ≡ gone_nodes.old) × (new_nodes.new ≡ new_nodes.old)
+            × (new_places.new ≡ new_places.old) × (put_faces.new ≡ put_faces.old)
+            × (put_corners.new ≡ put_corners.old)) }
+        ensures same { self.new ≡ self.old }
+    {
+        front.invariant();
+        gather_uncounted::<Brand>(&mut self.sets, front, marks, Blank::new(1));
+        let told = store_sets(
+            front,
+            &self.sets,
+            gone_faces,
+            gone_nodes,
+            new_nodes,
+            new_places,
+            put_faces,
+            put_corners,
+        );
+        clear_uncounted::<Brand>(&mut self.sets, Blank::new(1));
         told
     }
 }
