@@ -2,14 +2,21 @@
 #![tactic(auto)]
 
 mod cutting;
+mod fault;
 mod limits;
 mod lines;
+mod read;
+mod reader;
 mod state;
+mod step;
 mod text;
 
 pub use cutting::any_cutting;
+pub use fault::{LineFault, TextFail};
 pub use limits::{MOST_LINE_BYTES, MOST_TEXT_BYTES};
 pub use lines::Lines;
+pub use read::read_lines;
+pub use reader::LineReader;
 pub use state::{Fed, LineState};
 pub use text::{is_continued, until};
 

@@ -142,6 +142,14 @@ impl Lines {
         self.state
     }
 
+    /// The last whole line without its LF. The last answer was `Whole` or `Continued`.
+    pub fn text(&self) -> &[u8]
+        requires { is_line self.now.state ≡ true }
+        ensures { result.now ≡ self.now.text }
+    {
+        &self.text
+    }
+
     /// What is read of the last whole line: not its LF, nor one CR at its end, nor a comment. The
     /// last answer was `Whole` or `Continued`.
     pub fn line(&self) -> &[u8]
