@@ -1,8 +1,10 @@
 -- Canonical text is read as its mesh.
-use Rattle.std.proofs.Common.{◌≡◌, ℕ, ◌+◌, ◌*◌, ◌<◌, ◌≤◌, List, [], ◌∷◌, ◌++◌, length}
+use Rattle.std.proofs.Common.{◌≡◌, ℕ, ◌+◌, ◌*◌, ◌<◌, ◌≤◌, min, nat_lt, false, List, [], ◌∷◌}
+use Rattle.std.proofs.Common.{◌++◌, length}
 use Rattle.std.proofs.Common.{slice_index_or, Ok, refl, sym, ◌∙◌, ap, subst, arith, append_assoc}
 use Rattle.std.proofs.Common.{length-append}
 use Rattle.std.specs.List.{All, flat_map}
+use Rattle.std.proofs.lemmas.Bool.{le-ltb}
 use Rattle.std.proofs.lemmas.List.{append-nil}
 use Rattle.std.proofs.lemmas.List.Elements.{All-head, All-tail}
 use Rattle.pm_base.specs.Place.{Place, IsPlace}
@@ -16,10 +18,10 @@ use Rattle.obj_read.specs.declared.found.Found.{Found}
 use Rattle.obj_read.specs.declared.found.Found.TheVariants as found
 use Rattle.obj_read.specs.Judged.{line_found}
 use Rattle.obj_read.specs.Fits.{with_found}
-use Rattle.obj_read.specs.Meaning.{SoFar, nothing_yet, and_line, then_lines, meaning_from}
+use Rattle.obj_read.specs.Meaning.{SoFar, nothing_yet, read_alone, and_line, then_lines}
+use Rattle.obj_read.specs.Meaning.{meaning_from}
 use Rattle.obj_read.specs.Meaning.{meaning_of}
 use Rattle.obj_read.specs.Texts.{CanonicalIsRead}
-use Rattle.obj_read.proofs.JudgeLaws.{judged_line}
 use Rattle.obj_read.proofs.LineLaws.{IsWritten, point_written, face_written}
 
 -- This text makes this mesh of what stands before it, whatever lines follow.
@@ -56,6 +58,22 @@ reads_all : (s : SoFar) (text : List ℕ) (m : Mesh) → Reads s text m
     → meaning_from s (lines text) ≡ Ok m
 reads_all s text m r =
     ap (λ (l : List ℕ). meaning_from s (lines l)) (sym (append-nil text)) ∙ r.same [] ∙ ap Ok r.mesh
+
+-- A line that is neither too long nor past the end of the text is judged by what is read of it.
+judged_line : (s : SoFar) (text line : List ℕ) → until 10 line ≡ text → length text ≤ 65536
+    → s.bytes + length line ≤ 1073741824
+    → read_alone s line ≡ line_found s.digits (length s.mesh.points) (length s.mesh.faces)
+    (content text)
+unfolding read_alone
+judged_line s text line is short within =
+    let past : nat_lt 1073741824 (s.bytes + min (length line) 65537) ≡ false =
+    le-ltb _ _ (omega arith) in
+    let n : length (until 10 line) ≤ 65536 =
+    subst (λ (l : List ℕ). length l ≤ 65536) (sym is) short in
+    let long : nat_lt 65536 (length (until 10 line)) ≡ false = le-ltb _ _ n in
+    rw (past, long)
+    (ap (λ (l : List ℕ). line_found s.digits (length s.mesh.points) (length s.mesh.faces)
+    (content l)) is)
 
 -- One whole line.
 pub reads_line : (s : SoFar) (line : List ℕ) (f : Found) → until 10 line ≡ line

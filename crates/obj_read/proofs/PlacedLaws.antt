@@ -19,7 +19,8 @@ use Rattle.obj_read.specs.Indices.{index, index_text}
 use Rattle.obj_read.specs.Judged.{vertex_of, face_read, vertex_line, face_line, fields_found}
 use Rattle.obj_read.specs.Judged.{line_found}
 use Rattle.obj_read.specs.Fits.{with_found}
-use Rattle.obj_read.specs.Meaning.{SoFar, Refused, nothing_yet, is_past, is_long, read_alone}
+use Rattle.obj_lines.specs.Rules.{is_past, is_long}
+use Rattle.obj_read.specs.Meaning.{SoFar, Refused, nothing_yet, read_alone}
 use Rattle.obj_read.specs.Meaning.{and_line, then_lines, meaning_from, meaning_of}
 use Rattle.obj_read.proofs.DecimalLaws.{with_sign_abs}
 use Rattle.obj_read.proofs.FormedLaws.{Gives, given, anything, then_gives, unless, either}

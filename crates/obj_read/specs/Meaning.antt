@@ -1,15 +1,14 @@
 -- The meaning of a text in the syntax of Wavefront OBJ: its mesh, or its first line with a fault.
-use Rattle.std.specs.Prelude.{ℕ, ◌+◌, List, [], ◌∷◌, Bool, min, nat_lt, length, Option, Some, None}
-use Rattle.std.specs.Prelude.{Result, Ok, Err, if◌then◌else◌}
-use Rattle.obj_lines.specs.declared.limits.TheConstants.{MOST_LINE_BYTES, MOST_TEXT_BYTES}
+use Rattle.std.specs.Prelude.{ℕ, ◌+◌, List, [], ◌∷◌, length, Option, Result, Ok, Err}
+use Rattle.std.specs.Prelude.{if◌then◌else◌}
 use Rattle.pm_base.specs.Meshes.{Mesh}
 use Rattle.obj_lines.specs.Text.{until, lines, content}
+use Rattle.obj_lines.specs.Rules.{is_past, is_long, place}
 use Rattle.obj_read.specs.declared.fault.ObjFault.{ObjFault}
 use Rattle.obj_read.specs.declared.fault.ObjFault.TheVariants as faults
 use Rattle.obj_read.specs.declared.found.Found.{Found}
 use Rattle.obj_read.specs.Judged.{line_found}
 use Rattle.obj_read.specs.Fits.{with_found}
-use Rattle.obj_lines.specs.Feeding.{has_end}
 
 -- How many decimals a coordinate has, and what the lines before gave: how many bytes they have, the
 -- number of the next line, and the mesh so far.
@@ -26,15 +25,6 @@ pub record Refused : Type 0 where
   pub line : ℕ
   pub place : Option ℕ
 
--- The first byte too many of the text is among the bytes of a line of this length after so many
--- bytes, up to the first too many of the line.
-abbrev pub is_past : ℕ → ℕ → Bool
-is_past bytes length = nat_lt MOST_TEXT_BYTES (bytes + min length (MOST_LINE_BYTES + 1))
-
--- The line has too many bytes before its LF.
-abbrev pub is_long : List ℕ → Bool
-is_long line = nat_lt MOST_LINE_BYTES (length (until 10 line))
-
 -- A line judged alone, given how many decimals a coordinate has, and how many bytes, vertices and
 -- faces stand before it.
 unfoldable pub read_alone : SoFar → List ℕ → Result Found ObjFault
@@ -42,15 +32,6 @@ read_alone s line =
     if is_past s.bytes (length line) then Err faults.TooMany
     else if is_long line then Err faults.LineTooLong
     else line_found s.digits (length s.mesh.points) (length s.mesh.faces) (content (until 10 line))
-
--- The number from 1 of the byte that shows a line's fault, after so many bytes: the one too many in
--- the text or in the line, else the line's LF. The end of input shows it where there is none.
-unfoldable pub place : ℕ → List ℕ → Option ℕ
-place bytes line =
-    if is_past bytes (length line) then Some (MOST_TEXT_BYTES + 1)
-    else if is_long line then Some (bytes + (MOST_LINE_BYTES + 1))
-    else if has_end line then Some (bytes + length line)
-    else None
 
 -- After one line more.
 unfoldable pub and_line : SoFar → List ℕ → Found → SoFar

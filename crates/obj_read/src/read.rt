@@ -7,10 +7,10 @@ ghost use Rattle.obj_read.specs.Fails.{Explains, of_source};
 ghost use Rattle.obj_read.specs.Meaning.{meaning_of};
 
 use crate::fault::ObjFail;
-use crate::step::{Progress, finish, step};
-use obj_lines::Lines;
+use crate::reader::Reader;
+use obj_lines::{TextFail, read_lines};
 use pm_base::{Mesh, Points, Triples};
-use pm_io::{Source, Taker};
+use pm_io::Source;
 use std::alloc::Global;
 
 /// Reads a source to its end, and answers the mesh that its bytes spell.
@@ -33,33 +33,20 @@ pub fn read_obj<S: Source>(alloc: Global, digits: u32, source: &mut S) -> Result
     ensures err { IfErr result (λ e. Explains digits e (S.left source.old) (S.left source.new)) }
     ensures cause { HasCause (S.faults source.old) (S.faults source.new) (of_source result) }
 {
-    let mut mesh = Mesh {
-        points: Points::new(alloc),
-        faces: Triples::new(alloc),
+    let mut reader = Reader {
+        digits,
+        mesh: Mesh {
+            points: Points::new(alloc),
+            faces: Triples::new(alloc),
+        },
     };
-    let Ok(mut taker) = Taker::new(alloc) else {
-        return Err(ObjFail::OutOfMemory);
-    };
-    let Ok(mut lines) = Lines::new(alloc) else {
-        return Err(ObjFail::OutOfMemory);
-    };
-    let mut progress = Progress {
-        taken: 0,
-        start: 0,
-        number: 1,
-    };
-    loop {
-        match step(
-            digits,
-            source,
-            &mut taker,
-            &mut lines,
-            &mut mesh,
-            &mut progress,
-        ) {
-            Err(fail) => return Err(fail),
-            Ok(false) => return finish(digits, mesh, lines, progress),
-            Ok(true) => {}
-        }
+    match read_lines(alloc, source, &mut reader) {
+        Ok(_) => Ok(reader.mesh),
+        Err(TextFail::Fault(why)) => Err(ObjFail::Fault {
+            fault: why.fault,
+            line: why.line,
+        }),
+        Err(TextFail::Read) => Err(ObjFail::Read),
+        Err(TextFail::OutOfMemory) => Err(ObjFail::OutOfMemory),
     }
 }

@@ -2,11 +2,7 @@ pub mod PolygonLaws
 pub mod IndexLaws
 pub mod ScanLaws
 pub mod ReturnLaws
-pub mod JudgeLaws
-pub mod PlaceLaws
-pub mod StandLaws
-pub mod StepLaws
-pub mod FinishLaws
+pub mod ReaderLaws
 pub mod NumberLaws
 pub mod FormLaws
 pub mod BareLaws

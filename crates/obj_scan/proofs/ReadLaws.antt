@@ -6,11 +6,12 @@ use Rattle.std.proofs.lemmas.Bool.{le-ltb, ltb-false}
 use Rattle.std.proofs.lemmas.List.{length-map, length-take}
 use Rattle.pm_base.specs.Meshes.{Mesh}
 use Rattle.obj_lines.specs.Text.{until, lines, ends_with, without_cr, content}
+use Rattle.obj_lines.specs.Rules.{is_past, is_long}
 use Rattle.obj_lines.proofs.TextLaws.{until_split}
 use Rattle.obj_read.specs.declared.fault.ObjFault.{ObjFault}
 use Rattle.obj_read.specs.declared.found.Found.{Found as ReadFound}
 use Rattle.obj_read.specs.Fits.{with_found as with_read}
-use Rattle.obj_read.specs.Meaning.{SoFar as ReadSoFar, Refused as ReadRefused, is_past, is_long}
+use Rattle.obj_read.specs.Meaning.{SoFar as ReadSoFar, Refused as ReadRefused}
 use Rattle.obj_read.specs.Meaning.{read_alone as read_judged, and_line as and_read}
 use Rattle.obj_read.specs.Meaning.{then_lines as then_read, meaning_from as read_from}
 use Rattle.obj_read.specs.Meaning.{meaning_of as read_meaning}

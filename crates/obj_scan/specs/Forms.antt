@@ -1,37 +1,16 @@
 -- The form of a text: how its lines end, and how it begins. Byte 13 is CR; 239, 187 and 191 are EF
 -- BB BF; 254 and 255
 -- are FE and FF.
-use Rattle.std.specs.Prelude.{ℕ, List, [], ◌∷◌, Bool, true, false, ◌==◌, ◌&&◌, ◌||◌, nat_lt, length}
+use Rattle.std.specs.Prelude.{ℕ, List, [], ◌∷◌, Bool, false, ◌==◌, ◌&&◌, ◌||◌, nat_lt, length}
 use Rattle.std.specs.Prelude.{drop, slice_index_or, Option, Some, None, if◌then◌else◌}
 use Rattle.obj_lines.specs.Text.{content}
 use Rattle.obj_scan.specs.declared.fault.ScanFault.{ScanFault}
 use Rattle.obj_scan.specs.declared.fault.ScanFault.TheVariants as faults
-use Rattle.obj_scan.specs.declared.form.Returns.{Returns}
-use Rattle.obj_scan.specs.declared.form.Returns.TheVariants as returns
 
 -- A CR stands before another byte of the line.
 abbrev pub has_lone_return : List ℕ → Bool
 has_lone_return [] = false
 has_lone_return (b ∷ text) = b == 13 && nat_lt 0 (length text) || has_lone_return text
-
--- Whether CRs stand in a line after one byte more, after more of them, and from its start.
-unfoldable pub next_return : Returns → ℕ → Returns
-next_return returns.Without b = if b == 13 then returns.AtEnd else returns.Without
-next_return returns.AtEnd b = returns.Inside
-next_return returns.Inside b = returns.Inside
-
-abbrev pub returns_after : Returns → List ℕ → Returns
-returns_after r [] = r
-returns_after r (b ∷ bytes) = returns_after (next_return r b) bytes
-
-abbrev pub returns_of : List ℕ → Returns
-returns_of line = returns_after returns.Without line
-
--- A CR stands before another byte.
-abbrev pub is_inside : Returns → Bool
-is_inside returns.Without = false
-is_inside returns.AtEnd = false
-is_inside returns.Inside = true
 
 -- A text begins with EF BB BF, the byte order mark of UTF-8.
 unfoldable pub is_marked : List ℕ → Bool

@@ -7,9 +7,9 @@ use Rattle.pm_base.specs.declared.limits.TheConstants.{MOST_FACES, MOST_VERTICES
 use Rattle.pm_ears.specs.Recutting.{IsPolygonWithin}
 use Rattle.obj_lines.specs.declared.limits.TheConstants.{MOST_LINE_BYTES}
 use Rattle.obj_lines.specs.Text.{until, lines, is_continued}
+use Rattle.obj_lines.specs.Rules.{is_past, is_long, place}
 use Rattle.obj_read.specs.declared.fault.ObjFault.{ObjFault}
 use Rattle.obj_read.specs.declared.fault.ObjFault.TheVariants as line_faults
-use Rattle.obj_read.specs.Meaning.{is_past, is_long, place}
 use Rattle.obj_prepare.specs.Named.{AreVerticesBelow}
 use Rattle.obj_scan.specs.declared.fault.ScanFault.{ScanFault}
 use Rattle.obj_scan.specs.declared.fault.ScanFault.TheVariants as faults

@@ -2,6 +2,7 @@
 ghost use Rattle.std.specs.Prelude.{◌≡◌};
 ghost use Rattle.obj_scan.specs.Refusals.{fault_number, of_line};
 
+use obj_lines::{LineFault, TextFail};
 use obj_read::{ObjFail, ObjFault};
 
 /// What is wrong with a line.
@@ -41,15 +42,15 @@ pub enum ScanFail {
 }
 
 // The failure of what is read of a line.
-pub(crate) fn of_line(fail: ObjFail) -> ScanFail
+pub(crate) fn of_line(fail: ObjFail) -> TextFail<ScanFault>
     ensures { result ≡ of_line fail }
 {
     match fail {
-        ObjFail::Fault { fault, line } => ScanFail::Fault {
+        ObjFail::Fault { fault, line } => TextFail::Fault(LineFault {
             fault: ScanFault::Line(fault),
             line,
-        },
-        ObjFail::Read => ScanFail::Read,
-        ObjFail::OutOfMemory => ScanFail::OutOfMemory,
+        }),
+        ObjFail::Read => TextFail::Read,
+        ObjFail::OutOfMemory => TextFail::OutOfMemory,
     }
 }

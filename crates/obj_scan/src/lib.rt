@@ -5,11 +5,10 @@
 mod fault;
 mod fields;
 mod form;
-mod line;
 mod polygons;
+mod reader;
 mod scan;
 mod scanner;
-mod step;
 mod theory;
 
 pub use fault::{ScanFail, ScanFault};

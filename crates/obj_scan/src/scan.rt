@@ -7,15 +7,12 @@ ghost use Rattle.obj_scan.specs.Meaning.{scan_meaning_of, IsWithinLimits};
 ghost use Rattle.obj_scan.specs.Refusals.{of_source};
 
 use crate::fault::ScanFail;
-use crate::form::Returns;
 use crate::scanner::Scanner;
-use crate::step::{finish, step};
-use obj_lines::Lines;
+use obj_lines::{TextFail, read_lines};
 use obj_prepare::ExactPoint;
-use obj_read::Progress;
 use pm_base::Corners;
 use pm_ears::Polygon;
-use pm_io::{Source, Taker};
+use pm_io::Source;
 use std::alloc::Global;
 
 /// What a text spells: points in units of 10^-18, triangles, where the fan of each face of more
@@ -55,31 +52,14 @@ pub fn scan_obj<S: Source>(alloc: Global, source: &mut S) -> Result<Scan, ScanFa
     ensures err { IfErr result (λ e. ExplainsScan e (S.left source.old) (S.left source.new)) }
     ensures cause { HasCause (S.faults source.old) (S.faults source.new) (of_source result) }
 {
-    let Ok(mut taker) = Taker::new(alloc) else {
-        return Err(ScanFail::OutOfMemory);
-    };
-    let Ok(mut lines) = Lines::new(alloc) else {
-        return Err(ScanFail::OutOfMemory);
-    };
     let mut scanner = Scanner::new(alloc);
-    let mut returns = Returns::Without;
-    let mut progress = Progress {
-        taken: 0,
-        start: 0,
-        number: 1,
-    };
-    loop {
-        match step(
-            source,
-            &mut taker,
-            &mut lines,
-            &mut scanner,
-            &mut returns,
-            &mut progress,
-        ) {
-            Err(fail) => return Err(fail),
-            Ok(false) => return finish(scanner, lines, returns, progress),
-            Ok(true) => {}
-        }
+    match read_lines(alloc, source, &mut scanner) {
+        Ok(_) => Ok(scanner.scan),
+        Err(TextFail::Fault(why)) => Err(ScanFail::Fault {
+            fault: why.fault,
+            line: why.line,
+        }),
+        Err(TextFail::Read) => Err(ScanFail::Read),
+        Err(TextFail::OutOfMemory) => Err(ScanFail::OutOfMemory),
     }
 }

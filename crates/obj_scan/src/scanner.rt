@@ -192,7 +192,7 @@ impl Scanner {
     /// Takes one line more: this is what is read of it, and its number. A fault of what is read has
     /// the number of the first of the lines that go together.
     #[tactic(auto, unfolding(crate::specs::Reading::taken), using(crate::proofs::ScanLaws::ended_fault))]
-    pub fn take_line(&mut self, text: &[u8], number: u32) -> Result<(), ObjFail>
+    pub fn take_content(&mut self, text: &[u8], number: u32) -> Result<(), ObjFail>
         requires scanning { IsScanning (scanned_of self.old.scan) }
         requires continued { self.old.continued < number }
         ensures ok { OnOk result (taken (held_of self.old) text.now ≡ Ok (held_of self.new)) }

@@ -6,7 +6,7 @@ use Rattle.std.specs.Option.{option_map}
 use Rattle.std.specs.Io.KnownBytes.{prepend_known}
 use Rattle.pm_io.specs.Causes.{Rose}
 use Rattle.pm_io.proofs.Known.{loses_both, loses_none, gains_none}
-use Rattle.obj_read.proofs.FinishLaws.{left_at_end}
+use Rattle.obj_lines.proofs.FinishLaws.{left_at_end}
 use Rattle.pm_forest.specs.Forest.{Hierarchy}
 use Rattle.pm_beyond.specs.Valid.{IsValid}
 use Rattle.pm_load.specs.declared.open.LoadFail.{LoadFail}

@@ -1,5 +1,5 @@
 use Rattle.std.proofs.Common.{◌∙◌, ap}
-use Rattle.obj_read.proofs.FinishLaws.{if_ok, if_err}
+use Rattle.obj_lines.proofs.FinishLaws.{if_ok, if_err}
 use Rattle.obj_scan.specs.Judged.{scanned_vertex_line}
 use Rattle.obj_scan.proofs.IndexLaws.{three_fields}
 use Rattle.obj_scan.proofs.fields.vertex_line.Goals as goal

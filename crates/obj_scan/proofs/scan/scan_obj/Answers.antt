@@ -1,35 +1,20 @@
-use Rattle.std.proofs.Common.{refl}
-use Rattle.obj_read.proofs.FinishLaws.{if_ok, if_err, on_ok, left_at_end}
 use Rattle.obj_scan.specs.Reading.{held_of}
-use Rattle.obj_scan.proofs.FinishLaws.{start_ready, start_stands, start_returns, ended_ok}
-use Rattle.obj_scan.proofs.FinishLaws.{ended_err}
+use Rattle.obj_scan.proofs.ReaderLaws.{start_ready, scan_ok, scan_fault, scan_failed}
 use Rattle.obj_scan.proofs.scan.scan_obj.Goals as goal
 
-pub loop-fail-init : goal.loop-fail-init
-loop-fail-init g c = record {
-  ready = start_ready c.in-Ok-new.lines (held_of c.new-scanner.result) c.in-Ok-new.ensures
-      c.new-scanner.ensures;
-  reading = start_stands _ c.in-Ok.taker c.in-Ok-new.lines (held_of c.new-scanner.result)
-      c.in-Ok.ensures c.in-Ok-new.ensures c.new-scanner.ensures;
-  returns = start_returns c.in-Ok-new.lines c.in-Ok-new.ensures;
-  not_ended = c.requires;
-  count = refl;
-}
+pub read_lines-requires-clause-ready : goal.read_lines-requires-clause-ready
+read_lines-requires-clause-ready g c = start_ready _ c.new-scanner.ensures
 
-pub returns-in-Ok-false-clause-ok : goal.returns-in-Ok-false-clause-ok
-returns-in-Ok-false-clause-ok g c =
-    if_ok c.finish.result _ _
-    (λ m is. ended_ok _ _ _ _ _ (c.in-Ok-false.ensures.reads_on _ c.loop-fail.invariant.reading)
-    (c.in-Ok-false.ensures.end c.in-Ok-false.field-0-test) is) c.finish.ensures.ok
+pub returns-in-Ok-clause-ok : goal.returns-in-Ok-clause-ok
+returns-in-Ok-clause-ok g c =
+    scan_ok _ _ (held_of c.read_lines.new.reader) c.new-scanner.ensures c.in-Ok.ensures.ok
 
-pub returns-in-Ok-false-clause-end : goal.returns-in-Ok-false-clause-end
-returns-in-Ok-false-clause-end g c =
-    on_ok c.finish.result _
-    (left_at_end c.step.new.taker _ (c.in-Ok-false.ensures.end c.in-Ok-false.field-0-test))
+pub returns-in-Err-Fault-clause-err : goal.returns-in-Err-Fault-clause-err
+returns-in-Err-Fault-clause-err g c =
+    scan_fault _ _ c.in-Err-Fault.why c.new-scanner.ensures
+    (rw c.in-Err-Fault.field-0-is at c.in-Err-Fault.ensures.err)
 
-pub returns-in-Ok-false-clause-err : goal.returns-in-Ok-false-clause-err
-returns-in-Ok-false-clause-err g c =
-    if_err c.finish.result _ _
-    (λ e is. ended_err _ _ _ _ _ e
-    (c.in-Ok-false.ensures.reads_on _ c.loop-fail.invariant.reading)
-    (c.in-Ok-false.ensures.end c.in-Ok-false.field-0-test) is) c.finish.ensures.err
+pub returns-in-Err-Read-clause-err : goal.returns-in-Err-Read-clause-err
+returns-in-Err-Read-clause-err g c =
+    scan_failed _ _ _ c.new-scanner.ensures
+    (rw c.in-Err-Read.field-0-is at c.in-Err-Read.ensures.err)
