@@ -9,6 +9,7 @@ use Rattle.pm_deviation.specs.Deviations.{Measures, AreMeasuresOf, has_deviation
 use Rattle.pm_pick.specs.Lists.{CornerLists, AreListsOf}
 use Rattle.pm_morph.specs.Marks.{AreMarksOf}
 use Rattle.pm_change.specs.Room.{Room, room_of}
+use Rattle.pm_change.specs.Changes.{Change, change_of}
 use Rattle.pm_session.specs.declared.grammar.Grammar.{Grammar}
 use Rattle.pm_session.specs.declared.grammar.Grammar.TheVariants as grammars
 use Rattle.pm_session.specs.declared.ending.Next.{Next}
@@ -30,6 +31,10 @@ pub record Shown : Type 0 where
 -- The state of a session.
 abbrev pub state_of : Shown → State
 state_of s = record { split = set_of s.flags; marked = set_of s.marks; budget = s.budget }
+
+-- What changed since the marked front, which the line `d` tells.
+abbrev pub change_since : Shown → Change
+change_since s = change_of s.h (set_of s.marks) (set_of s.flags)
 
 -- What the tools of a session have: the measures of nodes, for how many records there is room, for
 -- how many sides there is a mark, the lists of the faces at each leaf, for how many faces there is

@@ -55,9 +55,9 @@ use std::marker::Model;
 #[derive(Drop)]
 pub struct Session {
     grammar: Grammar,
-    front: Front,
-    tools: Tools,
-    marker: Marker,
+    pub(crate) front: Front,
+    pub(crate) tools: Tools,
+    pub(crate) marker: Marker,
     budget: u32,
 }
 
@@ -231,7 +231,7 @@ impl Session {
     }
 
     // Writes what changed since the marked front, and marks the front as it stands.
-    fn change<K: Sink>(&mut self, out: &mut K) -> Result<(), WriteFault>
+    fn tell_change<K: Sink>(&mut self, out: &mut K) -> Result<(), WriteFault>
         ensures puts { let text =
             change_text self.old.h (set_of self.old.marks) (set_of self.old.flags) in
             Puts K.Sink out.old out.new text result }
@@ -292,7 +292,7 @@ impl Session {
             Command::Measure => after_reply(self.measure(out)),
             Command::Strip => after_reply(self.strip(out)),
             Command::Level => after_reply(self.level(out)),
-            Command::Change => after_reply(self.change(out)),
+            Command::Change => after_reply(self.tell_change(out)),
             Command::Budget(moves) => {
                 self.set_budget(moves);
                 after_reply(put_answer(None, out))

@@ -1,5 +1,5 @@
 //! What a session works with beside its front.
-ghost use Rattle.std.specs.Prelude.{◌≡◌, ◌<◌, ◌≤◌, true, length, IfOk};
+ghost use Rattle.std.specs.Prelude.{◌≡◌, ◌<◌, ◌≤◌, true, length, IfOk, IfErr, OnOk, OnErr};
 ghost use Rattle.pm_base.specs.declared.limits.TheConstants.{MOST_FACES, MOST_NODES, MOST_SIDES};
 ghost use Rattle.pm_io.specs.Puts.{Puts};
 ghost use Rattle.pm_forest.specs.Forest.{record_count};
@@ -15,6 +15,8 @@ ghost use Rattle.pm_pick.specs.Picks.{pick_of};
 ghost use Rattle.pm_strips.specs.Shown.{strips_text};
 ghost use Rattle.pm_morph.specs.Marks.{AreMarksOf};
 ghost use Rattle.pm_change.specs.Texts.{change_text};
+ghost use Rattle.pm_change.specs.Changes.{change_of};
+ghost use Rattle.pm_change.specs.Arrays.{sizes_of_change, ChangeFits, BeginWith};
 ghost use Rattle.pm_session.specs.Script.{adapted_to, after_view};
 ghost use Rattle.pm_session.specs.Level.{split_count, greatest_error, greatest_deviation};
 ghost use Rattle.pm_session.specs.Session.{AreToolsOf, HasItsMeasures};
@@ -22,7 +24,7 @@ ghost use Rattle.pm_session.specs.Session.{AreToolsOf, HasItsMeasures};
 use crate::grammar::Grammar;
 use crate::level::{Level, level_of};
 use crate::picking::pick_face;
-use pm_change::Changer;
+use pm_change::{ChangeSizes, Changer};
 use pm_deviation::Measures;
 use pm_forest::Hierarchy;
 use pm_front::Front;
@@ -210,5 +212,55 @@ impl Tools {
         ensures same { self.new ≡ self.old }
     {
         self.changer.write(front, marks, out)
+    }
+
+    /// Writes the same change to the front of the arrays, where it fits.
+    pub(crate) fn store_change(
+        &mut self,
+        front: &Front,
+        marks: &[bool],
+        gone_faces: &mut [u32],
+        gone_nodes: &mut [u32],
+        new_nodes: &mut [u32],
+        new_places: &mut [i32],
+        put_faces: &mut [u32],
+        put_corners: &mut [u32],
+    ) -> Result<ChangeSizes, ChangeSizes>
+        requires tools { AreToolsOf front.now.h self.old }
+        requires marks { AreMarksOf front.now.h marks.now }
+        ensures fits { let c = change_of front.now.h (set_of marks.now) (set_of front.now.flags) in
+            OnOk result (ChangeFits (sizes_of_change c) (length gone_faces.old)
+            (length gone_nodes.old) (length new_nodes.old) (length new_places.old)
+            (length put_faces.old) (length put_corners.old)) }
+        ensures refused { let c = change_of front.now.h (set_of marks.now)
+            (set_of front.now.flags) in
+            OnErr result (ChangeFits (sizes_of_change c) (length gone_faces.old)
+            (length gone_nodes.old) (length new_nodes.old) (length new_places.old)
+            (length put_faces.old) (length put_corners.old) → ⊥) }
+        ensures sizes { let c = change_of front.now.h (set_of marks.now) (set_of front.now.flags) in
+            IfOk result (λ s. s ≡ sizes_of_change c) }
+        ensures wanted { let c = change_of front.now.h (set_of marks.now)
+            (set_of front.now.flags) in
+            IfErr result (λ s. s ≡ sizes_of_change c) }
+        ensures arrays { let c = change_of front.now.h (set_of marks.now)
+            (set_of front.now.flags) in
+            OnOk result (BeginWith c gone_faces.new gone_nodes.new new_nodes.new new_places.new
+            put_faces.new put_corners.new) }
+        ensures unwritten { OnErr result ((gone_faces.new ≡ gone_faces.old)
+            × (gone_nodes.new ≡ gone_nodes.old) × (new_nodes.new ≡ new_nodes.old)
+            × (new_places.new ≡ new_places.old) × (put_faces.new ≡ put_faces.old)
+            × (put_corners.new ≡ put_corners.old)) }
+        ensures same { self.new ≡ self.old }
+    {
+        self.changer.store(
+            front,
+            marks,
+            gone_faces,
+            gone_nodes,
+            new_nodes,
+            new_places,
+            put_faces,
+            put_corners,
+        )
     }
 }

@@ -117,12 +117,12 @@ returns-in-Level-clause-ends g c =
 
 pub returns-in-Change-clause-ends : goal.returns-in-Change-clause-ends
 returns-in-Change-clause-ends g c =
-    replied _ _ _ _ _ c.change.result _ _ _
+    replied _ _ _ _ _ c.tell_change.result _ _ _
     (deed_change _ _ _ _ _ _ _ (sym c.command.ensures.value ∙ c.in-Change.is)
-    (ap (λ (flags : List Bool). set_of flags) c.change.ensures.same.2) c.change.ensures.marked
-    c.change.ensures.same.3) refl
-    c.after_reply-in-Change.ensures.ok c.after_reply-in-Change.ensures.err c.change.ensures.puts.ok
-    c.change.ensures.puts.err
+    (ap (λ (flags : List Bool). set_of flags) c.tell_change.ensures.same.2)
+    c.tell_change.ensures.marked c.tell_change.ensures.same.3) refl
+    c.after_reply-in-Change.ensures.ok c.after_reply-in-Change.ensures.err
+    c.tell_change.ensures.puts.ok c.tell_change.ensures.puts.err
 
 pub returns-in-Budget-clause-ends : goal.returns-in-Budget-clause-ends
 returns-in-Budget-clause-ends g c =
