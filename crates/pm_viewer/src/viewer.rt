@@ -8,13 +8,16 @@ ghost use Rattle.pm_forest.specs.Fronts.{ancestor_of};
 ghost use Rattle.pm_forest.specs.Places.{place_of_node};
 ghost use Rattle.pm_front.specs.Shown.{active_nodes, kept_faces};
 ghost use Rattle.pm_arrays.specs.Arrays.{place_array, position_array, node_array};
-ghost use Rattle.pm_session.specs.Session.{LineEnds};
+ghost use Rattle.pm_change.specs.Arrays.{sizes_of_change, ChangeFits, BeginWith};
+ghost use Rattle.pm_session.specs.Script.{now_marked};
+ghost use Rattle.pm_session.specs.Session.{LineEnds, change_since};
 ghost use Rattle.pm_viewer.specs.Viewing.{live_deed, viewer_state, FrameFits};
 
 use crate::filling::{TooSmall, write_frame};
 use crate::looking::ancestor;
 use crate::reply::{LEAST_ROOM, Reply};
 use pm_base::{NodeId, Point};
+use pm_change::ChangeSizes;
 use pm_session::{Grammar, LineFail, Next, Session};
 use std::alloc::{AllocError, Global};
 use std::marker::Model;
@@ -208,6 +211,50 @@ impl Viewer {
             faces,
             corners,
             corner_nodes,
+        )
+    }
+
+    /// Writes what changed since the marked front to the front of the arrays, and marks the front
+    /// as it stands, as the line `d` does; the reply stays. Each list ascends: `gone_faces` and
+    /// `gone_nodes` are gone; `new_nodes` are new, with three coordinates each in `new_places`;
+    /// `put_faces` are new or have another corner, with three nodes each in `put_corners`. It
+    /// answers how many entries the lists have. It is refused exactly where an array has less
+    /// room, with the same answer, and nothing is written or marked then. It takes no memory.
+    pub fn change(
+        &mut self,
+        gone_faces: &mut [u32],
+        gone_nodes: &mut [u32],
+        new_nodes: &mut [u32],
+        new_places: &mut [i32],
+        put_faces: &mut [u32],
+        put_corners: &mut [u32],
+    ) -> Result<ChangeSizes, ChangeSizes>
+        ensures fits { OnOk result (ChangeFits (sizes_of_change (change_since self.old.shown))
+            (length gone_faces.old) (length gone_nodes.old) (length new_nodes.old)
+            (length new_places.old) (length put_faces.old) (length put_corners.old)) }
+        ensures refused { OnErr result (ChangeFits (sizes_of_change (change_since self.old.shown))
+            (length gone_faces.old) (length gone_nodes.old) (length new_nodes.old)
+            (length new_places.old) (length put_faces.old) (length put_corners.old) → ⊥) }
+        ensures sizes { IfOk result (λ s. s ≡ sizes_of_change (change_since self.old.shown)) }
+        ensures wanted { IfErr result (λ s. s ≡ sizes_of_change (change_since self.old.shown)) }
+        ensures arrays { OnOk result (BeginWith (change_since self.old.shown) gone_faces.new
+            gone_nodes.new new_nodes.new new_places.new put_faces.new put_corners.new) }
+        ensures marked { OnOk result (viewer_state self.new ≡ now_marked (viewer_state self.old)) }
+        ensures same { (self.new.shown.h ≡ self.old.shown.h) × (self.new.digits ≡ self.old.digits)
+            × (self.new.reply ≡ self.old.reply) }
+        ensures unchanged { OnErr result (self.new ≡ self.old) }
+        ensures unwritten { OnErr result ((gone_faces.new ≡ gone_faces.old)
+            × (gone_nodes.new ≡ gone_nodes.old) × (new_nodes.new ≡ new_nodes.old)
+            × (new_places.new ≡ new_places.old) × (put_faces.new ≡ put_faces.old)
+            × (put_corners.new ≡ put_corners.old)) }
+    {
+        self.session.change(
+            gone_faces,
+            gone_nodes,
+            new_nodes,
+            new_places,
+            put_faces,
+            put_corners,
         )
     }
 
