@@ -107,6 +107,33 @@ uint32_t vdpm_frame(vdpm_viewer *viewer, uint32_t *nodes, size_t nodes_room, int
                     size_t places_room, uint32_t *faces, size_t faces_room, uint32_t *corners,
                     size_t corners_room, uint32_t *corner_nodes, size_t corner_nodes_room);
 
+/* How many entries each list of a change has. */
+typedef struct vdpm_change_sizes {
+    uint32_t gone_faces; /* faces that were shown and aren't */
+    uint32_t gone_nodes; /* nodes that were active and aren't */
+    uint32_t new_nodes;  /* nodes that are active and weren't */
+    uint32_t put_faces;  /* faces that are shown and weren't, or were with another corner */
+} vdpm_change_sizes;
+
+/* Writes what changed since the marked front, as the line `d` tells it, and marks the front as it
+ * stands; the base front is marked at first. Who has the frame of the marked front, takes out what
+ * is gone and puts the rest in by number, in place of what has this number, has the frame of this
+ * one. With the four numbers in *sizes, all lists ascending:
+ * `gone_faces`   gone_faces numbers
+ * `gone_nodes`   gone_nodes numbers
+ * `new_nodes`    new_nodes numbers
+ * `new_places`   3 new_nodes numbers: their coordinates x, y, z
+ * `put_faces`    put_faces numbers
+ * `put_corners`  3 put_faces numbers: the corners of each face, as node numbers
+ * The room is counted in numbers, and may be more. Answers VDPM_DONE, VDPM_NOT_SO, or VDPM_NO_ROOM:
+ * nothing is marked, and nothing written but *sizes, by which the caller makes room and asks again.
+ */
+uint32_t vdpm_change(vdpm_viewer *viewer, uint32_t *gone_faces, size_t gone_faces_room,
+                     uint32_t *gone_nodes, size_t gone_nodes_room, uint32_t *new_nodes,
+                     size_t new_nodes_room, int32_t *new_places, size_t new_places_room,
+                     uint32_t *put_faces, size_t put_faces_room, uint32_t *put_corners,
+                     size_t put_corners_room, vdpm_change_sizes *sizes);
+
 /* Tells the record that splits a node (the number for the lines `s` and `c`), or VDPM_NONE for a
  * node of one leaf. */
 uint32_t vdpm_splitter(vdpm_viewer *viewer, uint32_t node, uint32_t *record);

@@ -21,7 +21,7 @@ from .unproved import FLAGS, run_tool
 MAIN = """
 use crate::made_slot::MadeSlot;
 use crate::slot::Slot;
-use crate::tables::{Counts, Handle, MadeHandle, NO_FAULT};
+use crate::tables::{ChangeCounts, Counts, Handle, MadeHandle, NO_FAULT};
 use std::rt::HostRuntime;
 
 fn main(rt: HostRuntime) {
@@ -39,6 +39,11 @@ fn main(rt: HostRuntime) {
     exports::vdpm_reply(alloc, &mut handle, &mut bytes);
     exports::vdpm_counts(alloc, &mut handle, &mut counts);
     exports::vdpm_frame(alloc, &mut handle, &mut a, &mut signed, &mut b, &mut c, &mut d);
+    let mut gone = ChangeCounts { gone_faces: 0, gone_nodes: 0, new_nodes: 0, put_faces: 0 };
+    let mut e = [0u32; 1];
+    changes::vdpm_change(
+        alloc, &mut handle, &mut a, &mut b, &mut c, &mut signed, &mut d, &mut e, &mut gone,
+    );
     exports::vdpm_splitter(alloc, &mut handle, 0, &mut number);
     exports::vdpm_maker(alloc, &mut handle, 0, &mut number);
     exports::vdpm_ancestor(alloc, &mut handle, 0, &mut number);

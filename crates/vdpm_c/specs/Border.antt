@@ -11,12 +11,14 @@ use Rattle.pm_session.specs.declared.ending.Next.{Next}
 use Rattle.pm_session.specs.declared.ending.Next.TheVariants as nexts
 use Rattle.pm_session.specs.declared.ending.LineFail.{LineFail}
 use Rattle.pm_session.specs.declared.ending.LineFail.TheVariants as fails
-use Rattle.pm_session.specs.Script.{at_first}
+use Rattle.pm_change.specs.declared.fitting.ChangeSizes.{ChangeSizes}
+use Rattle.pm_session.specs.Script.{at_first, now_marked}
 use Rattle.pm_session.specs.Session.{LineEnds}
 use Rattle.pm_viewer.specs.Viewing.{Viewed, viewer_state, live_deed}
 use Rattle.pm_viewer.specs.Causes.{Tells}
 use Rattle.vdpm_c.specs.declared.tables.Handle.{Handle}
 use Rattle.vdpm_c.specs.declared.tables.Counts.{Counts}
+use Rattle.vdpm_c.specs.declared.tables.ChangeCounts.{ChangeCounts}
 
 -- A handle that is open has a viewer. C owes it, and each function leaves it so.
 abbrev pub IsSound : Handle → Type 0
@@ -75,6 +77,22 @@ pub record AreCountsOf (v : Viewed) (counts : Counts) : Type 0 where
   pub leaves : counts.leaves ≡ leaf_count v.shown.h
   pub records : counts.records ≡ record_count v.shown.h
   pub digits : counts.digits ≡ v.digits
+
+-- How many entries each list of a change has, as C takes them.
+abbrev pub change_counts : ChangeSizes → ChangeCounts
+change_counts s = record {
+  gone_faces = s.gone_faces;
+  gone_nodes = s.gone_nodes;
+  new_nodes = s.new_nodes;
+  put_faces = s.put_faces;
+}
+
+-- What a change that was told leaves: the front is marked, and all else is as before.
+pub record IsMarked (before after : Viewed) : Type 0 where
+  pub state : viewer_state after ≡ now_marked (viewer_state before)
+  pub hierarchy : after.shown.h ≡ before.shown.h
+  pub digits : after.digits ≡ before.digits
+  pub reply : after.reply ≡ before.reply
 
 -- The record that is told, which is 4,294,967,295 where there is none.
 abbrev pub record_told : Option ℕ → ℕ

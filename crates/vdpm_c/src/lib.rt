@@ -2,6 +2,7 @@
 //! `pm_making`. `libvdpm.h` tells of each to its callers.
 #![tactic(auto)]
 
+mod changes;
 mod exports;
 mod holding;
 mod inside;

@@ -25,6 +25,18 @@ pub struct Counts {
     pub digits: u32,
 }
 
+/// How many entries each list of a change has.
+#[repr(C)]
+#[derive(Clone, Copy)]
+pub struct ChangeCounts {
+    /// The faces and the nodes that are gone.
+    pub gone_faces: u32,
+    pub gone_nodes: u32,
+    /// The nodes that are new, and the faces that are new or have another corner.
+    pub new_nodes: u32,
+    pub put_faces: u32,
+}
+
 /// What was made of a text, as C holds it: all zero before it is made and once it is closed.
 #[repr(C)]
 pub struct MadeHandle {
