@@ -12,8 +12,9 @@ import subprocess
 import tempfile
 import unittest
 from pathlib import Path
-from typing import Iterator, List, Optional, Tuple
+from typing import Dict, Iterable, Iterator, List, Optional, Tuple
 
+from follow import Mesh, Three
 from tried_library import TOP, Asked, cases_of, compiled, runs_that_fail, take_library
 
 import vdpm
@@ -149,6 +150,111 @@ class Arrays(unittest.TestCase):
             status = session._library.vdpm_frame(session._viewer, room, 3, signed, 64, room, 64,
                                                  room, 64, room, 64)
             self.assertEqual((status, set(room)), (NO_ROOM, {7}))
+
+
+def flat(array: Iterable[int]) -> List[int]:
+    """The numbers of an array."""
+    return [int(n) for n in getattr(array, "ravel", lambda: array)()]
+
+
+def by_number(numbers: Iterable[int], threes: Iterable[int]) -> Dict[int, Three]:
+    """Three numbers for each, by its own."""
+    rest = iter(flat(threes))
+    return dict(zip(flat(numbers), zip(rest, rest, rest)))
+
+
+def rows(word: str, threes: Dict[int, Three]) -> List[str]:
+    return ["%s %d %d %d %d" % (word, number, *three) for number, three in threes.items()]
+
+
+class Changes(unittest.TestCase):
+    def test_a_change_spells_its_text_and_makes_the_next_frame(self) -> None:
+        tried = 0
+        for asked in all_asked():
+            length = stream_length(asked.given)
+            lines = asked.given[length:].split(b"\n")
+            if asked.fault is None and b"d" in lines:
+                with self.subTest(asked.name):
+                    tried += self.compared(asked.given[:length], int(asked.words[1]), lines)
+        self.assertGreater(tried, 10)
+
+    def test_changes_of_random_fronts(self) -> None:
+        chance, tried = random.Random(2), 0
+        streams = {asked.given[: stream_length(asked.given)] for asked in all_asked()
+                   if asked.fault is None and len(asked.given) < 100_000}
+        for stream in sorted(streams):
+            with vdpm.Session(stream) as session:
+                records = session.sizes().records
+            lines: List[bytes] = []
+            for _ in range(20 if records else 0):
+                for _ in range(5):
+                    lines.append(f"{chance.choice('ssc')} {chance.randrange(records)}".encode())
+                lines.append(b"d")
+            tried += self.compared(stream, 0, lines)
+        self.assertGreaterEqual(tried, 100)
+
+    def compared(self, stream: bytes, budget: int, lines: List[bytes]) -> int:
+        """Does the lines in two sessions, and compares each change. Answers how many there were."""
+        tried = 0
+        with vdpm.Session(stream, budget) as one, vdpm.Session(stream, budget) as other:
+            mesh = self.shown(other)
+            for line in lines:
+                if line in (b"", b"q"):
+                    break
+                if line == b"d":
+                    text, change = one.line("d").decode(), other.change()
+                    self.assertEqual(self.spelled(other, change), text)
+                    self.follow(mesh, change)
+                    self.assertEqual("".join(mesh.lines()), other.line("w").decode())
+                    tried += 1
+                else:
+                    self.assertEqual(one.line(line), other.line(line))
+                    mesh = self.shown(other) if line == b"k" else mesh
+        return tried
+
+    def shown(self, session: vdpm.Session) -> Mesh:
+        it = session.frame()
+        return Mesh(by_number(it.nodes, it.places), by_number(it.faces, it.corner_nodes))
+
+    def spelled(self, session: vdpm.Session, change: vdpm.Change) -> str:
+        """The text of a change, by its arrays."""
+        sizes = session.sizes()
+        words = [f"change {sizes.shown_nodes} {sizes.shown_faces}"]
+        words += [f"-f {face}" for face in flat(change.gone_faces)]
+        words += [f"-v {node}" for node in flat(change.gone_nodes)]
+        words += rows("v", by_number(change.new_nodes, change.new_places))
+        words += rows("f", by_number(change.put_faces, change.put_corners))
+        return "\n".join([*words, "end", ""])
+
+    def follow(self, mesh: Mesh, change: vdpm.Change) -> None:
+        """Does a change to the mesh of the marked front."""
+        for face in flat(change.gone_faces):
+            del mesh.faces[face]
+        for node in flat(change.gone_nodes):
+            del mesh.nodes[node]
+        mesh.nodes.update(by_number(change.new_nodes, change.new_places))
+        mesh.faces.update(by_number(change.put_faces, change.put_corners))
+
+    def test_a_change_that_does_not_fit_is_told_how_large_it_is(self) -> None:
+        with vdpm.Session(OCTAHEDRON.read_bytes()) as session:
+            session.split(0)
+            room, signed = (ctypes.c_uint32 * 64)(*([7] * 64)), (ctypes.c_int32 * 64)()
+            # (no face is gone; the others lack one number)
+            for lacks, least in enumerate((1, 2, 6, 5, 15), 1):
+                rooms = [64] * 6
+                rooms[lacks] = least - 1
+                pairs = [it for i, n in enumerate(rooms) for it in (signed if i == 3 else room, n)]
+                sizes = (ctypes.c_uint32 * 4)()
+                status = session._library.vdpm_change(session._viewer, *pairs, sizes)
+                self.assertEqual((status, set(room), list(sizes)), (NO_ROOM, {7}, [0, 1, 2, 5]))
+            self.assertEqual(flat(session.change().new_nodes), [4, 5])
+            self.assertEqual(flat(session.change().new_nodes), [])
+
+    def test_rooms_grow(self) -> None:
+        with vdpm.Session(OCTAHEDRON.read_bytes()) as session:
+            session._rooms = [(room[:0], at) for room, at in session._rooms]
+            session.split(0)
+            self.assertEqual(flat(session.change().put_faces), [0, 1, 2, 4, 5])
 
 
 class Handles(unittest.TestCase):

@@ -17,7 +17,7 @@ tells which one that is, and whether it was proved.
 from .faults import Fault, NotOpen
 from .library import Version, version
 from .making import Prepared, build, prepare, simplify
-from .session import Frame, Hit, Moved, Session, Sizes, Strips
+from .session import Change, Frame, Hit, Moved, Session, Sizes, Strips
 
-__all__ = ["Fault", "Frame", "Hit", "Moved", "NotOpen", "Prepared", "Session", "Sizes", "Strips",
-           "Version", "build", "prepare", "simplify", "version"]
+__all__ = ["Change", "Fault", "Frame", "Hit", "Moved", "NotOpen", "Prepared", "Session", "Sizes",
+           "Strips", "Version", "build", "prepare", "simplify", "version"]

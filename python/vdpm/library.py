@@ -84,6 +84,8 @@ def load(path: Optional[str] = None) -> ctypes.CDLL:
         "reply": [handle, BYTES, size],
         "counts": [handle, NUMBERS],
         "frame": [handle, NUMBERS, size, SIGNED, size, NUMBERS, size, NUMBERS, size, NUMBERS, size],
+        "change": [handle, NUMBERS, size, NUMBERS, size, NUMBERS, size, SIGNED, size, NUMBERS, size,
+                   NUMBERS, size, NUMBERS],
         "splitter": [handle, number, NUMBERS],
         "maker": [handle, number, NUMBERS],
         "ancestor": [handle, number, NUMBERS],

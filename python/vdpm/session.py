@@ -1,14 +1,15 @@
 """A hierarchy that is being shown."""
 import array
 import ctypes
-from typing import Any, NamedTuple, Optional, Sequence, Tuple, Union
+from typing import Any, List, NamedTuple, Optional, Sequence, Tuple, Union
 
 try:
     import numpy
 except ImportError:
     numpy = None
 
-from .library import MOST_NUMBER, NONE, NUMBERS, SIGNED, Handle, bytes_of, check, load, number_to
+from .library import (MOST_NUMBER, NO_ROOM, NONE, NUMBERS, SIGNED, Handle, bytes_of, check, load,
+                      number_to)
 
 class Sizes(NamedTuple):
     """How large the mesh shown and the hierarchy are, and how many decimals a coordinate has."""
@@ -34,6 +35,22 @@ class Frame(NamedTuple):
     faces: Any
     corners: Any
     corner_nodes: Any
+
+
+class Change(NamedTuple):
+    """What changed since the marked front, each list ascending, as numpy arrays or `array.array`s.
+
+    gone_faces, gone_nodes: what is no longer shown. new_nodes: the nodes that weren't shown.
+    new_places: three coordinates for each (a row each in numpy). put_faces: the faces that weren't
+    shown, or were with another corner. put_corners: the three nodes of each (a row each in numpy).
+    """
+
+    gone_faces: Any
+    gone_nodes: Any
+    new_nodes: Any
+    new_places: Any
+    put_faces: Any
+    put_corners: Any
 
 
 class Moved(NamedTuple):
@@ -65,6 +82,14 @@ def _room(kind: str, count: int) -> Tuple[Any, Any]:
     return room, ctypes.cast((ctypes.c_uint32 * max(count, 1)).from_buffer(held), pointed)
 
 
+def _change_rooms(sizes: Sequence[int]) -> List[Tuple[Any, Any]]:
+    """Room for a change with lists of these lengths."""
+    gone_faces, gone_nodes, new_nodes, put_faces = sizes
+    kinds = (("I", gone_faces), ("I", gone_nodes), ("I", new_nodes), ("i", 3 * new_nodes),
+             ("I", put_faces), ("I", 3 * put_faces))
+    return [_room(kind, count) for kind, count in kinds]
+
+
 class Session:
     """A hierarchy that is being shown. It is a context manager, which closes it at its end."""
 
@@ -77,6 +102,8 @@ class Session:
         number_to(MOST_NUMBER, budget, "budget")
         self._viewer = Handle(None, 0)
         self._library = load(library)
+        # (a change is written into these, which grow where one has more)
+        self._rooms = _change_rooms((256, 256, 256, 256))
         place = ctypes.c_uint64()
         data = bytes(stream)
         status = self._library.vdpm_open(data, len(data), budget, self._viewer, place)
@@ -149,9 +176,31 @@ class Session:
         """The text of the mesh at part/parts of the way from the marked front, or `not finer K`."""
         return self.line(f"g {part} {parts}")
 
-    def change(self) -> bytes:
-        """The text of what changed since the marked front; the front is marked then."""
-        return self.line("d")
+    def change(self) -> Change:
+        """What changed since the marked front, as arrays; the front is marked then.
+
+        Who has the mesh of the marked front takes out what is gone, and puts the rest in by number.
+        `line("d")` answers the same as text.
+        """
+        sizes = (ctypes.c_uint32 * 4)()
+        status = self._fetch_change(sizes)
+        if status == NO_ROOM:
+            rooms = [len(self._rooms[i][0]) for i in (0, 1, 2, 4)]
+            self._rooms = _change_rooms([max(it, 2 * size) for it, size in zip(rooms, sizes)])
+            status = self._fetch_change(sizes)
+        check(status)
+        gone_faces, gone_nodes, new_nodes, put_faces = sizes
+        counts = (gone_faces, gone_nodes, new_nodes, 3 * new_nodes, put_faces, 3 * put_faces)
+        arrays = [room[:count] for (room, _), count in zip(self._rooms, counts)]
+        if numpy is not None:
+            arrays = [it.copy() for it in arrays]
+            for i in (3, 5):
+                arrays[i] = arrays[i].reshape(-1, 3)
+        return Change(*arrays)
+
+    def _fetch_change(self, sizes: Any) -> int:
+        pairs = [it for (room, at) in self._rooms for it in (at, len(room))]
+        return int(self._library.vdpm_change(self._viewer, *pairs, sizes))
 
     def pick(self, origin: Sequence[int], direction: Sequence[int]) -> Optional[Hit]:
         """The face of the full mesh that a ray meets first; None where it meets none."""
