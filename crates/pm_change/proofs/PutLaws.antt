@@ -21,7 +21,7 @@ use Rattle.pm_front.specs.Corners.{listed, AreCorners}
 use Rattle.pm_front.proofs.Counting.{length-passing}
 use Rattle.pm_change.specs.Changes.{is_new_node, is_put, is_at_new, has_new_corner}
 use Rattle.pm_change.specs.Laws.{is_new_corner, new_corners}
-use Rattle.pm_change.specs.Gathering.{is_face_in}
+use Rattle.pm_change.specs.Gathering.{Gathers, is_face_in}
 use Rattle.pm_change.proofs.ChangeLaws.{puts}
 use Rattle.pm_change.proofs.Counting.{count_apart}
 use Rattle.pm_change.proofs.NewLaws.{put_corner, new_listed}
@@ -50,6 +50,16 @@ list_counted (x ∷ xs) n once below =
 -- A corner of a kept face is at a new node below n.
 abbrev pub corner_before : Hierarchy → (ℕ → Bool) → (ℕ → Bool) → ℕ → ℕ → Bool
 corner_before h S G n e = is_new_corner h S G e && nat_lt (ancestor_of h G (from_leaf h e)) n
+
+-- The faces with a corner at a new node below n are put, in no more steps than there are such nodes
+-- and corners.
+pub record HavePut (h : Hierarchy) (S G : ℕ → Bool) (ls : List (List ℕ)) (n : ℕ)
+    (old put : List Bool) (before now : ℕ) : Type 0 where
+  pub got : Gathers (is_put h S G) old put
+  pub seen : (v e : ℕ) → v < n → is_new_node h S G v ≡ true → has (listed ls v) e ≡ true
+      → set_of put (face_of e) ≡ true
+  pub cost : now ≤ before + count (is_new_node h S G) n
+      + count (corner_before h S G n) (3 * face_count h)
 
 -- A face has its three corners.
 face_in : (l : List ℕ) (e : ℕ) → has l e ≡ true → is_face_in l (face_of e) ≡ true

@@ -5,6 +5,7 @@ use Rattle.pm_base.specs.Counts.{set_of, numbers_below}
 use Rattle.pm_links.specs.Lists.{has}
 use Rattle.pm_sets.specs.Sets.{IsEmptySet}
 use Rattle.pm_forest.specs.Forest.{Hierarchy, node_count, s_of, Makes}
+use Rattle.pm_forest.specs.Fronts.{IsFront}
 use Rattle.pm_forest.specs.Faces.{face_count, revealed_by}
 use Rattle.pm_change.specs.Changes.{is_gone_face, is_gone_node, is_new_node, is_put}
 use Rattle.pm_change.specs.declared.sets.ChangeSets.{ChangeSets}
@@ -30,6 +31,11 @@ pub record Gathers (passes : ℕ → Bool) (old new : List Bool) : Type 0 where
 pub record AreJust (passes : ℕ → Bool) (n : ℕ) (flags : List Bool) : Type 0 where
   pub len : length flags ≡ n
   pub each : (i : ℕ) → i < n → set_of flags i ≡ passes i
+
+-- The set has just the nodes that are active in a front, and weren't in an earlier one.
+pub record AreNewSince (h : Hierarchy) (S G : ℕ → Bool) (new : List Bool) : Type 0 where
+  pub before : IsFront h S
+  pub just : AreJust (is_new_node h S G) (node_count h) new
 
 -- The node that record k splits and its children are in the set, if they pass.
 abbrev pub HasNodesOf : Hierarchy → (ℕ → Bool) → ℕ → List Bool → Type 0

@@ -148,7 +148,7 @@ impl Changer {
     {
         front.invariant();
         self.sets.gather(front, marks, steps);
-        let told = write_sets(front, marks, &self.sets, steps, out);
+        let told = write_sets(front, &self.sets, steps, out);
         self.sets.clear(steps);
         told
     }

@@ -1,5 +1,5 @@
 //! Gathers the faces that are put, from the corners at new nodes.
-ghost use Rattle.std.specs.Prelude.{◌≡◌, ◌+◌, ◌<◌, ◌≤◌, ℕ, true, length};
+ghost use Rattle.std.specs.Prelude.{◌≡◌, ◌+◌, ◌<◌, ◌≤◌, ℕ, Bool, true, length};
 ghost use Rattle.pm_base.specs.Counts.{set_of};
 ghost use Rattle.pm_base.specs.Sides.{face_of};
 ghost use Rattle.pm_links.specs.Lists.{has};
@@ -8,10 +8,9 @@ ghost use Rattle.pm_forest.specs.Forest.{node_count};
 ghost use Rattle.pm_forest.specs.Fronts.{is_active};
 ghost use Rattle.pm_forest.specs.Faces.{face_count};
 ghost use Rattle.pm_front.specs.Corners.{listed};
-ghost use Rattle.pm_morph.specs.Marks.{AreMarksOf};
-ghost use Rattle.pm_change.specs.Changes.{is_new_node, is_put, new_nodes};
+ghost use Rattle.pm_change.specs.Changes.{is_put, new_nodes};
 ghost use Rattle.pm_change.specs.Laws.{new_corners};
-ghost use Rattle.pm_change.specs.Gathering.{Gathers, AreJust, is_face_in};
+ghost use Rattle.pm_change.specs.Gathering.{Gathers, AreJust, AreNewSince, is_face_in};
 
 use pm_base::NodeId;
 use pm_front::Front;
@@ -41,21 +40,20 @@ fn see_corners<L: Ledger>(front: &Front, node: NodeId, put: &mut NumberSet, step
 /// Puts in the faces with a corner at one of the new nodes.
 pub(crate) fn gather_puts<L: Ledger>(
     front: &Front,
-    _marks: &[bool],
     new: &NumberSet,
     put: &mut NumberSet,
     steps: &mut Steps<L>,
 )
-    requires told { AreMarksOf front.now.h _marks.now }
-    requires new { AreJust (is_new_node front.now.h (set_of _marks.now) (set_of front.now.flags))
-        (node_count front.now.h) new.now }
+    requires new { length new.now ≡ node_count front.now.h }
+    requires active { (v : ℕ) → set_of new.now v ≡ true
+        → is_active front.now.h (set_of front.now.flags) v ≡ true }
     requires len { length put.old ≡ face_count front.now.h }
     requires empty { IsEmptySet put.old }
-    ensures put { AreJust (is_put front.now.h (set_of _marks.now) (set_of front.now.flags))
-        (face_count front.now.h) put.new }
-    ensures cost { let S = set_of _marks.now in let G = set_of front.now.flags in
-        steps.new ≤ steps.old + length (new_nodes front.now.h S G)
-        + length (new_corners front.now.h S G) }
+    ensures put { (S : ℕ → Bool) → AreNewSince front.now.h S (set_of front.now.flags) new.now
+        → AreJust (is_put front.now.h S (set_of front.now.flags)) (face_count front.now.h) put.new }
+    ensures cost { (S : ℕ → Bool) → AreNewSince front.now.h S (set_of front.now.flags) new.now
+        → steps.new ≤ steps.old + length (new_nodes front.now.h S (set_of front.now.flags))
+        + length (new_corners front.now.h S (set_of front.now.flags)) }
 {
     front.invariant();
     let mut from = 0;

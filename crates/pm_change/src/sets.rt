@@ -71,7 +71,7 @@ impl ChangeSets {
             + length (new_nodes h S G) + length (new_corners h S G) }
     {
         gather_gone_and_new(front, marks, self, steps);
-        gather_puts(front, marks, &self.new_nodes, &mut self.put_faces, steps);
+        gather_puts(front, &self.new_nodes, &mut self.put_faces, steps);
     }
 
     /// Takes all numbers out.

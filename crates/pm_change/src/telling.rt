@@ -6,9 +6,10 @@ ghost use Rattle.pm_forest.specs.Forest.{node_count};
 ghost use Rattle.pm_forest.specs.Faces.{face_count};
 ghost use Rattle.pm_forest.specs.Kept.{is_kept};
 ghost use Rattle.pm_frame.specs.Frame.{shown_node, shown_face};
-ghost use Rattle.pm_change.specs.Gathering.{AreJust, AreSetsOf, size_of, sizes_of};
-ghost use Rattle.pm_change.specs.Parts.{is_of_part, bound_of_part, part_line, part_lines, CanTell};
-ghost use Rattle.pm_change.specs.Texts.{first_change_line, change_text};
+ghost use Rattle.pm_change.specs.Gathering.{size_of, sizes_of};
+ghost use Rattle.pm_change.specs.Parts.{part_line, lines_in, text_in};
+ghost use Rattle.pm_change.specs.Parts.{CanTell, CanTellAll, CanTellSets};
+ghost use Rattle.pm_change.specs.Texts.{first_change_line};
 
 use crate::line::{put_gone_face, put_gone_node, put_head};
 use crate::parts::Part;
@@ -64,22 +65,18 @@ fn put_line(front: &Front, part: Part, number: u32, line: &mut Line)
     }
 }
 
-// A line for each number of a part.
+// A line for each number of a set.
 fn put_part<K: Sink, L: Ledger>(
     front: &Front,
-    _marks: &[bool],
     part: Part,
     numbers: &NumberSet,
     steps: &mut Steps<L>,
     page: &mut Page,
     out: &mut K,
 ) -> Result<(), WriteFault>
-    requires { let h = front.now.h in
-        let S = set_of _marks.now in let G = set_of front.now.flags in
-        AreJust (is_of_part h S G part) (bound_of_part h part) numbers.now }
-    ensures puts { let S = set_of _marks.now in let G = set_of front.now.flags in
-        PutsThrough K.Sink out.old out.new page.old page.new
-        (part_lines front.now.h S G part) result }
+    requires { CanTellAll front.now.h (set_of front.now.flags) part numbers.now }
+    ensures puts { PutsThrough K.Sink out.old out.new page.old page.new
+        (lines_in front.now.h (set_of front.now.flags) part numbers.now) result }
     ensures cost { steps.new ≤ steps.old + size_of numbers.now }
 {
     front.invariant();
@@ -95,24 +92,22 @@ fn put_part<K: Sink, L: Ledger>(
 }
 
 /// Writes the change whose numbers the sets have.
-#[tactic(auto, unfolding(crate::specs::Texts::change_text))]
+#[tactic(auto, unfolding(crate::specs::Parts::text_in))]
 pub(crate) fn write_sets<K: Sink, L: Ledger>(
     front: &Front,
-    marks: &[bool],
     sets: &ChangeSets,
     steps: &mut Steps<L>,
     out: &mut K,
 ) -> Result<(), WriteFault>
-    requires { AreSetsOf front.now.h (set_of marks.now) (set_of front.now.flags) sets.now }
+    requires { CanTellSets front.now.h (set_of front.now.flags) sets.now }
     ensures puts { Puts K.Sink out.old out.new
-        (change_text front.now.h (set_of marks.now) (set_of front.now.flags)) result }
+        (text_in front.now.h (set_of front.now.flags) sets.now) result }
     ensures cost { steps.new ≤ steps.old + sizes_of sets.now }
 {
     let mut page = Page::new();
     put_first(front, &mut page, out)?;
     put_part(
         front,
-        marks,
         Part::GoneFaces,
         &sets.gone_faces,
         steps,
@@ -121,7 +116,6 @@ pub(crate) fn write_sets<K: Sink, L: Ledger>(
     )?;
     put_part(
         front,
-        marks,
         Part::GoneNodes,
         &sets.gone_nodes,
         steps,
@@ -130,7 +124,6 @@ pub(crate) fn write_sets<K: Sink, L: Ledger>(
     )?;
     put_part(
         front,
-        marks,
         Part::NewNodes,
         &sets.new_nodes,
         steps,
@@ -139,7 +132,6 @@ pub(crate) fn write_sets<K: Sink, L: Ledger>(
     )?;
     put_part(
         front,
-        marks,
         Part::PutFaces,
         &sets.put_faces,
         steps,

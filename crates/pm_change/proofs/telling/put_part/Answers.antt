@@ -1,14 +1,14 @@
-use Rattle.std.proofs.Common.{◌+◌, ◌++◌, List, ℕ, length, sym, ◌∙◌, subst, arith}
+use Rattle.std.proofs.Common.{◌+◌, List, ℕ, length, sym, ◌∙◌, subst, arith}
 use Rattle.std.specs.List.{flat_map}
 use Rattle.std.proofs.lemmas.Result.{err_from_is_err_and}
-use Rattle.pm_io.specs.Bytes.{GainsThrough, GainsPart}
+use Rattle.pm_io.specs.Bytes.{GainsThrough}
 use Rattle.pm_io.proofs.PutLaws.{through_failed, through_done}
 use Rattle.pm_base.specs.Counts.{set_of}
 use Rattle.pm_sets.proofs.FlagLaws.{in_below}
 use Rattle.pm_frame.proofs.Lines.{line_next, line_cut}
-use Rattle.pm_change.specs.Parts.{is_of_part, bound_of_part, part_line}
-use Rattle.pm_change.proofs.PartLaws.{bound_most, can_tell}
-use Rattle.pm_change.proofs.TellLaws.{passing_gap, passing_past, passing_up, just_numbers}
+use Rattle.pm_change.specs.Parts.{part_line}
+use Rattle.pm_change.proofs.PartLaws.{bound_most}
+use Rattle.pm_change.proofs.TellLaws.{passing_gap, passing_past, passing_up}
 use Rattle.pm_change.proofs.telling.put_part.Goals as goal
 
 pub overflow_add-from : goal.overflow_add-from
@@ -19,14 +19,12 @@ overflow_add-from g c =
 
 pub put_line-requires : goal.put_line-requires
 put_line-requires g c =
-    can_tell c.args.front.now.h (set_of c.args._marks.now) (set_of c.args.front.now.flags)
-    c.args.numbers.now c.in-Some.number c.in-Some.ensures.some.there c.args.part c.requires
+    c.requires.each c.in-Some.number c.in-Some.ensures.some.there
 
 pub returns-in_err-add-clause-puts : goal.returns-in_err-add-clause-puts
 returns-in_err-add-clause-puts g c =
     let p = err_from_is_err_and c.from_residual.result c.from_residual.ensures.1 in
     let h = c.args.front.now.h in
-    let S = set_of c.args._marks.now in
     let G = set_of c.args.front.now.flags in
     let flags = c.args.numbers.now in
     let line = part_line h G c.args.part in
@@ -36,14 +34,10 @@ returns-in_err-add-clause-puts g c =
     let so_far = subst (λ (xs : List ℕ). GainsThrough (g.K.Sink.got c.args.out.now)
     (g.K.Sink.got c.loop-number.out) c.args.page.now c.loop-number.page (flat_map line xs))
     (sym gap) c.loop-number.invariant.text in
-    let part = line_cut (set_of flags) line n (length flags) _ _ _ _ _ _
+    let whole = line_cut (set_of flags) line n (length flags) _ _ _ _ _ _
     (in_below flags n first.there) first.there
     (◌∙◌ {c = line n} c.as_slice.ensures c.put_line.ensures) so_far
     c.in_err-add.ensures.puts.err in
-    let whole = subst (λ (xs : List ℕ). GainsPart (g.K.Sink.got c.args.out.now)
-    (g.K.Sink.got c.add.new.out) (c.args.page.now ++ flat_map line xs))
-    (just_numbers (is_of_part h S G c.args.part) (bound_of_part h c.args.part) flags
-    c.requires) part in
     rw (p.1, p.2) (through_failed g.K.Sink c.args.out.now c.loop-number.out _ _ _ _ _ whole
     c.loop-number.invariant.calm c.in_err-add.ensures.puts.cause)
 
@@ -87,18 +81,15 @@ loop-number-preserved g c =
 pub returns-clause-puts : goal.returns-clause-puts
 returns-clause-puts g c =
     let h = c.args.front.now.h in
-    let S = set_of c.args._marks.now in
     let G = set_of c.args.front.now.flags in
     let flags = c.args.numbers.now in
     let line = part_line h G c.args.part in
     let i = c.loop-number.invariant in
     let gap = passing_gap (set_of flags) c.loop-number.from (length flags) i.within
     c.in_default.ensures.none in
-    let same = sym gap ∙ just_numbers (is_of_part h S G c.args.part) (bound_of_part h c.args.part)
-    flags c.requires in
     let whole = subst (λ (xs : List ℕ). GainsThrough (g.K.Sink.got c.args.out.now)
     (g.K.Sink.got c.loop-number.out) c.args.page.now c.loop-number.page (flat_map line xs))
-    same i.text in
+    (sym gap) i.text in
     through_done g.K.Sink c.args.out.now c.loop-number.out c.args.page.now c.loop-number.page _ _
     whole i.calm
 

@@ -1,7 +1,20 @@
 use Rattle.pm_base.specs.Counts.{set_of}
 use Rattle.pm_beyond.proofs.Standing.{closed-front}
+use Rattle.pm_io.proofs.PutLaws.{puts_same}
 use Rattle.pm_change.proofs.CostLaws.{steps_few}
+use Rattle.pm_change.proofs.PartLaws.{can_tell_sets, text_in-change}
 use Rattle.pm_change.proofs.changer.Changer.write_counted.Goals as goal
+
+pub write_sets-told-requires : goal.write_sets-told-requires
+write_sets-told-requires g c =
+    can_tell_sets c.args.front.now.h (set_of c.args.marks.now) (set_of c.args.front.now.flags)
+    c.gather.new.self c.gather.ensures.sets
+
+pub returns-clause-puts : goal.returns-clause-puts
+returns-clause-puts g c =
+    puts_same g.K.Sink _ _ _ _ _
+    (text_in-change c.args.front.now.h (set_of c.args.marks.now) (set_of c.args.front.now.flags)
+    c.gather.new.self c.gather.ensures.sets) c.write_sets-told.ensures.puts
 
 pub returns-clause-cost : goal.returns-clause-cost
 returns-clause-cost g c =
