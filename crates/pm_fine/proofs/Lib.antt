@@ -12,5 +12,6 @@ mod FourthRows
 mod LevelLaws
 mod NearLaws
 mod NormalLaws
+mod QuotientLaws
 mod Words
 mod ReadBack

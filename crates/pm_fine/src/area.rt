@@ -6,7 +6,7 @@ ghost use Rattle.pm_fine.specs.Rounded.{near, root};
 ghost use Rattle.pm_fine.specs.Normals.{IsWithin, area_normal_of};
 
 use crate::FineNormal;
-use crate::rounding::{near, root};
+use crate::rounding::{inverse_of, near, root};
 use pm_base::Normal;
 
 // The square of a number of a normal.
@@ -41,8 +41,8 @@ fn root_length(square: u128) -> u64
     root(u128::from(once))
 }
 
-// A number of a normal brought to its length.
-fn part(a: i64, root: u64) -> i32
+// A number of a normal brought to its length, by about the inverse of the root.
+fn part(a: i64, root: u64, inverse: u64) -> i32
     requires a_small { unsigned_abs a ≤ 8589410312 }
     requires some { 0 < root }
     requires small { root ≤ 2 ^ 29 }
@@ -50,7 +50,7 @@ fn part(a: i64, root: u64) -> i32
     ensures value { result ≡ near (pos (2 ^ 18) *ℤ a) root }
     ensures small { unsigned_abs result < 2 ^ 23 }
 {
-    near(262_144 * a, root) as i32
+    near(262_144 * a, root, inverse) as i32
 }
 
 /// The normal of a face, given by `cross`, brought to 64 times the root of its length.
@@ -64,5 +64,10 @@ pub fn area_normal(n: Normal) -> FineNormal
         return FineNormal::zero();
     }
     let root = root_length(square);
-    FineNormal::new(part(n.x, root), part(n.y, root), part(n.z, root))
+    let inverse = inverse_of(root);
+    FineNormal::new(
+        part(n.x, root, inverse),
+        part(n.y, root, inverse),
+        part(n.z, root, inverse),
+    )
 }

@@ -16,7 +16,7 @@ ghost use Rattle.pm_fine.specs.FourthLaws.{FourthIsAPlace, AreFourthPlaces};
 use crate::FineQuadric;
 use crate::matrix::{Matrix, Vector, digits_above, short};
 use crate::place::midpoint_of;
-use crate::rounding::near;
+use crate::rounding::{inverse_of, near};
 use pm_base::Point;
 
 // The greatest difference of a coordinate of m from that of t.
@@ -49,8 +49,9 @@ fn moved(m: Point, x: i32, y: i32, z: i32) -> Option<Point>
     Point::new(plus(m.x(), x), plus(m.y(), y), plus(m.z(), z))
 }
 
-// The quotient of a number without its last digits to the nearest whole number.
-fn quotient(a: i128, digits: u32, divisor: u64) -> i32
+// The quotient of a number without its last digits to the nearest whole number, by about the
+// inverse of the divisor.
+fn quotient(a: i128, digits: u32, divisor: u64, inverse: u64) -> i32
     requires digits { digits < 128 }
     requires some { 0 < divisor }
     requires kept { divisor < 2 ^ 42 }
@@ -58,7 +59,7 @@ fn quotient(a: i128, digits: u32, divisor: u64) -> i32
     ensures value { result ≡ near (int_shr a digits) divisor }
     ensures small { unsigned_abs result ≤ 2 ^ 20 }
 {
-    near(short(a, digits) as i64, divisor) as i32
+    near(short(a, digits) as i64, divisor, inverse) as i32
 }
 
 // Whether no quotient of a vector and a determinant is greater than four times the reach and one.
@@ -85,9 +86,10 @@ fn quotients_place(m: Point, reach: u32, n: &Vector, det: i128) -> Option<Point>
     let size = det.unsigned_abs();
     let digits = digits_above(42, size);
     let divisor = (size >> digits) as u64;
-    let x = quotient(n.x, digits, divisor);
-    let y = quotient(n.y, digits, divisor);
-    let z = quotient(n.z, digits, divisor);
+    let inverse = inverse_of(divisor);
+    let x = quotient(n.x, digits, divisor, inverse);
+    let y = quotient(n.y, digits, divisor, inverse);
+    let z = quotient(n.z, digits, divisor, inverse);
     moved(m, x, y, z)
 }
 

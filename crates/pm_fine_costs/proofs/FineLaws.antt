@@ -61,9 +61,10 @@ pub goes_first :
     ((v : ℕ) → v < length m.points →
     StandsFor (quadrics_at t v).brought (planes_round as_it_is (surface_of m) v)) →
     ((v : ℕ) → v < length m.points →
-    StandsFor (quadrics_at t v).taken (planes_round doubled (surface_of m) v)) →
+    StandsFor (quadrics_at t v).all (planes_round doubled (surface_of m) v
+    ++ planes_round as_it_is (surface_of m) v)) →
     GoesByFine t (fine_keeping kept) m []
-goes_first kept m t len slots brought taken =
+goes_first kept m t len slots brought all =
     let p : Policy = fine_keeping kept in
     let nil = surface_after-nil m in
     let points = length-map m.points Some in
@@ -74,20 +75,15 @@ goes_first kept m t len slots brought taken =
       policy = refl;
       brought = λ v live. brought v (low v live) ∙ ap sums_of
           (sym ((planes_are_taken p m).0 v).brought);
-      taken = λ v live. taken v (low v live) ∙ ap sums_of (sym ((planes_are_taken p m).0 v).taken);
+      all = λ v live. all v (low v live)
+          ∙ ap (λ (k : List Plane). sums_of (k ++ planes_round as_it_is (surface_of m) v))
+          (sym ((planes_are_taken p m).0 v).taken)
+          ∙ ap (λ (k : List Plane). sums_of (taken_after p m [] v ++ k))
+          (sym ((planes_are_taken p m).0 v).brought);
       own = λ v w live_v live_w same.
           sym (slots v (low v live_v)) ∙ same ∙ slots w (low w live_w);
       room = omega (arith, ap next_vertex nil, ap live_count_of nil, first_live_count m);
     }
-
--- What is read of a table, and summed.
-pub sum_is :
-    (t inside : Slotted BothQuadrics) (v : ℕ) (q : BothQuadrics) (r : Sums) → inside ≡ t →
-    q ≡ quadrics_at inside v → r ≡ plus_sums q.taken q.brought →
-    r ≡ plus_sums (quadrics_at t v).taken (quadrics_at t v).brought
-sum_is t inside v q r view read sum =
-    let is = read ∙ ap (λ (x : Slotted BothQuadrics). quadrics_at x v) view in
-    sum ∙ ap (λ (k : BothQuadrics). plus_sums k.taken k.brought) is
 
 -- With the mesh after a run.
 module _
@@ -110,40 +106,20 @@ module _
         count_is (quadrics_at t v).brought (brought_after p m log v)
         (goes.brought v (live_here v live))
 
-    taken_count : (quadrics_at t v).taken.count ≡ length (taken_after p m log v)
-    taken_count =
-        count_is (quadrics_at t v).taken (taken_after p m log v) (goes.taken v (live_here v live))
-
-    all_count :
-        (quadrics_at t v).taken.count + (quadrics_at t v).brought.count ≡
-        length (planes_by p m log v)
+    all_count : (quadrics_at t v).all.count ≡ length (planes_by p m log v)
     all_count =
+        count_is (quadrics_at t v).all (planes_by p m log v) (goes.all v (live_here v live))
+
+    brought_fits : (quadrics_at t v).brought.count ≤ (quadrics_at t v).all.count
+    brought_fits =
         let both = length-append (taken_after p m log v) (brought_after p m log v) in
         let one = brought_count in
-        let two = taken_count in
-        omega arith
-
-    pub vertex_fits :
-        (quadrics_at t v).taken.count + (quadrics_at t v).brought.count ≤ MOST_FINE_PLANES
-    vertex_fits =
-        let most = few.vertex v (live_here v live) in
-        let faces = after.start.formed.faces in
         let all = all_count in
         omega arith
 
-    pub stands_all :
-        StandsFor (plus_sums (quadrics_at t v).taken (quadrics_at t v).brought)
-        (planes_by p m log v)
-    stands_all =
-        sums_joined (quadrics_at t v).taken (quadrics_at t v).brought (taken_after p m log v)
-        (brought_after p m log v) (goes.taken v (live_here v live))
-        (goes.brought v (live_here v live))
-
   module _ (a b : ℕ) (la : is_live s.surface a ≡ true) (lb : is_live s.surface b ≡ true) where
     pub pair_fits :
-        a < b →
-        ((quadrics_at t a).taken.count + (quadrics_at t a).brought.count) +
-        ((quadrics_at t b).taken.count + (quadrics_at t b).brought.count) ≤ MOST_FINE_PLANES
+        a < b → (quadrics_at t a).all.count + (quadrics_at t b).all.count ≤ MOST_FINE_PLANES
     pair_fits order =
         let most = few.pair a b order (live_here a la) (live_here b lb) in
         let both = length-append (planes_by p m log a) (planes_by p m log b) in
@@ -153,12 +129,12 @@ module _
         omega arith
 
     pub stands_pair :
-        (q r z : Sums) → q ≡ plus_sums (quadrics_at t a).taken (quadrics_at t a).brought →
-        r ≡ plus_sums (quadrics_at t b).taken (quadrics_at t b).brought → z ≡ plus_sums q r →
-        StandsFor z (pair_planes_by p m log a b)
+        (q r : BothQuadrics) (z : Sums) → q ≡ quadrics_at t a → r ≡ quadrics_at t b →
+        z ≡ plus_sums q.all r.all → StandsFor z (pair_planes_by p m log a b)
     stands_pair q r z first second both =
-        both ∙ sums_joined q r (planes_by p m log a) (planes_by p m log b)
-        (first ∙ stands_all a la) (second ∙ stands_all b lb)
+        both ∙ sums_joined q.all r.all (planes_by p m log a) (planes_by p m log b)
+        (ap (λ (k : BothQuadrics). k.all) first ∙ goes.all a (live_here a la))
+        (ap (λ (k : BothQuadrics). k.all) second ∙ goes.all b (live_here b lb))
 
     -- The place by the policy is the best of four.
     pub best_is :
@@ -212,9 +188,18 @@ module _
   pub merged_fits :
       (quadrics_at t c.t).brought.count + (quadrics_at t c.u).brought.count ≤ MOST_FINE_PLANES
   merged_fits =
-      let fits = pair_fits p m log here t
-      (record { start = after.start; run = run; surface = refl }) goes c.t c.u live.0 live.1
-      step.ordered in omega arith
+      let before : IsAfter m log here =
+      record {
+        start = after.start;
+        run = run;
+        surface = refl;
+      } in
+      omega (
+        arith,
+        pair_fits p m log here t before goes c.t c.u live.0 live.1 step.ordered,
+        brought_fits p m log here t before goes c.t live.0,
+        brought_fits p m log here t before goes c.u live.1,
+      )
 
   later : surface_after m (log ++ c ∷ []) ≡ collapsed now c.t c.u c.place
   later = surface_after-more m log c
@@ -225,9 +210,45 @@ module _
       ∙ ap (is_live (collapsed now c.t c.u c.place)) (step-new now c step)
       ∙ new_live now c.t c.u c.place
 
-  module _ (r : Slotted BothQuadrics) (q : BothQuadrics) (w : IsPut t c.t c.s q r)
+  abbrev more : List Collapse
+  more = log ++ c ∷ []
+
+  -- The new vertex.
+  module _ (brings takes : Sums)
+      (brought : brings ≡ plus_sums (quadrics_at t c.t).brought (quadrics_at t c.u).brought)
+      (taken : StandsFor takes (planes_round doubled s.surface c.s)) where
+    made_brought : StandsFor brings (brought_after p m more c.s)
+    made_brought =
+        brought
+        ∙ sums_joined (quadrics_at t c.t).brought (quadrics_at t c.u).brought
+        (brought_after p m log c.t) (brought_after p m log c.u) (goes.brought c.t live.0)
+        (goes.brought c.u live.1)
+        ∙ ap sums_of (sym ((planes_are_taken p m).1 log c).brought)
+
+    made_taken : StandsFor takes (taken_after p m more c.s)
+    made_taken =
+        taken
+        ∙ ap (λ (z : Surface). sums_of (planes_round doubled z c.s)) after.surface
+        ∙ ap sums_of (sym (takes_round p goes.policy (surface_after m more) c.s))
+        ∙ ap sums_of (sym ((planes_are_taken p m).1 log c).taken)
+
+    pub made_fits : takes.count + brings.count ≤ MOST_FINE_PLANES
+    made_fits =
+        let few = few_planes p goes.policy m after.start more after.run in
+        omega (
+          arith,
+          few.vertex c.s (subst (λ (z : Surface). is_live z c.s ≡ true) after.surface made_live),
+          length-append (taken_after p m more c.s) (brought_after p m more c.s),
+          count_is takes (taken_after p m more c.s) made_taken,
+          count_is brings (brought_after p m more c.s) made_brought,
+          after.start.formed.faces,
+        )
+
+  module _ (r : Slotted BothQuadrics) (q : BothQuadrics) (takes : Sums)
+      (w : IsPut t c.t c.s q r)
       (brought : q.brought ≡ plus_sums (quadrics_at t c.t).brought (quadrics_at t c.u).brought)
-      (taken : StandsFor q.taken (planes_round doubled s.surface c.s)) where
+      (taken : StandsFor takes (planes_round doubled s.surface c.s))
+      (all : q.all ≡ plus_sums takes q.brought) where
     merged : IsPut t c.t (next_vertex now) q r
     merged = subst (λ (k : ℕ). IsPut t c.t k q r) (step-new now c step) w
 
@@ -237,23 +258,10 @@ module _
     low_u : c.u < next_vertex now
     low_u = live_below now c.u live.1
 
-    abbrev more : List Collapse
-    more = log ++ c ∷ []
-
-    made_brought : StandsFor q.brought (brought_after p m more c.s)
-    made_brought =
-        brought
-        ∙ sums_joined (quadrics_at t c.t).brought (quadrics_at t c.u).brought
-        (brought_after p m log c.t) (brought_after p m log c.u) (goes.brought c.t live.0)
-        (goes.brought c.u live.1)
-        ∙ ap sums_of (sym ((planes_are_taken p m).1 log c).brought)
-
-    made_taken : StandsFor q.taken (taken_after p m more c.s)
-    made_taken =
-        taken
-        ∙ ap (λ (z : Surface). sums_of (planes_round doubled z c.s)) after.surface
-        ∙ ap sums_of (sym (takes_round p goes.policy (surface_after m more) c.s))
-        ∙ ap sums_of (sym ((planes_are_taken p m).1 log c).taken)
+    made_all : StandsFor q.all (planes_by p m more c.s)
+    made_all =
+        all ∙ sums_joined takes q.brought (taken_after p m more c.s) (brought_after p m more c.s)
+        (made_taken q.brought takes brought taken) (made_brought q.brought takes brought taken)
 
     module _ (v : ℕ) (there : is_live (collapsed now c.t c.u c.place) v ≡ true) where
       others : v ≢ c.s → (is_live now v ≡ true) × (quadrics_at r v ≡ quadrics_at t v)
@@ -269,7 +277,8 @@ module _
           elim (cases_eq v c.s) [
             | inl is ↦
                 ap (λ (k : ℕ). (quadrics_at r k).brought) is
-                ∙ ap (λ (k : BothQuadrics). k.brought) (w.made no_quadrics) ∙ made_brought
+                ∙ ap (λ (k : BothQuadrics). k.brought) (w.made no_quadrics)
+                ∙ made_brought q.brought takes brought taken
                 ∙ ap (λ (k : ℕ). sums_of (brought_after p m more k)) (sym is)
             | inr off ↦
                 let o = others off in
@@ -277,17 +286,19 @@ module _
                 ∙ ap sums_of (sym (((planes_are_taken p m).1 log c).others v off).1)
           ]
 
-      each_taken : StandsFor (quadrics_at r v).taken (taken_after p m more v)
-      each_taken =
+      each_all : StandsFor (quadrics_at r v).all (planes_by p m more v)
+      each_all =
           elim (cases_eq v c.s) [
             | inl is ↦
-                ap (λ (k : ℕ). (quadrics_at r k).taken) is
-                ∙ ap (λ (k : BothQuadrics). k.taken) (w.made no_quadrics) ∙ made_taken
-                ∙ ap (λ (k : ℕ). sums_of (taken_after p m more k)) (sym is)
+                ap (λ (k : ℕ). (quadrics_at r k).all) is
+                ∙ ap (λ (k : BothQuadrics). k.all) (w.made no_quadrics) ∙ made_all
+                ∙ ap (λ (k : ℕ). sums_of (planes_by p m more k)) (sym is)
             | inr off ↦
                 let o = others off in
-                ap (λ (k : BothQuadrics). k.taken) o.1 ∙ goes.taken v o.0
-                ∙ ap sums_of (sym (((planes_are_taken p m).1 log c).others v off).0)
+                let kept = ((planes_are_taken p m).1 log c).others v off in
+                ap (λ (k : BothQuadrics). k.all) o.1 ∙ goes.all v o.0
+                ∙ ap (λ (k : List Plane). sums_of (k ++ brought_after p m log v)) (sym kept.0)
+                ∙ ap (λ (k : List Plane). sums_of (taken_after p m more v ++ k)) (sym kept.1)
           ]
 
     pub goes_more : GoesByFine r p m (log ++ c ∷ [])
@@ -300,8 +311,8 @@ module _
           policy = goes.policy;
           brought = λ v there.
               each_brought v (subst (λ (z : Surface). is_live z v ≡ true) later there);
-          taken = λ v there.
-              each_taken v (subst (λ (z : Surface). is_live z v ≡ true) later there);
+          all = λ v there.
+              each_all v (subst (λ (z : Surface). is_live z v ≡ true) later there);
           own = subst (λ (z : Surface). HaveOwnSlots z r.slots) (sym later) own;
           room = omega (
             arith,

@@ -1,7 +1,7 @@
 -- The planes of the input's vertices, corner by corner.
 use Rattle.std.proofs.Common.{◌≡◌, ◌≢◌, ℕ, ◌+◌, ◌*◌, ◌<◌, ◌≤◌, Bool, true, false, eqb, ◌&&◌}
 use Rattle.std.proofs.Common.{Option, Some, None, List, [], ◌∷◌, ◌++◌}
-use Rattle.std.proofs.Common.{length, append-nil, get_or, set, get_or-set_same}
+use Rattle.std.proofs.Common.{zero, suc, ◌-◌, length, length-append, append-nil, get_or, set, get_or-set_same}
 use Rattle.std.proofs.Common.{get_or-set_other, inl, inr, refl, sym, ap, ◌∙◌, subst, arith}
 use Rattle.std.specs.Prelude.{is_none}
 use Rattle.std.specs.Option.{option_map}
@@ -35,6 +35,9 @@ use Rattle.pm_fine_costs.specs.CornerPlanes.{corner_of, normals_of, doubled_norm
 use Rattle.pm_fine_costs.specs.FineCosts.{no_quadrics}
 use Rattle.pm_fine_costs.proofs.CornerLaws.{planes_same, planes_doubled}
 use Rattle.pm_fine_costs.proofs.TakenLaws.{corner_few, all_few}
+use Rattle.pm_fine_costs.proofs.CornerCounts.{round_few}
+use Rattle.pm_fine_costs.proofs.PlaneSums.{plus-paired}
+use Rattle.pm_quadric.proofs.Expansion.{sums-append}
 
 -- Whether a side of the mesh is open, by the table of twins.
 pub open_is :
@@ -103,6 +106,39 @@ module _ (mesh : Mesh) where
       (let len = length-map mesh.faces Some in omega arith) in
       ap (planes_below w v) (is ∙ sides)
 
+  below_grows : (w : Direction → Direction) (v n : ℕ) →
+      length (planes_below w v n) ≤ length (planes_below w v (n + 1))
+  below_grows w v n =
+      let more = flat_map (corner_planes w s v) (filter (is_round v) (n ∷ [])) in
+      omega (arith, ap length (below_more w v n), length-append (planes_below w v n) more)
+
+  below_later : (w : Direction → Direction) (v n k : ℕ) →
+      length (planes_below w v n) ≤ length (planes_below w v (n + k))
+  below_later w v n zero =
+      let same : n + 0 ≡ n = omega arith in
+      omega (arith, ap (λ (j : ℕ). length (planes_below w v j)) same)
+  below_later w v n (suc k) =
+      let one : n + k + 1 ≡ n + suc k = omega arith in
+      omega (
+        arith,
+        below_later w v n k,
+        below_grows w v (n + k),
+        ap (λ (j : ℕ). length (planes_below w v j)) one,
+      )
+
+  -- Three for each face of the mesh at most.
+  pub below_most : (w : Direction → Direction) (v n : ℕ) → n < 3 * length mesh.faces →
+      length (planes_below w v n) ≤ 3 * length mesh.faces
+  below_most w v n low =
+      let end : n + (3 * length mesh.faces - n) ≡ 3 * length mesh.faces = omega arith in
+      omega (
+        arith,
+        below_later w v n (3 * length mesh.faces - n),
+        ap length (below_all w v (n + (3 * length mesh.faces - n)) end),
+        round_few s v w,
+        length-map mesh.faces Some,
+      )
+
   module _ (formed : IsWellFormed mesh) (n : ℕ) (low : n < 3 * length mesh.faces) where
     side_stands : Stands m n
     side_stands = subst (λ (k : Net). Stands k n) (sym (net_there mesh))
@@ -140,6 +176,36 @@ module _ (mesh : Mesh) where
         let faces = formed.faces in
         omega arith
 
+    pub both_fit :
+        (v : ℕ) (old : Sums) →
+        StandsFor old (planes_below doubled v n ++ planes_below as_it_is v n) →
+        old.count + 6 ≤ MOST_FINE_PLANES
+    both_fit v old before =
+        omega (
+          arith,
+          count_is old (planes_below doubled v n ++ planes_below as_it_is v n) before,
+          length-append (planes_below doubled v n) (planes_below as_it_is v n),
+          below_most doubled v n low,
+          below_most as_it_is v n low,
+          formed.faces,
+        )
+
+    -- The sums of the planes below, with those of one corner more.
+    module _ (w : Direction → Direction) (v u : ℕ) (sum : Sums)
+        (at : u ≡ (net_of mesh.faces).from n)
+        (planes : StandsFor sum (corner_planes w s (m.from n) n)) where
+      abbrev old : Sums
+      old = sums_of (planes_below w v n)
+
+      sums_here : v ≡ u → plus_sums old sum ≡ sums_of (planes_below w v (n + 1))
+      sums_here is =
+          corner_more w v u old (plus_sums old sum) sum at refl (λ same. refl)
+          (λ ne. absurd (ne is)) planes
+
+      sums_other : v ≢ u → old ≡ sums_of (planes_below w v (n + 1))
+      sums_other ne =
+          corner_more w v u old old sum at refl (λ is. absurd (ne is)) (λ off. refl) planes
+
     -- Both quadrics of a vertex.
     module _
         (items more : List BothQuadrics) (u v : ℕ) (k : Corner) (within : u < length items)
@@ -147,15 +213,17 @@ module _ (mesh : Mesh) where
         (set_is : more ≡ set items u (record {
           brought = plus_sums (get_or items u no_quadrics).brought
               (sums_of (planes_with (normals_of k) k.at));
-          taken = plus_sums (get_or items u no_quadrics).taken
-              (sums_of (planes_with (doubled_normals (normals_of k)) k.at));
+          all = plus_sums (get_or items u no_quadrics).all (plus_sums
+              (sums_of (planes_with (doubled_normals (normals_of k)) k.at))
+              (sums_of (planes_with (normals_of k) k.at)));
         })) where
       abbrev added : BothQuadrics
       added = record {
         brought = plus_sums (get_or items u no_quadrics).brought
             (sums_of (planes_with (normals_of k) k.at));
-        taken = plus_sums (get_or items u no_quadrics).taken
-            (sums_of (planes_with (doubled_normals (normals_of k)) k.at));
+        all = plus_sums (get_or items u no_quadrics).all (plus_sums
+            (sums_of (planes_with (doubled_normals (normals_of k)) k.at))
+            (sums_of (planes_with (normals_of k) k.at)));
       }
 
       item_here : v ≡ u → get_or more v no_quadrics ≡ added
@@ -182,16 +250,57 @@ module _ (mesh : Mesh) where
           (ap (λ (j : Corner). sums_of (planes_with (normals_of j) j.at)) corner
           ∙ ap sums_of (sym (planes_same s n)))
 
-      pub taken_more :
-          StandsFor (get_or items v no_quadrics).taken (planes_below doubled v n) →
-          StandsFor (get_or more v no_quadrics).taken (planes_below doubled v (n + 1))
-      taken_more before =
-          corner_more doubled v u (get_or items v no_quadrics).taken
-          (get_or more v no_quadrics).taken (sums_of
-          (planes_with (doubled_normals (normals_of k)) k.at)) at before
-          (λ is. ap (λ (q : BothQuadrics). q.taken) (item_here is)
-          ∙ ap (λ (j : ℕ). plus_sums (get_or items j no_quadrics).taken
-          (sums_of (planes_with (doubled_normals (normals_of k)) k.at))) (sym is))
-          (λ ne. ap (λ (q : BothQuadrics). q.taken) (item_other ne))
-          (ap (λ (j : Corner). sums_of (planes_with (doubled_normals (normals_of j)) j.at)) corner
-          ∙ ap sums_of (sym (planes_doubled s n)))
+      abbrev plain : Sums
+      plain = sums_of (planes_with (normals_of k) k.at)
+
+      abbrev weighty : Sums
+      weighty = sums_of (planes_with (doubled_normals (normals_of k)) k.at)
+
+      plain_is : StandsFor plain (corner_planes as_it_is s (m.from n) n)
+      plain_is =
+          ap (λ (j : Corner). sums_of (planes_with (normals_of j) j.at)) corner
+          ∙ ap sums_of (sym (planes_same s n))
+
+      weighty_is : StandsFor weighty (corner_planes doubled s (m.from n) n)
+      weighty_is =
+          ap (λ (j : Corner). sums_of (planes_with (doubled_normals (normals_of j)) j.at)) corner
+          ∙ ap sums_of (sym (planes_doubled s n))
+
+      abbrev first : List Plane
+      first = planes_below doubled v n
+
+      abbrev second : List Plane
+      second = planes_below as_it_is v n
+
+      abbrev first_more : List Plane
+      first_more = planes_below doubled v (n + 1)
+
+      abbrev second_more : List Plane
+      second_more = planes_below as_it_is v (n + 1)
+
+      pub all_more :
+          StandsFor (get_or items v no_quadrics).all
+          (planes_below doubled v n ++ planes_below as_it_is v n) →
+          StandsFor (get_or more v no_quadrics).all
+          (planes_below doubled v (n + 1) ++ planes_below as_it_is v (n + 1))
+      all_more before =
+          elim (cases_eq v u) [
+            | inl is ↦
+                ap (λ (q : BothQuadrics). q.all) (item_here is)
+                ∙ ap (λ (j : ℕ). plus_sums (get_or items j no_quadrics).all
+                (plus_sums weighty plain)) (sym is)
+                ∙ ap (λ (x : Sums). plus_sums x (plus_sums weighty plain))
+                (before ∙ sums-append first second)
+                ∙ plus-paired (sums_of first) (sums_of second) weighty plain
+                ∙ ap (λ (x : Sums). plus_sums x (plus_sums (sums_of second) plain))
+                (sums_here doubled v u weighty at weighty_is is)
+                ∙ ap (plus_sums (sums_of first_more)) (sums_here as_it_is v u plain at plain_is is)
+                ∙ sym (sums-append first_more second_more)
+            | inr ne ↦
+                ap (λ (q : BothQuadrics). q.all) (item_other ne) ∙ before
+                ∙ sums-append first second
+                ∙ ap (λ (x : Sums). plus_sums x (sums_of second))
+                (sums_other doubled v u weighty at weighty_is ne)
+                ∙ ap (plus_sums (sums_of first_more)) (sums_other as_it_is v u plain at plain_is ne)
+                ∙ sym (sums-append first_more second_more)
+          ]

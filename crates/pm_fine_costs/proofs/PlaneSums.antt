@@ -41,6 +41,14 @@ plus-swap : (a b c : Sums) → plus_sums a (plus_sums b c) ≡ plus_sums b (plus
 plus-swap a b c =
     sym (plus-assoc a b c) ∙ ap (λ (s : Sums). plus_sums s c) (plus-comm a b) ∙ plus-assoc b a c
 
+-- Two sums of two, each with the like of the other.
+pub plus-paired :
+    (a b c d : Sums) →
+    plus_sums (plus_sums a b) (plus_sums c d) ≡ plus_sums (plus_sums a c) (plus_sums b d)
+plus-paired a b c d =
+    plus-assoc a b (plus_sums c d) ∙ ap (plus_sums a) (plus-swap b c d)
+    ∙ sym (plus-assoc a c (plus_sums b d))
+
 module _ (f : ℕ → List Plane) where
   abbrev pub total : List ℕ → Sums
   total xs = sums_of (flat_map f xs)

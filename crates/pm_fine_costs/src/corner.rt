@@ -100,8 +100,12 @@ impl CornerNormals {
         ensures stands { StandsFor result (planes_with self.now p) }
         ensures few { result.count ≤ 3 }
     {
+        let face = FineQuadric::of_plane(&FinePlane::through(self.face, p));
+        if let (None, None) = (self.after, self.before) {
+            return face;
+        }
         let before = with_plane(FineQuadric::zero(), self.before, p);
         let sides = with_plane(before, self.after, p);
-        sides.with_plane(&FinePlane::through(self.face, p))
+        face.plus(&sides)
     }
 }

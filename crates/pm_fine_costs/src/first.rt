@@ -1,6 +1,6 @@
 //! What the input's vertices are brought and take.
-ghost use Rattle.std.specs.Prelude.{◌≡◌, ◌*◌, ◌<◌, ◌≤◌, ◌+◌, ℕ, length, slice_index_or};
-ghost use Rattle.std.specs.Prelude.{slice_set, IfOk};
+ghost use Rattle.std.specs.Prelude.{◌≡◌, ◌*◌, ◌<◌, ◌≤◌, ◌+◌, ◌++◌, ℕ, length};
+ghost use Rattle.std.specs.Prelude.{slice_index_or, slice_set, IfOk};
 ghost use Rattle.pm_base.specs.Meshes.{mesh_of};
 ghost use Rattle.pm_base.specs.Sides.{net_of};
 ghost use Rattle.pm_quadric.specs.Sums.{StandsFor, plus_sums, sums_of};
@@ -60,20 +60,23 @@ fn add_corner(quadrics: &mut Vec<BothQuadrics>, v: u32, corner: &Corner)
     requires within { v < length quadrics.old.items }
     requires brought_few { (slice_index_or quadrics.old.items v no_quadrics).brought.count + 3
         ≤ MOST_FINE_PLANES }
-    requires taken_few { (slice_index_or quadrics.old.items v no_quadrics).taken.count + 3
+    requires all_few { (slice_index_or quadrics.old.items v no_quadrics).all.count + 6
         ≤ MOST_FINE_PLANES }
     ensures { quadrics.new.items ≡ slice_set quadrics.old.items v (record {
       brought = plus_sums (slice_index_or quadrics.old.items v no_quadrics).brought
           (sums_of (planes_with (normals_of corner.now) corner.now.at));
-      taken = plus_sums (slice_index_or quadrics.old.items v no_quadrics).taken
-          (sums_of (planes_with (doubled_normals (normals_of corner.now)) corner.now.at));
+      all = plus_sums (slice_index_or quadrics.old.items v no_quadrics).all (plus_sums
+          (sums_of (planes_with (doubled_normals (normals_of corner.now)) corner.now.at))
+          (sums_of (planes_with (normals_of corner.now) corner.now.at)));
     }) }
 {
     let normals = CornerNormals::of(corner);
+    let more = normals.quadric_at(corner.at);
+    let both = normals.doubled().quadric_at(corner.at).plus(&more);
     let old = &quadrics[v as usize];
-    let brought = old.brought.plus(&normals.quadric_at(corner.at));
-    let taken = old.taken.plus(&normals.doubled().quadric_at(corner.at));
-    quadrics[v as usize] = BothQuadrics { brought, taken };
+    let brought = old.brought.plus(&more);
+    let all = old.all.plus(&both);
+    quadrics[v as usize] = BothQuadrics { brought, all };
 }
 
 /// The quadrics of each point of the mesh, in one pass over its corners.
@@ -85,9 +88,10 @@ pub(crate) fn first_quadrics(
     ensures brought { IfOk result (λ all. (v : ℕ) → v < length surface.now.points
         → StandsFor (slice_index_or all.items v no_quadrics).brought
         (planes_round as_it_is (surface_of surface.now) v)) }
-    ensures taken { IfOk result (λ all. (v : ℕ) → v < length surface.now.points
-        → StandsFor (slice_index_or all.items v no_quadrics).taken
-        (planes_round doubled (surface_of surface.now) v)) }
+    ensures all { IfOk result (λ all. (v : ℕ) → v < length surface.now.points
+        → StandsFor (slice_index_or all.items v no_quadrics).all
+        (planes_round doubled (surface_of surface.now) v
+        ++ planes_round as_it_is (surface_of surface.now) v)) }
 {
     surface.invariant();
     let mesh = surface.mesh();

@@ -19,7 +19,7 @@ use std::marker::Model;
 /// The answer for want of memory.
 pub type OutOfMemory = AllocError;
 
-/// What each live vertex was brought and has taken, as two quadrics. Contracts see the slots of the
+/// What each live vertex was brought, and that with what it has taken, as two quadrics. Contracts see the slots of the
 /// vertices, and the quadrics in each slot.
 #[derive(Drop)]
 pub struct FineTable {
@@ -54,8 +54,8 @@ impl Costs for FineTable {
     ghost goes_by = { GoesByFine };
 
     fn best(&self, shrink: &Shrink, a: u32, b: u32) -> (Point, u128) {
-        let first = self.vertices.get(a).all();
-        let both = first.plus(&self.vertices.get(b).all());
+        let first = self.vertices.get(a);
+        let both = first.all.plus(&self.vertices.get(b).all);
         best_fine_place(&both, shrink.place(a), shrink.place(b))
     }
 
@@ -64,7 +64,8 @@ impl Costs for FineTable {
         let first = self.vertices.get(entry.t);
         let brought = first.brought.plus(&self.vertices.get(entry.u).brought);
         let taken = taken_at(shrink, entry.s);
+        let all = taken.plus(&brought);
         self.vertices
-            .put(entry.t, entry.s, BothQuadrics { brought, taken });
+            .put(entry.t, entry.s, BothQuadrics { brought, all });
     }
 }

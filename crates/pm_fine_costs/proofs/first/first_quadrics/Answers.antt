@@ -1,15 +1,18 @@
-use Rattle.std.proofs.Common.{◌≡◌, ◌∙◌, ℕ, ◌*◌, ◌<◌, List, length, ap, arith}
+use Rattle.std.proofs.Common.{◌≡◌, ◌∙◌, ℕ, ◌*◌, ◌<◌, ◌++◌, List, length, ap, arith}
 use Rattle.std.specs.Prelude.{slice_index_or}
 use Rattle.std.proofs.lemmas.List.{length-set}
 use Rattle.pm_base.specs.declared.mesh.Corners.{Corners}
 use Rattle.pm_base.specs.Meshes.{Mesh}
 use Rattle.pm_base.specs.Sides.{net_of}
 use Rattle.pm_base.proofs.NetLaws.{mesh_side}
+use Rattle.pm_quadric.specs.Planes.{Plane}
 use Rattle.pm_quadric.specs.Sums.{sums_of}
+use Rattle.pm_runs.specs.Surfaces.{surface_of}
 use Rattle.pm_fine.specs.Normals.{doubled}
-use Rattle.pm_fine_costs.specs.FinePolicy.{as_it_is}
+use Rattle.pm_fine_costs.specs.FinePolicy.{as_it_is, planes_round}
 use Rattle.pm_fine_costs.specs.FineCosts.{no_quadrics}
-use Rattle.pm_fine_costs.proofs.FirstLaws.{below_all, below_fits, brought_more, taken_more}
+use Rattle.pm_fine_costs.proofs.FirstLaws.{below_all, below_fits, both_fit, brought_more, all_more}
+use Rattle.pm_fine_costs.proofs.FirstLaws.{planes_below}
 use Rattle.pm_fine_costs.proofs.first.first_quadrics.Goals as goal
 
 pub add_corner-requires-clause-within : goal.add_corner-requires-clause-within
@@ -37,8 +40,8 @@ add_corner-requires-clause-brought_few c =
     (slice_index_or c.loop-number.quadrics.items c.vertex_of.result no_quadrics).brought
     (c.loop-number.invariant.brought c.vertex_of.result within)
 
-pub add_corner-requires-clause-taken_few : goal.add_corner-requires-clause-taken_few
-add_corner-requires-clause-taken_few c =
+pub add_corner-requires-clause-all_few : goal.add_corner-requires-clause-all_few
+add_corner-requires-clause-all_few c =
     let mesh : Mesh = c.args.surface.now in
     let faces : c.as_slice-faces.result.now ≡ mesh.faces =
     c.as_slice-faces.ensures ∙ ap (λ (k : Mesh). k.faces) c.mesh-mesh.ensures in
@@ -47,9 +50,9 @@ add_corner-requires-clause-taken_few c =
     c.vertex_of.ensures ∙ ap (λ (k : List Corners). (net_of k).from c.loop-number.number) faces in
     let side = (mesh_side mesh c.invariant.ensures.formed c.loop-number.number low).1 in
     let within : c.vertex_of.result < length mesh.points = omega (arith, at, side) in
-    below_fits mesh c.invariant.ensures.formed c.loop-number.number low doubled c.vertex_of.result
-    (slice_index_or c.loop-number.quadrics.items c.vertex_of.result no_quadrics).taken
-    (c.loop-number.invariant.taken c.vertex_of.result within)
+    both_fit mesh c.invariant.ensures.formed c.loop-number.number low c.vertex_of.result
+    (slice_index_or c.loop-number.quadrics.items c.vertex_of.result no_quadrics).all
+    (c.loop-number.invariant.all c.vertex_of.result within)
 
 pub loop-number-preserved : goal.loop-number-preserved
 loop-number-preserved c =
@@ -69,10 +72,10 @@ loop-number-preserved c =
           c.loop-number.quadrics.items c.add_corner.new.quadrics.items c.vertex_of.result v
           c.corner_of.result within at c.corner_of.ensures c.add_corner.ensures
           (c.loop-number.invariant.brought v l);
-      taken = λ v l. taken_more mesh c.invariant.ensures.formed n low
+      all = λ v l. all_more mesh c.invariant.ensures.formed n low
           c.loop-number.quadrics.items c.add_corner.new.quadrics.items c.vertex_of.result v
           c.corner_of.result within at c.corner_of.ensures c.add_corner.ensures
-          (c.loop-number.invariant.taken v l);
+          (c.loop-number.invariant.all v l);
     }
 
 pub returns-clause-brought : goal.returns-clause-brought
@@ -84,11 +87,15 @@ returns-clause-brought c = λ v l.
     c.loop-number.invariant.brought v l
     ∙ ap sums_of (below_all mesh as_it_is v c.loop-number.number all)
 
-pub returns-clause-taken : goal.returns-clause-taken
-returns-clause-taken c = λ v l.
+pub returns-clause-all : goal.returns-clause-all
+returns-clause-all c = λ v l.
     let mesh : Mesh = c.args.surface.now in
     let faces : c.as_slice-faces.result.now ≡ mesh.faces =
     c.as_slice-faces.ensures ∙ ap (λ (k : Mesh). k.faces) c.mesh-mesh.ensures in
     let all : c.loop-number.number ≡ 3 * length mesh.faces = omega (arith, ap length faces) in
-    c.loop-number.invariant.taken v l
-    ∙ ap sums_of (below_all mesh doubled v c.loop-number.number all)
+    let n : ℕ = c.loop-number.number in
+    c.loop-number.invariant.all v l
+    ∙ ap (λ (k : List Plane). sums_of (k ++ planes_below mesh as_it_is v n))
+    (below_all mesh doubled v n all)
+    ∙ ap (λ (k : List Plane). sums_of (planes_round doubled (surface_of mesh) v ++ k))
+    (below_all mesh as_it_is v n all)

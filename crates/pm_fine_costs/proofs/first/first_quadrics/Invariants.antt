@@ -1,4 +1,4 @@
-use Rattle.std.proofs.Common.{◌≡◌, ◌<◌, ℕ, length, slice_index_or}
+use Rattle.std.proofs.Common.{◌≡◌, ◌<◌, ◌++◌, ℕ, length, slice_index_or}
 use Rattle.pm_quadric.specs.Sums.{StandsFor}
 use Rattle.pm_fine.specs.Normals.{doubled}
 use Rattle.pm_fine_costs.specs.FinePolicy.{as_it_is}
@@ -12,7 +12,7 @@ invariant-loop-number l = record {
   brought : (v : ℕ) → v < length l.surface.points →
       StandsFor (slice_index_or l.quadrics.items v no_quadrics).brought
       (planes_below l.surface as_it_is v l.number);
-  taken : (v : ℕ) → v < length l.surface.points →
-      StandsFor (slice_index_or l.quadrics.items v no_quadrics).taken
-      (planes_below l.surface doubled v l.number);
+  all : (v : ℕ) → v < length l.surface.points →
+      StandsFor (slice_index_or l.quadrics.items v no_quadrics).all
+      (planes_below l.surface doubled v l.number ++ planes_below l.surface as_it_is v l.number);
 }

@@ -14,6 +14,6 @@ returns c = λ kept.
     (λ v l. ap (λ (q : BothQuadrics). q.brought) (made.items v no_quadrics
     (omega (arith, l, points.len)))
     ∙ points.brought v l)
-    (λ v l. ap (λ (q : BothQuadrics). q.taken) (made.items v no_quadrics
+    (λ v l. ap (λ (q : BothQuadrics). q.all) (made.items v no_quadrics
     (omega (arith, l, points.len)))
-    ∙ points.taken v l)
+    ∙ points.all v l)

@@ -3,7 +3,8 @@ use Rattle.pm_quadric.specs.Sums.{plus_sums}
 use Rattle.pm_slots.specs.Slots.{Slotted, IsPut}
 use Rattle.pm_fine_costs.specs.declared.pair.BothQuadrics.{BothQuadrics}
 use Rattle.pm_fine_costs.specs.FineCosts.{no_quadrics, quadrics_at}
-use Rattle.pm_fine_costs.proofs.FineLaws.{merged_in, merged_fits, made_live, goes_more}
+use Rattle.pm_fine_costs.proofs.FineLaws.{merged_in, merged_fits, made_live}
+use Rattle.pm_fine_costs.proofs.FineLaws.{made_fits, goes_more}
 use Rattle.pm_fine_costs.proofs.table.FineTableCosts.merged.Goals as goal
 
 pub get-first-requires : goal.get-first-requires
@@ -41,6 +42,21 @@ taken_at-taken-requires c =
     let (p, m, log, after, goes) = c.requires.known in
     made_live p m log c.args.entry.now c.args.shrink.now c.args.self.now after goes
 
+pub plus-all-requires : goal.plus-all-requires
+plus-all-requires c =
+    let (p, m, log, after, goes) = c.requires.known in
+    let t = c.args.self.now in
+    let one = c.get-first.ensures no_quadrics
+    ∙ ap (λ (x : Slotted BothQuadrics). quadrics_at x c.args.entry.now.t) c.self.view_is in
+    let two = c.get.ensures no_quadrics
+    ∙ ap (λ (x : Slotted BothQuadrics). quadrics_at x c.args.entry.now.u) c.self.view_is in
+    let sum = c.plus-brought.ensures.sums
+    ∙ ap (λ (k : BothQuadrics). plus_sums k.brought c.get.result.now.brought) one
+    ∙ ap (λ (k : BothQuadrics). plus_sums (quadrics_at t c.args.entry.now.t).brought
+    k.brought) two in
+    made_fits p m log c.args.entry.now c.args.shrink.now t after goes c.plus-brought.result
+    c.taken_at-taken.result sum c.taken_at-taken.ensures
+
 pub put-requires-clause-a_in : goal.put-requires-clause-a_in
 put-requires-clause-a_in c =
     let (p, m, log, after, goes) = c.requires.known in
@@ -61,8 +77,7 @@ returns c = record {
       let t = c.args.self.now in
       let q : BothQuadrics = record {
         brought = c.plus-brought.result;
-        taken =
-            c.taken_at-taken.result;
+        all = c.plus-all.result;
       } in
       let inside : IsPut c.self.inside.vertices c.args.entry.now.t c.args.entry.now.s q
       c.put.new.self =
@@ -82,6 +97,6 @@ returns c = record {
       ∙ ap (λ (k : BothQuadrics). plus_sums k.brought c.get.result.now.brought) one
       ∙ ap (λ (k : BothQuadrics). plus_sums (quadrics_at t c.args.entry.now.t).brought
       k.brought) two in
-      goes_more p m log c.args.entry.now c.args.shrink.now t after goes c.put.new.self q put sum
-      c.taken_at-taken.ensures;
+      goes_more p m log c.args.entry.now c.args.shrink.now t after goes c.put.new.self q
+      c.taken_at-taken.result put sum c.taken_at-taken.ensures c.plus-all.ensures.sums;
 }
