@@ -95,17 +95,25 @@ impl CornerNormals {
         }
     }
 
-    /// The quadric of the planes with these normals through a place.
+    // The quadric of the planes with these normals through a place, whichever sides are open.
+    fn with_sides(&self, p: Point) -> FineQuadric
+        ensures stands { StandsFor result (planes_with self.now p) }
+        ensures few { result.count ≤ 3 }
+    {
+        let before = with_plane(FineQuadric::zero(), self.before, p);
+        let sides = with_plane(before, self.after, p);
+        sides.with_plane(&FinePlane::through(self.face, p))
+    }
+
+    /// The quadric of the planes with these normals through a place. Mostly there is the face's
+    /// alone.
     pub(crate) fn quadric_at(&self, p: Point) -> FineQuadric
         ensures stands { StandsFor result (planes_with self.now p) }
         ensures few { result.count ≤ 3 }
     {
-        let face = FineQuadric::of_plane(&FinePlane::through(self.face, p));
         if let (None, None) = (self.after, self.before) {
-            return face;
+            return FineQuadric::of_plane(&FinePlane::through(self.face, p));
         }
-        let before = with_plane(FineQuadric::zero(), self.before, p);
-        let sides = with_plane(before, self.after, p);
-        face.plus(&sides)
+        self.with_sides(p)
     }
 }

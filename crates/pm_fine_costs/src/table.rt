@@ -19,8 +19,8 @@ use std::marker::Model;
 /// The answer for want of memory.
 pub type OutOfMemory = AllocError;
 
-/// What each live vertex was brought, and that with what it has taken, as two quadrics. Contracts see the slots of the
-/// vertices, and the quadrics in each slot.
+/// What each live vertex was brought, and that with what it has taken, as two quadrics. Contracts
+/// see the slots of the vertices, and the quadrics in each slot.
 #[derive(Drop)]
 pub struct FineTable {
     vertices: SlotTable<BothQuadrics>,
