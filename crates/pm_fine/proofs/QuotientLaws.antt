@@ -1,5 +1,5 @@
 -- A quotient is the only number whose remainder is from 0 on and below the divisor.
-use Rattle.std.proofs.Common.{◌≡◌, ℕ, ◌+◌, ◌*◌, ◌<◌, ◌≤◌, true, ap, sym, arith}
+use Rattle.std.proofs.Common.{◌≡◌, true, ap, sym, arith}
 use Rattle.std.specs.Prelude.{ℤ, pos, negsuc, ◌-ℤ◌, ◌*ℤ◌, int_le, int_lt}
 use Rattle.std.specs.Int.{int_div_euclid}
 use Rattle.std.proofs.Math.Nat.{div-eq_of_lt-le}

@@ -1,4 +1,4 @@
-use Rattle.std.proofs.Common.{◌≡◌, true, w64, FitsSigned, ◌∙◌, ap, rules}
+use Rattle.std.proofs.Common.{◌≡◌, true, FitsSigned, ◌∙◌, ap, rules}
 use Rattle.std.specs.Prelude.{ℤ, pos, ◌-ℤ◌, ◌*ℤ◌, int_le, int_lt}
 use Rattle.std.proofs.lemmas.Int.{to_z-of_z}
 use mir.Syntax.{w128}
