@@ -6,20 +6,6 @@ use Rattle.pm_commands.specs.declared.asked.Asked.{Asked}
 use Rattle.pm_commands.specs.declared.fault.Fault.{Fault}
 use Rattle.pm_commands.specs.Outcome.{Replied, GivesBack, CutShort}
 use Rattle.pm_commands.specs.Frames.{ShowsSurfaces}
-use Rattle.pm_io.specs.Puts.{Stayed}
-use Rattle.pm_io.specs.Puts.{Said}
-
--- Nothing was read.
-abbrev pub Unread : {S : Type 0} → source.Ghosts S → S → S → Type 0
-Unread s before now = Stayed (s.left before) (s.left now) (s.faults before) (s.faults now)
-
--- Nothing was put.
-abbrev pub Unput : {K : Type 0} → sink.Ghosts K → K → K → Type 0
-Unput k before now = Stayed (k.got before) (k.got now) (k.faults before) (k.faults now)
-
--- The error sink gained the line, or a part of it where it failed.
-abbrev pub Tells : {E : Type 0} → sink.Ghosts E → E → E → List ℕ → Type 0
-Tells e before now line = Said (e.got before) (e.got now) (e.faults before) (e.faults now) line
 
 -- The outcome of what the source had left has this fault, or none, and exactly its text was put.
 abbrev pub Replies : {S K : Type 0} → source.Ghosts S → sink.Ghosts K → Asked → Option Fault → S → K

@@ -8,7 +8,8 @@ ghost use Rattle.pm_commands.specs.Frames.{ShowsSurfacesOf};
 ghost use Rattle.pm_commands.specs.Borders.{FramesShowBorder};
 ghost use Rattle.pm_commands.specs.Ending.{Ends, Counts, ReadToEnd, ReadToPlace, FewMore};
 ghost use Rattle.pm_commands.specs.Ending.{FewMoreLive, BlamesNoInput, status_of};
-ghost use Rattle.pm_commands.specs.Devices.{Unread, LeadsBack, FramesAreSurfaces};
+ghost use Rattle.pm_io.specs.Devices.{Unread};
+ghost use Rattle.pm_commands.specs.Devices.{LeadsBack, FramesAreSurfaces};
 
 use crate::asked::{Asked, Border};
 use crate::build::build;

@@ -3,7 +3,7 @@ ghost use Rattle.std.specs.Prelude.{◌≡◌, ◌≤◌, ◌++◌, length, code
 ghost use Rattle.pm_commands.specs.FaultText.{place_text, bare_text, stream_text, fault_text};
 ghost use Rattle.pm_commands.specs.FaultText.{fail_text};
 ghost use Rattle.pm_commands.specs.Ending.{status_of};
-ghost use Rattle.pm_commands.specs.Devices.{Tells};
+ghost use Rattle.pm_io.specs.Devices.{Tells};
 
 use crate::fault::{CommandFail, Fault};
 use pm_format::FormatError;

@@ -1,6 +1,6 @@
 -- The words of a command line.
-use Rattle.std.specs.Prelude.{ℕ, ◌==◌, List, [], ◌∷◌, map, drop, String, Option, Some, None, Result}
-use Rattle.std.specs.Prelude.{Ok, Err, if◌then◌else◌}
+use Rattle.std.specs.Prelude.{◌≡◌, ℕ, ◌==◌, List, [], ◌∷◌, map, drop, String, Option, Some, None}
+use Rattle.std.specs.Prelude.{Result, Ok, Err, if◌then◌else◌}
 use Rattle.std.specs.String.{string_bytes}
 use Rattle.std.specs.Vec.Iter.{into_iter_items}
 use Rattle.std.specs.declared.alloc.Global.{Global}
@@ -27,3 +27,7 @@ asked_size_of _ = None
 abbrev pub asked_of : Result (IntoIter (String Global) Global) Error → Option Asked
 asked_of (Ok args) = asked_size_of (map string_bytes (drop 1 (into_iter_items args)))
 asked_of (Err e) = None
+
+-- The arguments ask for this.
+abbrev pub Asks : Result (IntoIter (String Global) Global) Error → Asked → Type 0
+Asks args asked = asked_of args ≡ Some asked

@@ -1,20 +1,17 @@
 //! The program over any source and sinks.
-ghost use Rattle.std.specs.Prelude.{◌≡◌, ◌≢◌, ◌⊎◌, ◌≤◌, ◌<◌, ◌-◌, ◌^◌, ℕ, false, None, Some, IfOk};
+ghost use Rattle.std.specs.Prelude.{◌≡◌, ◌≢◌, ◌⊎◌, ◌≤◌, ◌<◌, ◌-◌, ◌^◌, ℕ, false, None, IfOk};
 ghost use Rattle.std.specs.Prelude.{IfErr, IfSome, OnOk, codes};
 ghost use Rattle.pm_base.specs.Meshes.{IsWellFormed, mesh_of};
 ghost use Rattle.pm_io.specs.Bytes.{AtEnd};
 ghost use Rattle.pm_io.specs.Causes.{Rose};
-ghost use Rattle.pm_io.specs.Puts.{Puts, Said, Stayed};
+ghost use Rattle.pm_io.specs.Devices.{Unread, Unput, Tells};
 ghost use Rattle.obj_prepare.specs.Placing.{IsSize};
 ghost use Rattle.prepare.specs.declared.words.Asked.{Asked};
-ghost use Rattle.obj_fit.specs.declared.fault.Fault.{Fault};
 ghost use Rattle.std.specs.IoError.{error_kind};
-ghost use Rattle.prepare.specs.Words.{asked_of};
-ghost use Rattle.prepare.specs.Gains.{GainsFitText, GainsWayBack, StaysAsItIs};
-ghost use Rattle.obj_fit.specs.Making.{done_of};
-ghost use Rattle.obj_fit.specs.Fails.{HasPreparedFault, PlaceUnreached};
-ghost use Rattle.prepare.specs.Ending.{Written, IsPreparedInPart, FailsBy, Finished};
-ghost use Rattle.prepare.specs.Ending.{prepare_fault_line};
+ghost use Rattle.prepare.specs.Words.{asked_of, Asks};
+ghost use Rattle.prepare.specs.Devices.{Finishes, PutsFitText, LeadsBack, PutsAsItIs, TellsFault};
+ghost use Rattle.prepare.specs.Devices.{Unreached, Breaks};
+ghost use Rattle.prepare.specs.Ending.{Written, FailsBy};
 
 use crate::fault::RunFail;
 use crate::say::{say, tell};
@@ -62,11 +59,9 @@ fn obey<S: Source, K: Sink>(
 fn refuse_words<E: Sink>(err: &mut E, kind: ErrorKind) -> u8
     ensures memory { kind ≡ ErrorKind.OutOfMemory → result ≡ 5 }
     ensures other { kind ≢ ErrorKind.OutOfMemory → result ≡ 2 }
-    ensures unsaid { result ≡ 5
-        → Stayed (E.got err.old) (E.got err.new) (E.faults err.old) (E.faults err.new) }
+    ensures unsaid { result ≡ 5 → Unput E.Sink err.old err.new }
     ensures said { result ≡ 2
-        → Said (E.got err.old) (E.got err.new) (E.faults err.old) (E.faults err.new)
-        (codes "prepare: words not understood\n") }
+        → Tells E.Sink err.old err.new (codes "prepare: words not understood\n") }
 {
     if kind == ErrorKind::OutOfMemory {
         return 5;
@@ -98,78 +93,60 @@ pub fn run<S: Source, K: Sink, E: Sink>(
     // Other words are refused, and only they; then nothing is read or put.
     ensures refused { IfOk args (λ _. asked_of args ≡ None → result ≡ 2) }
     ensures known { result ≡ 2 → asked_of args ≡ None }
-    ensures untouched { result ≡ 2
-        → Stayed (S.left input.old) (S.left input.new) (S.faults input.old) (S.faults input.new)
-        × Stayed (K.got out.old) (K.got out.new) (K.faults out.old) (K.faults out.new) }
+    ensures untouched { result ≡ 2 → Unread S.Source input.old input.new
+        × Unput K.Sink out.old out.new }
     // Words that can't be gathered are refused too, but for want of memory, of which nothing is
     // said; and nothing is read.
     ensures not_text { IfErr args (λ e. error_kind e ≢ ErrorKind.OutOfMemory → result ≡ 2) }
     ensures no_memory { IfErr args (λ e. error_kind e ≡ ErrorKind.OutOfMemory → result ≡ 5) }
-    ensures unread { IfErr args
-        (λ _. Stayed (S.left input.old) (S.left input.new) (S.faults input.old)
-        (S.faults input.new)) }
-    ensures unsaid { IfErr args (λ _. result ≡ 5
-        → Stayed (E.got err.old) (E.got err.new) (E.faults err.old) (E.faults err.new)) }
+    ensures unread { IfErr args (λ _. Unread S.Source input.old input.new) }
+    ensures unsaid { IfErr args (λ _. result ≡ 5 → Unput E.Sink err.old err.new) }
     // A mesh was made of the text, exactly its text was put, and what was done is said.
-    ensures whole { (asked : Asked) → asked_of args ≡ Some asked → result ≡ 0
-        → IfSome (S.left input.old)
-        (λ bytes. Finished asked.size bytes (K.got out.old) (K.got out.new) (E.got err.old)
-        (E.got err.new) (E.faults err.old) (E.faults err.new)) }
+    ensures whole { (asked : Asked) → Asks args asked → result ≡ 0
+        → Finishes S.Source K.Sink E.Sink asked.size input.old out.old out.new err.old err.new }
     // What was put is read as an oriented manifold, and prepared again it comes back.
-    ensures fit_text { result ≡ 0
-        → IfSome (S.left input.old) (λ bytes. GainsFitText (K.got out.old) (K.got out.new)) }
+    ensures fit_text { result ≡ 0 → PutsFitText S.Source K.Sink input.old out.old out.new }
     // Its first line leads from places to within half a step of the points that were read.
-    ensures leads_back { (asked : Asked) → asked_of args ≡ Some asked → result ≡ 0
-        → IfSome (S.left input.old)
-        (λ bytes. GainsWayBack asked.size bytes (K.got out.old) (K.got out.new)) }
+    ensures leads_back { (asked : Asked) → Asks args asked → result ≡ 0
+        → LeadsBack S.Source K.Sink asked.size input.old out.old out.new }
     // Triangles that need nothing were put as they are, over the places of their points. Only
     // polygons that were cut, closed surfaces inside out and faces without area are said, and how
     // places lead back.
-    ensures stays { (asked : Asked) → asked_of args ≡ Some asked → result ≡ 0
-        → IfSome (S.left input.old)
-        (λ bytes. StaysAsItIs asked.size bytes (K.got out.old) (K.got out.new) (E.got err.old)
-        (E.got err.new) (E.faults err.old) (E.faults err.new)) }
-    ensures whole_counts { result ≡ 0 → (S.faults input.new ≡ S.faults input.old)
-        × (K.faults out.new ≡ K.faults out.old) }
+    ensures stays { (asked : Asked) → Asks args asked → result ≡ 0
+        → PutsAsItIs S.Source K.Sink E.Sink asked.size input.old out.old out.new err.old err.new }
+    ensures whole_counts { result ≡ 0
+        → (S.faults input.new ≡ S.faults input.old) × (K.faults out.new ≡ K.faults out.old) }
     ensures read_whole { result ≡ 0 → AtEnd (S.left input.new) }
     // The text has a fault, which is said, and nothing was put.
-    ensures faulty { (asked : Asked) → asked_of args ≡ Some asked → result ≡ 1
-        → (f : Fault) × IfSome (S.left input.old) (λ bytes. HasPreparedFault asked.size bytes f)
-        × Said (E.got err.old) (E.got err.new) (E.faults err.old) (E.faults err.new)
-        (prepare_fault_line f) }
-    ensures faulty_counts { result ≡ 1 → (S.faults input.new ≡ S.faults input.old)
-        × (K.faults out.new ≡ K.faults out.old) }
+    ensures faulty { (asked : Asked) → Asks args asked → result ≡ 1
+        → TellsFault S.Source E.Sink asked.size input.old err.old err.new }
+    ensures faulty_counts { result ≡ 1
+        → (S.faults input.new ≡ S.faults input.old) × (K.faults out.new ≡ K.faults out.old) }
     // A read failed before the bytes that decide the outcome were all taken.
     ensures read { result ≡ 3 → Rose (S.faults input.old) (S.faults input.new) }
-    ensures unreached { (asked : Asked) → asked_of args ≡ Some asked → result ≡ 3
-        → PlaceUnreached asked.size (S.left input.old) (S.left input.new) }
+    ensures unreached { (asked : Asked) → Asks args asked → result ≡ 3
+        → Unreached S.Source asked.size input.old input.new }
     // A write failed, and a proper prefix of the text was put; in all other cases but status 0
     // nothing was.
-    ensures write { (asked : Asked) → asked_of args ≡ Some asked → result ≡ 4
+    ensures write { (asked : Asked) → Asks args asked → result ≡ 4
         → Rose (K.faults out.old) (K.faults out.new)
-        × IfSome (S.left input.old)
-        (λ bytes. IsPreparedInPart asked.size bytes (K.got out.old) (K.got out.new)) }
+        × Breaks S.Source K.Sink asked.size input.old out.old out.new }
     // Memory was wanted, and no device failed: so status 5 and a count that rose exclude each
     // other.
-    ensures memory_counts { result ≡ 5 → (S.faults input.new ≡ S.faults input.old)
-        × (K.faults out.new ≡ K.faults out.old) }
+    ensures memory_counts { result ≡ 5
+        → (S.faults input.new ≡ S.faults input.old) × (K.faults out.new ≡ K.faults out.old) }
     ensures nothing_put { (result ≡ 1) ⊎ ((result ≡ 3) ⊎ (result ≡ 5))
         → K.got out.new ≡ K.got out.old }
     ensures said_words { result ≡ 2
-        → Said (E.got err.old) (E.got err.new) (E.faults err.old) (E.faults err.new)
-        (codes "prepare: words not understood\n") }
-    ensures said_read { result ≡ 3
-        → Said (E.got err.old) (E.got err.new) (E.faults err.old) (E.faults err.new)
-        (codes "prepare: read fault\n") }
+        → Tells E.Sink err.old err.new (codes "prepare: words not understood\n") }
+    ensures said_read { result ≡ 3 → Tells E.Sink err.old err.new (codes "prepare: read fault\n") }
     ensures said_write { result ≡ 4
-        → Said (E.got err.old) (E.got err.new) (E.faults err.old) (E.faults err.new)
-        (codes "prepare: write fault\n") }
+        → Tells E.Sink err.old err.new (codes "prepare: write fault\n") }
     ensures said_memory { IfOk args (λ _. result ≡ 5
-        → Said (E.got err.old) (E.got err.new) (E.faults err.old) (E.faults err.new)
-        (codes "prepare: out of memory\n")) }
+        → Tells E.Sink err.old err.new (codes "prepare: out of memory\n")) }
     // Where no device failed and the words are understood, the work is done, or the input has a
     // fault, or memory is wanted.
-    ensures complete { (asked : Asked) → asked_of args ≡ Some asked
+    ensures complete { (asked : Asked) → Asks args asked
         → S.faults input.new ≡ S.faults input.old → K.faults out.new ≡ K.faults out.old
         → S.faults input.old < 2 ^ 64 - 1 → K.faults out.old < 2 ^ 64 - 1
         → (result ≡ 0) ⊎ ((result ≡ 1) ⊎ (result ≡ 5)) }

@@ -1,7 +1,7 @@
 //! What is said on the error sink.
 ghost use Rattle.std.specs.Prelude.{◌≡◌};
 ghost use Rattle.prepare.specs.Ending.{prepare_fault_line, prepare_fail_line, prepare_status_of};
-ghost use Rattle.pm_io.specs.Puts.{Said};
+ghost use Rattle.pm_io.specs.Devices.{Tells};
 
 use crate::fault::RunFail;
 use obj_fit::{Fault, InputFail};
@@ -9,7 +9,7 @@ use pm_io::{Line, Sink, put_all};
 
 /// Puts text on the error sink. That it fails changes nothing.
 pub fn say<E: Sink>(err: &mut E, text: &[u8])
-    ensures { Said (E.got err.old) (E.got err.new) (E.faults err.old) (E.faults err.new) text.now }
+    ensures { Tells E.Sink err.old err.new text.now }
 {
     let _ = put_all(err, text);
 }
@@ -49,8 +49,7 @@ fn put_fail(line: &mut Line, fail: RunFail)
 /// Says why the program ended early, and answers its status.
 pub fn tell<E: Sink>(err: &mut E, fail: RunFail) -> u8
     ensures status { result ≡ prepare_status_of fail }
-    ensures said { Said (E.got err.old) (E.got err.new) (E.faults err.old) (E.faults err.new)
-        (prepare_fail_line fail) }
+    ensures said { Tells E.Sink err.old err.new (prepare_fail_line fail) }
 {
     let mut line = Line::new();
     put_fail(&mut line, fail);

@@ -12,7 +12,8 @@ ghost use Rattle.pm_commands.specs.Outcome.{IsOutcome, GivesMeshBack};
 ghost use Rattle.pm_commands.specs.Frames.{ShowsSurfacesOf};
 ghost use Rattle.pm_commands.specs.Borders.{FramesShowBorder};
 ghost use Rattle.pm_commands.specs.Ending.{ReadFails, ReadToEnd, Answers};
-ghost use Rattle.pm_commands.specs.Devices.{Unread, Unput, Tells, Replies, Breaks};
+ghost use Rattle.pm_io.specs.Devices.{Unread, Unput, Tells};
+ghost use Rattle.pm_commands.specs.Devices.{Replies, Breaks};
 ghost use Rattle.simplify.specs.Asking.{ArgsAsk};
 ghost use Rattle.simplify.specs.FaultLine.{fault_line};
 
