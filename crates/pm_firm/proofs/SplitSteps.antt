@@ -26,8 +26,8 @@ use Rattle.pm_beyond.proofs.Closed.{four_faces}
 use Rattle.pm_beyond.proofs.Relinking.{split-neighbour, split-other}
 use Rattle.pm_runs.specs.Pairs.{IsPair}
 use Rattle.pm_runs.specs.Merged.{merged}
-use Rattle.pm_splits.specs.Splits.{IsBetween, IsSplit}
-use Rattle.pm_splits.proofs.SplitTwins.{splits_keep_manifolds}
+use Rattle.pm_runs.specs.Splits.{IsBetween, IsSplit}
+use Rattle.pm_runs.proofs.SplitTwins.{splits_keep_manifolds}
 use Rattle.pm_firm.specs.Firm.{shown_net, IsSurfaceShown, FacesAreHeld}
 use Rattle.pm_firm.proofs.Held.{held_side}
 use Rattle.pm_firm.proofs.ShownNets.{stands-shown, shown-stands, twins-beyond, beyond-twins}

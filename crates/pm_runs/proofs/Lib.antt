@@ -29,3 +29,11 @@ pub mod MergedRounds
 pub mod Manifolds
 pub mod FirstCollapse
 pub mod RunsProved
+pub mod Facts
+pub mod Split
+pub mod SplitMirrors
+pub mod Following
+pub mod RoundsAway
+pub mod RoundsAtEnds
+pub mod SplitRounds
+pub mod SplitTwins

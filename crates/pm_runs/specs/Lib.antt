@@ -10,3 +10,5 @@ pub mod Counts
 pub mod Octahedron
 pub mod Laws
 pub mod RunLaws
+pub mod Splits
+pub mod SplitLaws

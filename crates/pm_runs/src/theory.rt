@@ -1,4 +1,4 @@
-//! The laws of collapses and of runs of them.
+//! The laws of collapses, of runs of them, and of splits as collapses read backwards.
 ghost use Rattle.pm_runs.specs.Laws.{
   MeshesAreSurfaces,
   CollapsesAreMerges,
@@ -31,6 +31,7 @@ ghost use Rattle.pm_runs.specs.RunLaws.{
   OneRunToATarget,
   RunsAreBuilt,
 };
+ghost use Rattle.pm_runs.specs.SplitLaws.{SplitsKeepManifolds};
 
 /// The laws of one collapse, which takes no step. Surfaces keep their soundness, twins are linked
 /// anew around the faces that go, and only what is near the two vertices changes.
@@ -68,4 +69,9 @@ pub fn runs_are_sound()
     ensures local { CandidatesAreLocal }
     ensures one { OneRunToATarget }
     ensures built { RunsAreBuilt }
+{}
+
+/// States the law of vertex splits. It does nothing, and callers cite its clause.
+pub fn splits_are_sound()
+    ensures { SplitsKeepManifolds }
 {}

@@ -4,11 +4,11 @@ use Rattle.std.proofs.lemmas.Bool.{cases_eq}
 use Rattle.pm_base.specs.Sides.{Net, NoSideTwice}
 use Rattle.pm_base.specs.Rounds.{IsRound}
 use Rattle.pm_runs.proofs.MergedPairs.{not_s}
-use Rattle.pm_splits.specs.Splits.{IsSplit}
-use Rattle.pm_splits.proofs.Facts.{HasNoMirror}
-use Rattle.pm_splits.proofs.Split.{merged_net}
-use Rattle.pm_splits.proofs.RoundsAway.{round_away}
-use Rattle.pm_splits.proofs.RoundsAtEnds.{round_end}
+use Rattle.pm_runs.specs.Splits.{IsSplit}
+use Rattle.pm_runs.proofs.Facts.{HasNoMirror}
+use Rattle.pm_runs.proofs.Split.{merged_net}
+use Rattle.pm_runs.proofs.RoundsAway.{round_away}
+use Rattle.pm_runs.proofs.RoundsAtEnds.{round_end}
 
 module _ (n : Net) (t u s : ℕ) (beyond : ℕ → Option ℕ) (h : IsSplit n t u s beyond)
     (once : NoSideTwice (merged_net n t u s beyond h)) (plain : HasNoMirror n) where

@@ -10,8 +10,8 @@ use Rattle.pm_base.proofs.Sides.{next-next-next, turn, back, corner-first, first
 use Rattle.pm_base.proofs.Sides.{second-corner, pair_at}
 use Rattle.pm_runs.specs.Pairs.{IsPair as AreEnds}
 use Rattle.pm_runs.proofs.MergedPairs.{new, after, new-t, new-u, not_s, same_new}
-use Rattle.pm_splits.specs.Splits.{IsSplit}
-use Rattle.pm_splits.proofs.Facts.{RunsBack, one_twin, twin_beyond}
+use Rattle.pm_runs.specs.Splits.{IsSplit}
+use Rattle.pm_runs.proofs.Facts.{RunsBack, one_twin, twin_beyond}
 
 module _ (n : Net) (t u s : ℕ) (beyond : ℕ → Option ℕ) (h : IsSplit n t u s beyond) where
   abbrev pub merged_name : ℕ → ℕ

@@ -14,11 +14,11 @@ use Rattle.pm_base.proofs.Rounds.{IsFirst, append, uncons, ends_first}
 use Rattle.pm_runs.specs.Pairs.{IsPair as AreEnds}
 use Rattle.pm_runs.proofs.Apart.{stood}
 use Rattle.pm_runs.proofs.MergedPairs.{new-t, new-u, new-other, not_s, is_t, is_u, other, kind_of}
-use Rattle.pm_splits.specs.Splits.{IsSplit}
-use Rattle.pm_splits.proofs.Facts.{twin_beyond, HasNoMirror, Leads, leads?, begins?}
-use Rattle.pm_splits.proofs.Split.{merged_name, merged_net, swap, next_ends, prev_ends, new_prev}
-use Rattle.pm_splits.proofs.Split.{renamed_face, no_side_twice_after}
-use Rattle.pm_splits.proofs.Following.{direct, fan, cut, meets, stays, old_face}
+use Rattle.pm_runs.specs.Splits.{IsSplit}
+use Rattle.pm_runs.proofs.Facts.{twin_beyond, HasNoMirror, Leads, leads?, begins?}
+use Rattle.pm_runs.proofs.Split.{merged_name, merged_net, swap, next_ends, prev_ends, new_prev}
+use Rattle.pm_runs.proofs.Split.{renamed_face, no_side_twice_after}
+use Rattle.pm_runs.proofs.Following.{direct, fan, cut, meets, stays, old_face}
 
 module _ (n : Net) (t u s : ℕ) (beyond : ℕ → Option ℕ) (h : IsSplit n t u s beyond)
     (once : NoSideTwice (merged_net n t u s beyond h)) (plain : HasNoMirror n) where

@@ -6,7 +6,7 @@ use Rattle.pm_base.specs.Fans.{IsPairAt}
 use Rattle.pm_base.specs.Rounds.{NoMirrorAt}
 use Rattle.pm_base.proofs.Search.{Decided, search_below}
 use Rattle.pm_base.proofs.TwinLaws.{stands?, twin-is, twin-one}
-use Rattle.pm_splits.specs.Splits.{IsSplit}
+use Rattle.pm_runs.specs.Splits.{IsSplit}
 
 -- A twin, as three facts in a row.
 abbrev pub RunsBack : Net → ℕ → ℕ → Type 0

@@ -14,14 +14,14 @@ use Rattle.pm_base.proofs.FanLaws.{round_fan, every_round, no_mirror}
 use Rattle.pm_runs.specs.Pairs.{IsPair as AreEnds}
 use Rattle.pm_runs.specs.Merged.{merged}
 use Rattle.pm_runs.proofs.MergedPairs.{not_s}
-use Rattle.pm_splits.specs.Splits.{IsSplit}
-use Rattle.pm_splits.proofs.Facts.{RunsBack, is_twin, one_twin, twin_beyond, HasNoMirror}
-use Rattle.pm_splits.proofs.Split.{merged_name, merged_net, IsNew, old_or_new, next_ends, prev_ends}
-use Rattle.pm_splits.proofs.Split.{new_next, new_prev, renamed_face, no_side_twice_after}
-use Rattle.pm_splits.proofs.SplitMirrors.{no_mirror_after}
-use Rattle.pm_splits.proofs.Following.{old_face}
-use Rattle.pm_splits.proofs.RoundsAtEnds.{not_end, own_end-is, other_end-is}
-use Rattle.pm_splits.proofs.SplitRounds.{rounds_after}
+use Rattle.pm_runs.specs.Splits.{IsSplit}
+use Rattle.pm_runs.proofs.Facts.{RunsBack, is_twin, one_twin, twin_beyond, HasNoMirror}
+use Rattle.pm_runs.proofs.Split.{merged_name, merged_net, IsNew, old_or_new, next_ends, prev_ends}
+use Rattle.pm_runs.proofs.Split.{new_next, new_prev, renamed_face, no_side_twice_after}
+use Rattle.pm_runs.proofs.SplitMirrors.{no_mirror_after}
+use Rattle.pm_runs.proofs.Following.{old_face}
+use Rattle.pm_runs.proofs.RoundsAtEnds.{not_end, own_end-is, other_end-is}
+use Rattle.pm_runs.proofs.SplitRounds.{rounds_after}
 
 module _ (n : Net) (t u s : ℕ) (beyond : ℕ → Option ℕ) (h : IsSplit n t u s beyond)
     (once : NoSideTwice (merged_net n t u s beyond h)) (plain : HasNoMirror n) where

@@ -7,9 +7,9 @@ use Rattle.pm_base.proofs.Sides.{next-next-next, stands_next, pair_at}
 use Rattle.pm_runs.specs.Pairs.{IsPair as AreEnds}
 use Rattle.pm_runs.proofs.Apart.{stood}
 use Rattle.pm_runs.proofs.MergedPairs.{unmoved}
-use Rattle.pm_splits.specs.Splits.{IsSplit}
-use Rattle.pm_splits.proofs.Facts.{one_twin, twin_beyond, HasNoMirror}
-use Rattle.pm_splits.proofs.Split.{merged_name, merged_net, renamed_face}
+use Rattle.pm_runs.specs.Splits.{IsSplit}
+use Rattle.pm_runs.proofs.Facts.{one_twin, twin_beyond, HasNoMirror}
+use Rattle.pm_runs.proofs.Split.{merged_name, merged_net, renamed_face}
 
 module _ (n : Net) (t u s : ℕ) (beyond : ℕ → Option ℕ) (h : IsSplit n t u s beyond)
     (once : NoSideTwice (merged_net n t u s beyond h)) (plain : HasNoMirror n) where

@@ -5,10 +5,10 @@ use Rattle.pm_base.specs.Sides.{Net, next, prev, to, third, Stands, NoSideTwice}
 use Rattle.pm_base.specs.Fans.{IsPairAt}
 use Rattle.pm_base.proofs.Sides.{turn, back}
 use Rattle.pm_runs.specs.Pairs.{IsPair as AreEnds}
-use Rattle.pm_splits.specs.Splits.{IsSplit}
-use Rattle.pm_splits.proofs.Facts.{twin_beyond, HasNoMirror}
-use Rattle.pm_splits.proofs.Split.{merged_name, merged_net, swap, old_or_new, next_ends, prev_ends}
-use Rattle.pm_splits.proofs.Split.{new_next, new_prev, renamed_face, no_side_twice_after}
+use Rattle.pm_runs.specs.Splits.{IsSplit}
+use Rattle.pm_runs.proofs.Facts.{twin_beyond, HasNoMirror}
+use Rattle.pm_runs.proofs.Split.{merged_name, merged_net, swap, old_or_new, next_ends, prev_ends}
+use Rattle.pm_runs.proofs.Split.{new_next, new_prev, renamed_face, no_side_twice_after}
 
 module _ (n : Net) (t u s : ℕ) (beyond : ℕ → Option ℕ) (h : IsSplit n t u s beyond)
     (once : NoSideTwice (merged_net n t u s beyond h)) where

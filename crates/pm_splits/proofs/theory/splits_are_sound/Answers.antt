@@ -1,5 +1,0 @@
-use Rattle.pm_splits.proofs.SplitTwins.{splits_keep_manifolds}
-use Rattle.pm_splits.proofs.theory.splits_are_sound.Goals as goal
-
-pub returns : goal.returns
-returns c = splits_keep_manifolds
