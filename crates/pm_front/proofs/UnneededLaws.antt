@@ -15,14 +15,14 @@ use Rattle.pm_forest.specs.Rules.{HasShape}
 use Rattle.pm_beyond.specs.Moves.{IsClosed, needs}
 use Rattle.pm_beyond.proofs.Outer.{needs-true}
 use Rattle.pm_beyond.proofs.PlanSteps.{without-same}
-use Rattle.pm_front.specs.Needed.{times_in, times_named, need_count, is_needed, is_unneeded}
+use Rattle.pm_front.specs.Needed.{times_in, times_needed, need_count, is_needed, is_unneeded}
 use Rattle.pm_front.specs.Needed.{AreNeedCounts}
-use Rattle.pm_front.specs.Candidates.{is_named, is_freed, AreAnswers, AreCleared, AreAdded}
-use Rattle.pm_front.proofs.NamedLaws.{times_named-none}
+use Rattle.pm_front.specs.Candidates.{is_among, is_freed, AreAnswers, AreCleared, AreAdded}
+use Rattle.pm_front.proofs.TimesLaws.{times_needed-none}
 use Rattle.pm_front.proofs.NeedCountLaws.{need_count-unneeded, unneeded-count, zero_test}
 use Rattle.pm_front.proofs.NeedCountLaws.{need_count-with}
 use Rattle.pm_front.proofs.NeededLaws.{not_own, none_needs}
-use Rattle.pm_front.proofs.NameFlags.{sum_zero}
+use Rattle.pm_front.proofs.NeedFlags.{sum_zero}
 
 -- Tests
 -- c: the record is split; x: no other record needs it; y: this one doesn't
@@ -48,20 +48,21 @@ module _ (h : Hierarchy) (shape : HasShape h) where
   module _ (T : ℕ → Bool) (closed : IsClosed h T) (k : ℕ) (l : k < record_count h) where
     module _ (unsplit : T k ≡ false) where
       -- Once record k is split
-      pub unneeded-with : (old a : List Bool) (names : List (Option ℕ))
-          → ((j : ℕ) → times_in j names ≡ times_named h k j) → AreAnswers h (is_unneeded h T) old →
-          AreCleared old a (is_named names) → AreAnswers h (is_unneeded h (with T k)) (set a k true)
-      unneeded-with old a names named are cleared =
+      pub unneeded-with : (old a : List Bool) (needed : List (Option ℕ))
+          → ((j : ℕ) → times_in j needed ≡ times_needed h k j) → AreAnswers h (is_unneeded h T) old
+          → AreCleared old a (is_among needed)
+          → AreAnswers h (is_unneeded h (with T k)) (set a k true)
+      unneeded-with old a needed times are cleared =
           let len : length a ≡ record_count h = cleared.len ∙ are.len in
           record {
             len = length-set a k true ∙ len;
             each = λ j j_lt.
                 let here = eqb (need_count h T j) 0 in
-                let there = eqb (times_in j names) 0 in
+                let there = eqb (times_in j needed) 0 in
                 elim (cases_eq j k) [
                   | inl is ↦
-                      let own : times_named h k k ≡ 0 =
-                      times_named-none h k k l
+                      let own : times_needed h k k ≡ 0 =
+                      times_needed-none h k k l
                       (false_from_ne_true (needs h k k)
                       (λ e. not_own h shape k l (needs-true h k k l e))) in
                       let none = need_count-with h T k unsplit k l
@@ -84,8 +85,8 @@ module _ (h : Hierarchy) (shape : HasShape h) where
                       ∙ ap (λ o. o && not (not there)) (are.each j j_lt
                       ∙ ap (λ n. T j && n) (sym (zero_test h T j)))
                       ∙ need_more (T j) here there
-                      ∙ ap (λ n. T j && n) (sym (sum_zero (need_count h T j) (times_in j names)))
-                      ∙ ap (λ (n : ℕ). T j && eqb (need_count h T j + n) 0) (named j)
+                      ∙ ap (λ n. T j && n) (sym (sum_zero (need_count h T j) (times_in j needed)))
+                      ∙ ap (λ (n : ℕ). T j && eqb (need_count h T j + n) 0) (times j)
                       ∙ ap (λ (n : ℕ). T j && eqb n 0) (sym (need_count-with h T k unsplit j l))
                       ∙ ap (λ n. T j && n) (zero_test h (with T k) j)
                       ∙ ap (λ o. o && not (is_needed h (with T k) j))
@@ -94,41 +95,41 @@ module _ (h : Hierarchy) (shape : HasShape h) where
           }
 
     module _ (split : T k ≡ true) where
-      counted : (j : ℕ) → need_count h T j ≡ need_count h (without T k) j + times_named h k j
+      counted : (j : ℕ) → need_count h T j ≡ need_count h (without T k) j + times_needed h k j
       counted j = ap (λ S. need_count h S j) (sym (with-without T k split))
           ∙ need_count-with h (without T k) k (without-same T k) j l
 
-      needed_split : (j : ℕ) → j < record_count h → eqb (times_named h k j) 0 ≡ false → T j ≡ true
+      needed_split : (j : ℕ) → j < record_count h → eqb (times_needed h k j) 0 ≡ false → T j ≡ true
       needed_split j j_lt e =
           elim (cases_Bool (needs h k j)) [
             | inl yes_needs ↦ closed k j l split (needs-true h k j l yes_needs)
             | inr not_needed ↦
-                absurd (both_ways (eqb (times_named h k j) 0) e
-                (eq-eqb (times_named h k j) 0 (times_named-none h k j l not_needed)))
+                absurd (both_ways (eqb (times_needed h k j) 0) e
+                (eq-eqb (times_needed h k j) 0 (times_needed-none h k j l not_needed)))
           ]
 
       -- Once it is collapsed
-      pub unneeded-without : (old a : List Bool) (names : List (Option ℕ))
-          → ((j : ℕ) → times_in j names ≡ times_named h k j) → (counts : List ℕ) →
+      pub unneeded-without : (old a : List Bool) (needed : List (Option ℕ))
+          → ((j : ℕ) → times_in j needed ≡ times_needed h k j) → (counts : List ℕ) →
           AreNeedCounts h (without T k) counts → AreAnswers h (is_unneeded h T) old
-          → AreAdded old a (is_freed names counts)
+          → AreAdded old a (is_freed needed counts)
           → AreAnswers h (is_unneeded h (without T k)) (set a k false)
-      unneeded-without old a names named counts right are added =
+      unneeded-without old a needed times counts right are added =
           let len : length a ≡ record_count h = added.len ∙ are.len in
           record {
             len = length-set a k false ∙ len;
             each = λ j j_lt.
                 let here = eqb (need_count h (without T k) j) 0 in
-                let there = eqb (times_in j names) 0 in
+                let there = eqb (times_in j needed) 0 in
                 elim (cases_eq j k) [
                   | inl is ↦ grind (arith, common_steps, and_left, cond-true, eq-eqb, get_or-set_at)
                   | inr other ↦
                       let was : is_unneeded h T j ≡ (T j && (here && there)) =
                       ap (λ n. T j && n) (sym (zero_test h T j))
                       ∙ ap (λ (n : ℕ). T j && eqb n 0)
-                      (counted j ∙ ap (λ n. need_count h (without T k) j + n) (sym (named j)))
+                      (counted j ∙ ap (λ n. need_count h (without T k) j + n) (sym (times j)))
                       ∙ ap (λ n. T j && n)
-                      (sum_zero (need_count h (without T k) j) (times_in j names)) in
+                      (sum_zero (need_count h (without T k) j) (times_in j needed)) in
                       get_or-set_other a k j false false other
                       ∙ added.each j (omega (arith, are.len))
                       ∙ ap (λ o. o || (not there && eqb (get_or counts j 0) 0)) (are.each j j_lt
@@ -136,7 +137,7 @@ module _ (h : Hierarchy) (shape : HasShape h) where
                       ∙ ap (λ (n : ℕ). (T j && (here && there)) || (not there && eqb n 0))
                       (right.each j j_lt)
                       ∙ need_less (T j) here there
-                      (λ e. needed_split j j_lt (ap (λ (n : ℕ). eqb n 0) (sym (named j)) ∙ e))
+                      (λ e. needed_split j j_lt (ap (λ (n : ℕ). eqb n 0) (sym (times j)) ∙ e))
                       ∙ ap (λ n. T j && n) (zero_test h (without T k) j)
                       ∙ ap (λ o. o && not (is_needed h (without T k) j))
                       (sym (cond-false (eqb j k) false (T j) (ne_eqb j k other)))

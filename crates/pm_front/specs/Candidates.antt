@@ -43,10 +43,10 @@ pub record AreAdded (old new : List Bool) (test : ℕ → Bool) : Type 0 where
   pub len : length new ≡ length old
   pub each : (k : ℕ) → k < length old → set_of new k ≡ set_of old k || test k
 
--- Record k is among these names.
-abbrev pub is_named : List (Option ℕ) → ℕ → Bool
-is_named names k = not (times_in k names == 0)
+-- Record k is among these needs.
+abbrev pub is_among : List (Option ℕ) → ℕ → Bool
+is_among needed k = not (times_in k needed == 0)
 
 -- It is, and its count is zero.
 abbrev pub is_freed : List (Option ℕ) → List ℕ → ℕ → Bool
-is_freed names counts k = is_named names k && (slice_index_or counts k 0 == 0)
+is_freed needed counts k = is_among needed k && (slice_index_or counts k 0 == 0)

@@ -9,8 +9,8 @@ ghost use Rattle.pm_base.specs.Counts.{set_of};
 ghost use Rattle.pm_forest.specs.Moves.{may_try};
 ghost use Rattle.pm_beyond.specs.Moves.{IsClosed, is_at};
 ghost use Rattle.pm_sets.specs.declared.set.TheConstants.{BOUND_LIMIT};
-ghost use Rattle.pm_front.specs.Needed.{times_in, AreNamesOf, AreRaised};
-ghost use Rattle.pm_front.specs.Candidates.{no_candidates, is_named, is_freed, AreAnswers};
+ghost use Rattle.pm_front.specs.Needed.{times_in, AreNeedsOf, AreRaised};
+ghost use Rattle.pm_front.specs.Candidates.{no_candidates, is_among, is_freed, AreAnswers};
 ghost use Rattle.pm_front.specs.Candidates.{AreCleared, AreAdded, AreCandidates};
 
 use crate::OutOfMemory;
@@ -39,61 +39,61 @@ impl Model for Candidates {
     ghost view = { λ c. record { counts = c.needs; waiting = c.waiting; unneeded = c.unneeded } };
 }
 
-// Counts a name once more. What is named is needed.
-fn need(needs: &mut NeedCounts, unneeded: &mut NumberSet, name: Option<u32>)
-    requires there { IfSome name (λ k. k < length needs.old) }
-    requires room { IfSome name (λ k. slice_index_or needs.old k 0 + 1 < 2 ^ 32) }
+// Counts a need once more: what is counted is needed.
+fn need_one(needs: &mut NeedCounts, unneeded: &mut NumberSet, need: Option<u32>)
+    requires there { IfSome need (λ k. k < length needs.old) }
+    requires room { IfSome need (λ k. slice_index_or needs.old k 0 + 1 < 2 ^ 32) }
     requires len { length unneeded.old ≡ length needs.old }
-    ensures counts { AreRaised needs.old needs.new (name ∷ []) }
-    ensures unneeded { AreCleared unneeded.old unneeded.new (is_named (name ∷ [])) }
+    ensures counts { AreRaised needs.old needs.new (need ∷ []) }
+    ensures unneeded { AreCleared unneeded.old unneeded.new (is_among (need ∷ [])) }
 {
-    needs.raise(name);
-    if let Some(k) = name {
+    needs.raise(need);
+    if let Some(k) = need {
         unneeded.remove(k);
     }
 }
 
-// Counts a name once less. What isn't named any more is unneeded.
-fn free(needs: &mut NeedCounts, unneeded: &mut NumberSet, name: Option<u32>)
-    requires there { IfSome name (λ k. k < length needs.old) }
-    requires counted { IfSome name (λ k. 0 < slice_index_or needs.old k 0) }
+// Counts a need once less: what isn't counted any more is unneeded.
+fn free_one(needs: &mut NeedCounts, unneeded: &mut NumberSet, need: Option<u32>)
+    requires there { IfSome need (λ k. k < length needs.old) }
+    requires counted { IfSome need (λ k. 0 < slice_index_or needs.old k 0) }
     requires len { length unneeded.old ≡ length needs.old }
-    ensures counts { AreRaised needs.new needs.old (name ∷ []) }
-    ensures unneeded { AreAdded unneeded.old unneeded.new (is_freed (name ∷ []) needs.new) }
+    ensures counts { AreRaised needs.new needs.old (need ∷ []) }
+    ensures unneeded { AreAdded unneeded.old unneeded.new (is_freed (need ∷ []) needs.new) }
 {
-    needs.lower(name);
-    if let Some(k) = name {
+    needs.lower(need);
+    if let Some(k) = need {
         if needs.count(k) == 0 {
             unneeded.insert(k);
         }
     }
 }
 
-// Counts each of these names once more.
-fn need_all(needs: &mut NeedCounts, unneeded: &mut NumberSet, names: &[Option<u32>])
-    requires there { All (λ name. IfSome name (λ k. k < length needs.old)) names.now }
+// Counts each of these needs once more.
+fn need_all(needs: &mut NeedCounts, unneeded: &mut NumberSet, needed: &[Option<u32>])
+    requires there { All (λ need. IfSome need (λ k. k < length needs.old)) needed.now }
     requires room { (k : ℕ) → k < length needs.old
-        → slice_index_or needs.old k 0 + times_in k names.now < 2 ^ 32 }
+        → slice_index_or needs.old k 0 + times_in k needed.now < 2 ^ 32 }
     requires len { length unneeded.old ≡ length needs.old }
-    ensures counts { AreRaised needs.old needs.new names.now }
-    ensures unneeded { AreCleared unneeded.old unneeded.new (is_named names.now) }
+    ensures counts { AreRaised needs.old needs.new needed.now }
+    ensures unneeded { AreCleared unneeded.old unneeded.new (is_among needed.now) }
 {
-    for name in names {
-        need(needs, unneeded, *name);
+    for need in needed {
+        need_one(needs, unneeded, *need);
     }
 }
 
-// Counts each of these names once less.
-fn free_all(needs: &mut NeedCounts, unneeded: &mut NumberSet, names: &[Option<u32>])
-    requires there { All (λ name. IfSome name (λ k. k < length needs.old)) names.now }
+// Counts each of these needs once less.
+fn free_all(needs: &mut NeedCounts, unneeded: &mut NumberSet, needed: &[Option<u32>])
+    requires there { All (λ need. IfSome need (λ k. k < length needs.old)) needed.now }
     requires counted { (k : ℕ) → k < length needs.old
-        → times_in k names.now ≤ slice_index_or needs.old k 0 }
+        → times_in k needed.now ≤ slice_index_or needs.old k 0 }
     requires len { length unneeded.old ≡ length needs.old }
-    ensures counts { AreRaised needs.new needs.old names.now }
-    ensures unneeded { AreAdded unneeded.old unneeded.new (is_freed names.now needs.new) }
+    ensures counts { AreRaised needs.new needs.old needed.now }
+    ensures unneeded { AreAdded unneeded.old unneeded.new (is_freed needed.now needs.new) }
 {
-    for name in names {
-        free(needs, unneeded, *name);
+    for need in needed {
+        free_one(needs, unneeded, *need);
     }
 }
 
@@ -155,11 +155,11 @@ impl Candidates {
         add_roots(&mut self.waiting, h);
     }
 
-    /// Those after record `k`, which needs what these names tell, is split in this refinement.
+    /// Those after record `k`, which needs these, is split in this refinement.
     /// O(1).
-    pub(crate) fn split(&mut self, before: &Refinement, names: &[Option<u32>], k: u32)
+    pub(crate) fn split(&mut self, before: &Refinement, needed: &[Option<u32>], k: u32)
         requires record { k < record_count before.now.h }
-        requires names { AreNamesOf before.now.h k names.now }
+        requires needed { AreNeedsOf before.now.h k needed.now }
         requires unsplit { set_of before.now.flags k ≡ false }
         requires closed { IsClosed before.now.h (set_of before.now.flags) }
         requires candidates { AreCandidates before.now.h (set_of before.now.flags) self.old }
@@ -167,7 +167,7 @@ impl Candidates {
     {
         before.invariant();
         let h = before.hierarchy();
-        need_all(&mut self.needs, &mut self.unneeded, names);
+        need_all(&mut self.needs, &mut self.unneeded, needed);
         self.unneeded.insert(k);
         let (t, u) = h.children(k);
         add_splitter(&mut self.waiting, h, t);
@@ -175,11 +175,11 @@ impl Candidates {
         self.waiting.remove(k);
     }
 
-    /// Those after record `k`, which needs what these names tell, is collapsed in this refinement.
+    /// Those after record `k`, which needs these, is collapsed in this refinement.
     /// O(1).
-    pub(crate) fn collapse(&mut self, before: &Refinement, names: &[Option<u32>], k: u32)
+    pub(crate) fn collapse(&mut self, before: &Refinement, needed: &[Option<u32>], k: u32)
         requires record { k < record_count before.now.h }
-        requires names { AreNamesOf before.now.h k names.now }
+        requires needed { AreNeedsOf before.now.h k needed.now }
         requires is_split { set_of before.now.flags k ≡ true }
         requires closed { IsClosed before.now.h (set_of before.now.flags) }
         requires candidates { AreCandidates before.now.h (set_of before.now.flags) self.old }
@@ -187,7 +187,7 @@ impl Candidates {
     {
         before.invariant();
         let h = before.hierarchy();
-        free_all(&mut self.needs, &mut self.unneeded, names);
+        free_all(&mut self.needs, &mut self.unneeded, needed);
         self.unneeded.remove(k);
         let (t, u) = h.children(k);
         clear_splitter(&mut self.waiting, h, t);
@@ -195,7 +195,7 @@ impl Candidates {
         self.waiting.insert(k);
     }
 
-    /// How often record `k` is named.
+    /// How often record `k` is needed.
     pub(crate) fn count(&self, k: u32) -> u32
         requires { k < length self.now.counts }
         ensures { result ≡ slice_index_or self.now.counts k 0 }

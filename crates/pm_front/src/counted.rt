@@ -1,11 +1,11 @@
-//! A set of records, with how often they name each record among what they need.
+//! A set of records, with how often they need each record.
 ghost use Rattle.std.specs.Prelude.{ℕ, ◌≡◌, ◌<◌, ◌≤◌, true, false, length, replicate};
 ghost use Rattle.std.specs.Prelude.{slice_index_or, slice_set, IfOk, IfSome, IfNone};
 ghost use Rattle.pm_sets.specs.Sets.{IsEmptySet, IsLast};
 ghost use Rattle.pm_sets.specs.declared.set.TheConstants.{BOUND_LIMIT};
 ghost use Rattle.pm_forest.specs.Forest.{record_count};
 ghost use Rattle.pm_base.specs.Counts.{set_of};
-ghost use Rattle.pm_front.specs.Needed.{AreNamesOf, AreNeedCounts};
+ghost use Rattle.pm_front.specs.Needed.{AreNeedsOf, AreNeedCounts};
 
 use crate::need_counts::{NeedCounts, lower_all, raise_all};
 use crate::{Front, OutOfMemory};
@@ -46,7 +46,7 @@ impl CountedRecords {
         })
     }
 
-    /// How often the records name record `k` among what they need. O(1).
+    /// How often the records need record `k`: once for each reason. O(1).
     pub fn need_count(&self, k: u32) -> u32
         requires { k < length self.now.needs }
         ensures { result ≡ slice_index_or self.now.needs k 0 }
@@ -54,10 +54,10 @@ impl CountedRecords {
         self.needs.count(k)
     }
 
-    /// Puts a record in that isn't there, and that needs what these names tell. O(1).
-    pub fn insert(&mut self, h: &Hierarchy, names: &[Option<u32>], k: u32)
+    /// Puts a record in that isn't there, and that needs these. O(1).
+    pub fn insert(&mut self, h: &Hierarchy, needed: &[Option<u32>], k: u32)
         requires record { k < record_count h.now }
-        requires names { AreNamesOf h.now k names.now }
+        requires needed { AreNeedsOf h.now k needed.now }
         requires len { length self.old.records ≡ record_count h.now }
         requires absent { set_of self.old.records k ≡ false }
         requires counts { AreNeedCounts h.now (set_of self.old.records) self.old.needs }
@@ -65,7 +65,7 @@ impl CountedRecords {
         ensures counts { AreNeedCounts h.now (set_of self.new.records) self.new.needs }
     {
         h.invariant();
-        raise_all(&mut self.needs, names);
+        raise_all(&mut self.needs, needed);
         self.records.insert(k);
     }
 
@@ -80,7 +80,7 @@ impl CountedRecords {
         ensures counts { AreNeedCounts front.now.h (set_of self.new.records) self.new.needs }
     {
         let k = self.records.take_last()?;
-        lower_all(&mut self.needs, &front.named_by(k));
+        lower_all(&mut self.needs, &front.needed_by(k));
         Some(k)
     }
 }

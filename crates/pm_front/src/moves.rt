@@ -48,8 +48,8 @@ impl Front {
         ensures corners { self.new.corners ≡ split_lists self.old.h (set_of self.old.flags) k
             self.old.corners }
     {
-        let names = self.names.of(k);
-        self.candidates.split(&self.refinement, &names, k);
+        let needed = self.needed.of(k);
+        self.candidates.split(&self.refinement, &needed, k);
         self.refinement.split(k);
     }
 
@@ -91,8 +91,8 @@ impl Front {
         ensures done { set_of self.new.flags ≡ without (set_of self.old.flags) k }
         ensures corners { self.new.corners ≡ collapsed_lists self.old.h k self.old.corners }
     {
-        let names = self.names.of(k);
-        self.candidates.collapse(&self.refinement, &names, k);
+        let needed = self.needed.of(k);
+        self.candidates.collapse(&self.refinement, &needed, k);
         self.refinement.collapse(k);
     }
 }

@@ -1,5 +1,5 @@
-//! For each record how often the records of a set name it among what they need, so that whether one
-//! of them needs it is answered by one look.
+//! For each record how often the records of a set need it, once for each reason, so that whether
+//! one of them needs it is answered by one look.
 ghost use Rattle.std.specs.Prelude.{ℕ, ◌≡◌, ◌<◌, ◌≤◌, ◌+◌, ◌^◌, [], ◌∷◌, length, replicate};
 ghost use Rattle.std.specs.Prelude.{slice_index_or, IfOk, IfSome};
 ghost use Rattle.std.specs.List.{All};
@@ -9,7 +9,7 @@ use crate::OutOfMemory;
 use std::alloc::Global;
 use std::marker::Model;
 
-/// For each record how often the records of a set name it among what they need: the maker of a
+/// For each record how often the records of a set need it, once for each reason: the maker of a
 /// record's node, and the revealers of the faces of its recorded neighbours, once for each.
 /// Contracts see the counts.
 #[derive(Drop)]
@@ -25,27 +25,27 @@ impl Model for NeedCounts {
     ghost view = { λ n. n.counts.items };
 }
 
-/// Counts each of these names once more.
-pub(crate) fn raise_all(needs: &mut NeedCounts, names: &[Option<u32>])
-    requires there { All (λ name. IfSome name (λ k. k < length needs.old)) names.now }
+/// Counts each of these needs once more.
+pub(crate) fn raise_all(needs: &mut NeedCounts, needed: &[Option<u32>])
+    requires there { All (λ need. IfSome need (λ k. k < length needs.old)) needed.now }
     requires room { (k : ℕ) → k < length needs.old
-        → slice_index_or needs.old k 0 + times_in k names.now < 2 ^ 32 }
-    ensures { AreRaised needs.old needs.new names.now }
+        → slice_index_or needs.old k 0 + times_in k needed.now < 2 ^ 32 }
+    ensures { AreRaised needs.old needs.new needed.now }
 {
-    for name in names {
-        needs.raise(*name);
+    for need in needed {
+        needs.raise(*need);
     }
 }
 
-/// Counts each of these names once less.
-pub(crate) fn lower_all(needs: &mut NeedCounts, names: &[Option<u32>])
-    requires there { All (λ name. IfSome name (λ k. k < length needs.old)) names.now }
+/// Counts each of these needs once less.
+pub(crate) fn lower_all(needs: &mut NeedCounts, needed: &[Option<u32>])
+    requires there { All (λ need. IfSome need (λ k. k < length needs.old)) needed.now }
     requires counted { (k : ℕ) → k < length needs.old
-        → times_in k names.now ≤ slice_index_or needs.old k 0 }
-    ensures { AreRaised needs.new needs.old names.now }
+        → times_in k needed.now ≤ slice_index_or needs.old k 0 }
+    ensures { AreRaised needs.new needs.old needed.now }
 {
-    for name in names {
-        needs.lower(*name);
+    for need in needed {
+        needs.lower(*need);
     }
 }
 
@@ -58,7 +58,7 @@ impl NeedCounts {
         Ok(NeedCounts { counts })
     }
 
-    /// How often record `k` is named. O(1).
+    /// How often record `k` is needed. O(1).
     pub(crate) fn count(&self, k: u32) -> u32
         requires { k < length self.now }
         ensures { result ≡ slice_index_or self.now k 0 }
@@ -66,24 +66,24 @@ impl NeedCounts {
         self.counts[k as usize]
     }
 
-    /// Counts a name once more.
-    pub(crate) fn raise(&mut self, name: Option<u32>)
-        requires there { IfSome name (λ k. k < length self.old) }
-        requires room { IfSome name (λ k. slice_index_or self.old k 0 + 1 < 2 ^ 32) }
-        ensures { AreRaised self.old self.new (name ∷ []) }
+    /// Counts a need once more.
+    pub(crate) fn raise(&mut self, need: Option<u32>)
+        requires there { IfSome need (λ k. k < length self.old) }
+        requires room { IfSome need (λ k. slice_index_or self.old k 0 + 1 < 2 ^ 32) }
+        ensures { AreRaised self.old self.new (need ∷ []) }
     {
-        if let Some(k) = name {
+        if let Some(k) = need {
             self.counts[k as usize] += 1;
         }
     }
 
-    /// Counts a name once less.
-    pub(crate) fn lower(&mut self, name: Option<u32>)
-        requires there { IfSome name (λ k. k < length self.old) }
-        requires counted { IfSome name (λ k. 0 < slice_index_or self.old k 0) }
-        ensures { AreRaised self.new self.old (name ∷ []) }
+    /// Counts a need once less.
+    pub(crate) fn lower(&mut self, need: Option<u32>)
+        requires there { IfSome need (λ k. k < length self.old) }
+        requires counted { IfSome need (λ k. 0 < slice_index_or self.old k 0) }
+        ensures { AreRaised self.new self.old (need ∷ []) }
     {
-        if let Some(k) = name {
+        if let Some(k) = need {
             self.counts[k as usize] -= 1;
         }
     }

@@ -10,7 +10,7 @@ ghost use Rattle.pm_refine.specs.Aims.{IsServed, HoldsAimed, aim_of, is_moved, i
 ghost use Rattle.pm_refine.specs.Holding.{Joins};
 ghost use Rattle.pm_refine.specs.Finding.{IsStartOfPlan};
 ghost use Rattle.pm_refine.specs.Deciding.{AreDecided, IsNext, is_staying, is_tested};
-ghost use Rattle.pm_front.specs.Needed.{is_needed, remaining, AreNamesOf};
+ghost use Rattle.pm_front.specs.Needed.{is_needed, remaining, AreNeedsOf};
 ghost use Rattle.pm_front.specs.Needed.{AreNeedCounts};
 
 use crate::marks::mark_all;
@@ -22,7 +22,7 @@ use pm_front::{CountedRecords, Front};
 use pm_view::Steps;
 use std::sync::ledger::Ledger;
 
-// Whether a split record needs record `k` that won't be collapsed: the split records name it more
+// Whether a split record needs record `k` that won't be collapsed: the split records need it more
 // often than those of them that will be.
 fn is_still_needed(front: &Front, falls: &CountedRecords, k: u32) -> bool
     requires record { k < record_count front.now.h }
@@ -62,11 +62,11 @@ impl Plan {
         sight.wants(k, node, steps)
     }
 
-    // What a record needs, which these names tell, is to be decided too. A record that goes is put
-    // in the one set; one that will be split is put in the other, and what it needs is marked.
-    fn note(&mut self, h: &Hierarchy, names: &[Option<u32>], k: u32, is_split: bool)
+    // What a record needs is to be decided too. A record that goes is put in the one set; one that
+    // will be split is put in the other, and what it needs is marked.
+    fn note(&mut self, h: &Hierarchy, needed: &[Option<u32>], k: u32, is_split: bool)
         requires record { k < record_count h.now }
-        requires names { AreNamesOf h.now k names.now }
+        requires needed { AreNeedsOf h.now k needed.now }
         requires marks { length self.old.marks.items ≡ record_count h.now }
         requires work { length self.old.work ≡ record_count h.now }
         requires rises { length self.old.rises ≡ record_count h.now }
@@ -85,12 +85,12 @@ impl Plan {
             × (self.new.rises ≡ slice_set self.old.rises k true)
             × (self.new.falls.records ≡ self.old.falls.records) }
     {
-        push_all(&mut self.work, names);
+        push_all(&mut self.work, needed);
         if is_split {
-            self.falls.insert(h, names, k);
+            self.falls.insert(h, needed, k);
         } else {
             self.rises.insert(k);
-            mark_all(&mut self.marks, names);
+            mark_all(&mut self.marks, needed);
         }
     }
 
@@ -114,8 +114,8 @@ impl Plan {
         if stays == is_split {
             return false;
         }
-        let names = sight.front.named_by(k);
-        self.note(sight.front.hierarchy(), &names, k, is_split);
+        let needed = sight.front.needed_by(k);
+        self.note(sight.front.hierarchy(), &needed, k, is_split);
         true
     }
 

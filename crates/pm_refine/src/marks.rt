@@ -3,7 +3,7 @@ ghost use Rattle.std.specs.Prelude.{ℕ, ◌≡◌, ◌<◌, length, IfSome};
 ghost use Rattle.std.specs.List.{All};
 ghost use Rattle.pm_base.specs.Counts.{set_of};
 ghost use Rattle.pm_beyond.specs.Moves.{is_at};
-ghost use Rattle.pm_front.specs.Candidates.{is_named};
+ghost use Rattle.pm_front.specs.Candidates.{is_among};
 ghost use Rattle.pm_refine.specs.Holding.{Joins};
 
 // Marks a record, if there is one.
@@ -18,13 +18,13 @@ fn mark(marks: &mut Vec<bool>, found: Option<u32>)
     }
 }
 
-/// Marks each record of these names.
-pub(crate) fn mark_all(marks: &mut Vec<bool>, names: &[Option<u32>])
-    requires there { All (λ name. IfSome name (λ k. k < length marks.old.items)) names.now }
+/// Marks each of these records.
+pub(crate) fn mark_all(marks: &mut Vec<bool>, needed: &[Option<u32>])
+    requires there { All (λ need. IfSome need (λ k. k < length marks.old.items)) needed.now }
     ensures len { length marks.new.items ≡ length marks.old.items }
-    ensures marked { Joins (set_of marks.old.items) (set_of marks.new.items) (is_named names.now) }
+    ensures marked { Joins (set_of marks.old.items) (set_of marks.new.items) (is_among needed.now) }
 {
-    for name in names {
-        mark(marks, *name);
+    for need in needed {
+        mark(marks, *need);
     }
 }

@@ -3,7 +3,7 @@ ghost use Rattle.std.specs.Prelude.{ℕ, ◌≡◌, ◌<◌, length, IfSome};
 ghost use Rattle.std.specs.List.{All};
 ghost use Rattle.pm_base.specs.Counts.{set_of};
 ghost use Rattle.pm_beyond.specs.Moves.{is_at};
-ghost use Rattle.pm_front.specs.Candidates.{is_named};
+ghost use Rattle.pm_front.specs.Candidates.{is_among};
 ghost use Rattle.pm_refine.specs.Holding.{Joins};
 
 use pm_sets::NumberSet;
@@ -20,13 +20,13 @@ fn push(work: &mut NumberSet, found: Option<u32>)
     }
 }
 
-/// Puts each record of these names in the set.
-pub(crate) fn push_all(work: &mut NumberSet, names: &[Option<u32>])
-    requires there { All (λ name. IfSome name (λ k. k < length work.old)) names.now }
+/// Puts each of these records in the set.
+pub(crate) fn push_all(work: &mut NumberSet, needed: &[Option<u32>])
+    requires there { All (λ need. IfSome need (λ k. k < length work.old)) needed.now }
     ensures work_len { length work.new ≡ length work.old }
-    ensures joined { Joins (set_of work.old) (set_of work.new) (is_named names.now) }
+    ensures joined { Joins (set_of work.old) (set_of work.new) (is_among needed.now) }
 {
-    for name in names {
-        push(work, *name);
+    for need in needed {
+        push(work, *need);
     }
 }

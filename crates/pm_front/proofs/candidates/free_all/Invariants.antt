@@ -3,8 +3,8 @@ use Rattle.pm_front.specs.Needed.{AreRaised}
 use Rattle.pm_front.specs.Candidates.{is_freed, AreAdded}
 use Rattle.pm_front.proofs.candidates.free_all.Given as goal
 
-abbrev pub invariant-loop-name : goal.invariant-loop-name
-invariant-loop-name l = record {
-  counts : AreRaised l.needs l.fn.needs (take l.name-index l.names);
-  unneeded : AreAdded l.fn.unneeded l.unneeded (is_freed (take l.name-index l.names) l.needs);
+abbrev pub invariant-loop-need : goal.invariant-loop-need
+invariant-loop-need l = record {
+  counts : AreRaised l.needs l.fn.needs (take l.need-index l.needed);
+  unneeded : AreAdded l.fn.unneeded l.unneeded (is_freed (take l.need-index l.needed) l.needs);
 }

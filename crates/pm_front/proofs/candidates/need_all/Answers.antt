@@ -2,9 +2,9 @@ use Rattle.std.proofs.Common.{◌<◌, length, arith}
 use Rattle.pm_front.proofs.RaisedLaws.{room_for}
 use Rattle.pm_front.proofs.candidates.need_all.Goals as goal
 
-pub need-requires-clause-room : goal.need-requires-clause-room
-need-requires-clause-room c =
-    let at : c.loop-name.name-index < length c.args.names.now =
-    omega (arith, c.loop-name-test.true) in
-    room_for c.args.needs.now c.loop-name.needs c.args.names.now c.loop-name.name-index at
-    c.loop-name.invariant.counts c.requires.there c.requires.room
+pub need_one-requires-clause-room : goal.need_one-requires-clause-room
+need_one-requires-clause-room c =
+    let at : c.loop-need.need-index < length c.args.needed.now =
+    omega (arith, c.loop-need-test.true) in
+    room_for c.args.needs.now c.loop-need.needs c.args.needed.now c.loop-need.need-index at
+    c.loop-need.invariant.counts c.requires.there c.requires.room

@@ -4,7 +4,7 @@ use Rattle.pm_front.proofs.need_counts.lower_all.Goals as goal
 
 pub lower-requires-clause-counted : goal.lower-requires-clause-counted
 lower-requires-clause-counted c =
-    let at : c.loop-name.name-index < length c.args.names.now =
-    omega (arith, c.loop-name-test.true) in
-    counted_once c.args.needs.now c.loop-name.needs c.args.names.now c.loop-name.name-index at
-    c.loop-name.invariant c.requires.there c.requires.counted
+    let at : c.loop-need.need-index < length c.args.needed.now =
+    omega (arith, c.loop-need-test.true) in
+    counted_once c.args.needs.now c.loop-need.needs c.args.needed.now c.loop-need.need-index at
+    c.loop-need.invariant c.requires.there c.requires.counted

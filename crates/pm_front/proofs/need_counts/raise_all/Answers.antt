@@ -4,7 +4,7 @@ use Rattle.pm_front.proofs.need_counts.raise_all.Goals as goal
 
 pub raise-requires-clause-room : goal.raise-requires-clause-room
 raise-requires-clause-room c =
-    let at : c.loop-name.name-index < length c.args.names.now =
-    omega (arith, c.loop-name-test.true) in
-    room_for c.args.needs.now c.loop-name.needs c.args.names.now c.loop-name.name-index at
-    c.loop-name.invariant c.requires.there c.requires.room
+    let at : c.loop-need.need-index < length c.args.needed.now =
+    omega (arith, c.loop-need-test.true) in
+    room_for c.args.needs.now c.loop-need.needs c.args.needed.now c.loop-need.need-index at
+    c.loop-need.invariant c.requires.there c.requires.room

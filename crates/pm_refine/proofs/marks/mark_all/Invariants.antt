@@ -1,12 +1,12 @@
 use Rattle.std.proofs.Common.{◌≡◌, length, take}
 use Rattle.pm_base.specs.Counts.{set_of}
-use Rattle.pm_front.specs.Candidates.{is_named}
+use Rattle.pm_front.specs.Candidates.{is_among}
 use Rattle.pm_refine.specs.Holding.{Joins}
 use Rattle.pm_refine.proofs.marks.mark_all.Given as goal
 
-abbrev pub invariant-loop-name : goal.invariant-loop-name
-invariant-loop-name l = record {
+abbrev pub invariant-loop-need : goal.invariant-loop-need
+invariant-loop-need l = record {
   len : length l.marks.items ≡ length l.fn.marks.items;
   marked : Joins (set_of l.fn.marks.items) (set_of l.marks.items)
-      (is_named (take l.name-index l.names));
+      (is_among (take l.need-index l.needed));
 }

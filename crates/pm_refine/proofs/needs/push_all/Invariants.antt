@@ -1,11 +1,11 @@
 use Rattle.std.proofs.Common.{◌≡◌, length, take}
 use Rattle.pm_base.specs.Counts.{set_of}
-use Rattle.pm_front.specs.Candidates.{is_named}
+use Rattle.pm_front.specs.Candidates.{is_among}
 use Rattle.pm_refine.specs.Holding.{Joins}
 use Rattle.pm_refine.proofs.needs.push_all.Given as goal
 
-abbrev pub invariant-loop-name : goal.invariant-loop-name
-invariant-loop-name l = record {
+abbrev pub invariant-loop-need : goal.invariant-loop-need
+invariant-loop-need l = record {
   len : length l.work ≡ length l.fn.work;
-  joined : Joins (set_of l.fn.work) (set_of l.work) (is_named (take l.name-index l.names));
+  joined : Joins (set_of l.fn.work) (set_of l.work) (is_among (take l.need-index l.needed));
 }

@@ -9,7 +9,7 @@ use Rattle.pm_front.specs.Candidates.{AreAnswers, AreCleared, AreCandidates}
 use Rattle.pm_front.proofs.WaitingLaws.{waiting-without}
 use Rattle.pm_beyond.proofs.PlanSteps.{without-same}
 use Rattle.pm_front.proofs.UnneededLaws.{with-without, unneeded-without}
-use Rattle.pm_front.proofs.CountedLaws.{names_counted, counts_without}
+use Rattle.pm_front.proofs.CountedLaws.{needs_counted, counts_without}
 use Rattle.pm_front.proofs.candidates.Candidates.collapse.Goals as goal
 
 pub free_all-requires-clause-counted : goal.free_all-requires-clause-counted
@@ -21,8 +21,8 @@ free_all-requires-clause-counted c =
     let counts =
     subst (λ S. AreNeedCounts h S c.self.inside.needs)
     (sym (with-without T k c.requires.is_split)) before.counts in
-    names_counted h (without T k) k c.requires.record (without-same T k) c.args.names.now
-    c.requires.names.times c.self.inside.needs counts
+    needs_counted h (without T k) k c.requires.record (without-same T k) c.args.needed.now
+    c.requires.needed.times c.self.inside.needs counts
 
 pub returns : goal.returns
 returns c =
@@ -33,8 +33,8 @@ returns c =
     let put = subst (λ S. AreNeedCounts h S c.self.inside.needs)
     (sym (with-without T k c.requires.is_split)) before.counts in
     let counts =
-    counts_without h (without T k) k c.requires.record (without-same T k) c.args.names.now
-    c.requires.names.times _ _ put c.free_all.ensures.counts in
+    counts_without h (without T k) k c.requires.record (without-same T k) c.args.needed.now
+    c.requires.needed.times _ _ put c.free_all.ensures.counts in
     let first = subst
     (λ (x : Hierarchy). AreCleared c.self.inside.waiting c.clear_splitter.new.waiting
     (λ j. is_at j (splitter_of x (t_of x k)))) c.hierarchy-h.ensures
@@ -53,7 +53,7 @@ returns c =
     c.requires.is_split _ _ _ before.waiting first second in
     let unneeded =
     unneeded-without h c.invariant.ensures.shape T c.requires.closed k c.requires.record
-    c.requires.is_split _ _ c.args.names.now c.requires.names.times c.free_all.new.needs counts
+    c.requires.is_split _ _ c.args.needed.now c.requires.needed.times c.free_all.new.needs counts
     before.unneeded c.free_all.ensures.unneeded in
     record {
       counts = counts;

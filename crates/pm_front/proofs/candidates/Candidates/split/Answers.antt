@@ -16,8 +16,8 @@ need_all-requires-clause-room c =
     let h = c.args.before.now.h in
     let T = set_of c.args.before.now.flags in
     let before = subst (AreCandidates h T) (sym c.self.view_is) c.requires.candidates in
-    room_left h T c.args.k c.requires.record c.requires.unsplit c.args.names.now
-    c.requires.names.times c.invariant.ensures.shape c.self.inside.needs before.counts
+    room_left h T c.args.k c.requires.record c.requires.unsplit c.args.needed.now
+    c.requires.needed.times c.invariant.ensures.shape c.self.inside.needs before.counts
 
 pub returns : goal.returns
 returns c =
@@ -41,11 +41,11 @@ returns c =
     c.requires.unsplit _ _ _ before.waiting first second in
     let unneeded =
     unneeded-with h c.invariant.ensures.shape T c.requires.closed k c.requires.record
-    c.requires.unsplit _ _ c.args.names.now c.requires.names.times before.unneeded
+    c.requires.unsplit _ _ c.args.needed.now c.requires.needed.times before.unneeded
     c.need_all.ensures.unneeded in
     record {
-      counts = counts_with h T k c.requires.record c.requires.unsplit c.args.names.now
-          c.requires.names.times _ _ before.counts c.need_all.ensures.counts;
+      counts = counts_with h T k c.requires.record c.requires.unsplit c.args.needed.now
+          c.requires.needed.times _ _ before.counts c.need_all.ensures.counts;
       waiting = subst (AreAnswers h (may_try h (with T k))) (sym c.remove.ensures) waiting;
       unneeded = subst (AreAnswers h (is_unneeded h (with T k))) (sym c.insert.ensures) unneeded;
     }

@@ -16,8 +16,8 @@ raise_all-requires-clause-room c =
     let counts =
     subst (λ (s : CountedRecords). AreNeedCounts h (set_of s.records) s.needs)
     (sym c.self.view_is) c.requires.counts in
-    room_left h (set_of c.self.inside.records) k c.requires.record absent c.args.names.now
-    c.requires.names.times c.invariant.ensures c.self.inside.needs counts
+    room_left h (set_of c.self.inside.records) k c.requires.record absent c.args.needed.now
+    c.requires.needed.times c.invariant.ensures c.self.inside.needs counts
 
 pub returns-clause-counts : goal.returns-clause-counts
 returns-clause-counts c =
@@ -35,5 +35,5 @@ returns-clause-counts c =
     let put = ap set_of c.insert.ensures
     ∙ set_of-set records k (omega (arith, len, c.requires.record)) in
     subst (λ T. AreNeedCounts h T c.raise_all.new.needs) (sym put)
-    (counts_with h (set_of records) k c.requires.record absent c.args.names.now
-    c.requires.names.times _ _ counts c.raise_all.ensures)
+    (counts_with h (set_of records) k c.requires.record absent c.args.needed.now
+    c.requires.needed.times _ _ counts c.raise_all.ensures)

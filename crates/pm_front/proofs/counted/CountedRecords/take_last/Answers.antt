@@ -10,11 +10,11 @@ use Rattle.pm_forest.proofs.Flags.{set_of-clear}
 use Rattle.pm_beyond.proofs.PlanSteps.{without-same}
 use Rattle.pm_front.specs.Needed.{CountedRecords, AreNeedCounts}
 use Rattle.pm_front.proofs.UnneededLaws.{with-without}
-use Rattle.pm_front.proofs.CountedLaws.{names_counted, counts_without}
+use Rattle.pm_front.proofs.CountedLaws.{needs_counted, counts_without}
 use Rattle.pm_front.proofs.counted.CountedRecords.take_last.Goals as goal
 
-pub named_by-requires : goal.named_by-requires
-named_by-requires c =
+pub needed_by-requires : goal.needed_by-requires
+needed_by-requires c =
     let len = subst (λ (s : CountedRecords). length s.records ≡ record_count c.args.front.now.h)
     (sym c.self.view_is) c.requires.len in
     let low = in_below c.self.inside.records c.in_ok-k.k c.in_ok-k.ensures.some.there in
@@ -25,8 +25,8 @@ lower_all-requires-clause-there c =
     let counts =
     subst (λ (s : CountedRecords). AreNeedCounts c.args.front.now.h (set_of s.records) s.needs)
     (sym c.self.view_is) c.requires.counts in
-    subst (λ n. All (λ name. IfSome name (λ j. j < n)) c.named_by.result) (sym counts.len)
-    c.named_by.ensures.there
+    subst (λ n. All (λ need. IfSome need (λ j. j < n)) c.needed_by.result) (sym counts.len)
+    c.needed_by.ensures.there
 
 pub lower_all-requires-clause-counted : goal.lower_all-requires-clause-counted
 lower_all-requires-clause-counted c =
@@ -42,8 +42,8 @@ lower_all-requires-clause-counted c =
     let low = in_below c.self.inside.records k there in
     let len = subst (λ (s : CountedRecords). length s.records ≡ record_count h) (sym c.self.view_is)
     c.requires.len in
-    names_counted h (without T k) k (omega arith) (without-same T k) c.named_by.result
-    c.named_by.ensures.times c.self.inside.needs counts
+    needs_counted h (without T k) k (omega arith) (without-same T k) c.needed_by.result
+    c.needed_by.ensures.times c.self.inside.needs counts
 
 pub returns-clause-counts : goal.returns-clause-counts
 returns-clause-counts c =
@@ -61,8 +61,8 @@ returns-clause-counts c =
     c.requires.len in
     let taken = ap set_of c.in_ok-k.ensures.taken ∙ set_of-clear c.self.inside.records k low in
     subst (λ S. AreNeedCounts h S c.lower_all.new.needs) (sym taken)
-    (counts_without h (without T k) k (omega arith) (without-same T k) c.named_by.result
-    c.named_by.ensures.times _ _ counts c.lower_all.ensures)
+    (counts_without h (without T k) k (omega arith) (without-same T k) c.needed_by.result
+    c.needed_by.ensures.times _ _ counts c.lower_all.ensures)
 
 pub returns-clause-some : goal.returns-clause-some
 returns-clause-some c =

@@ -8,21 +8,22 @@ use Rattle.pm_firm.specs.Firm.{IsFirm}
 use Rattle.pm_front.specs.State.{State}
 use Rattle.pm_front.proofs.Surfaces.{shows_surface}
 use Rattle.pm_front.proofs.FrontLaws.{sound-same, collapse_told, collapse_sound}
-use Rattle.pm_front.proofs.ReadyLaws.{ready-same, collapse_ready, row_named}
+use Rattle.pm_front.proofs.ReadyLaws.{ready-same, collapse_ready, row_needed}
 use Rattle.pm_front.proofs.front.Front.collapse_legal.Goals as goal
 
-pub of-names-requires : goal.of-names-requires
-of-names-requires c =
+pub of-needed-requires : goal.of-needed-requires
+of-needed-requires c =
     let l = subst (λ (s : State). c.args.k < record_count s.h) (sym c.self.view_is)
     c.requires.record in
-    omega (arith, l, c.self.invariant.names.len)
+    omega (arith, l, c.self.invariant.needed.len)
 
-pub collapse-requires-clause-names : goal.collapse-requires-clause-names
-collapse-requires-clause-names c =
+pub collapse-requires-clause-needed : goal.collapse-requires-clause-needed
+collapse-requires-clause-needed c =
     let s = c.self.inside.refinement in
     let l = subst (λ (s : State). c.args.k < record_count s.h) (sym c.self.view_is)
     c.requires.record in
-    row_named s.h _ c.self.inside.names c.self.invariant.names refl c.args.k l _ c.of-names.ensures
+    row_needed s.h _ c.self.inside.needed c.self.invariant.needed refl c.args.k l _
+    c.of-needed.ensures
 
 pub collapse-requires-clause-closed : goal.collapse-requires-clause-closed
 collapse-requires-clause-closed c =
@@ -46,9 +47,10 @@ invariant_of-self c =
     c.requires.legal in
     let sound = c.self.invariant.sound in
     let at : k < length s.flags = omega (arith, l, sound.flag_len) in
-    ready-same c.collapse-2.new.self s.h _ c.collapse.new.self c.self.inside.names
+    ready-same c.collapse-2.new.self s.h _ c.collapse.new.self c.self.inside.needed
     c.collapse-2.ensures.h c.collapse-2.ensures.flags
-    (collapse_ready s.h s.flags k at c.collapse.new.self c.self.inside.names c.self.invariant.names
+    (collapse_ready s.h s.flags k at c.collapse.new.self c.self.inside.needed
+    c.self.invariant.needed
     (collapse_sound s.h s.flags sound k l may) c.collapse.ensures)
 
 pub returns-clause-surface : goal.returns-clause-surface

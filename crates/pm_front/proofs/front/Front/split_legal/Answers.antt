@@ -6,21 +6,22 @@ use Rattle.pm_firm.specs.Firm.{IsFirm}
 use Rattle.pm_front.specs.State.{State}
 use Rattle.pm_front.proofs.Surfaces.{shows_surface}
 use Rattle.pm_front.proofs.FrontLaws.{sound-same, split_sound}
-use Rattle.pm_front.proofs.ReadyLaws.{ready-same, split_ready, row_named}
+use Rattle.pm_front.proofs.ReadyLaws.{ready-same, split_ready, row_needed}
 use Rattle.pm_front.proofs.front.Front.split_legal.Goals as goal
 
-pub of-names-requires : goal.of-names-requires
-of-names-requires c =
+pub of-needed-requires : goal.of-needed-requires
+of-needed-requires c =
     let l = subst (λ (s : State). c.args.k < record_count s.h) (sym c.self.view_is)
     c.requires.record in
-    omega (arith, l, c.self.invariant.names.len)
+    omega (arith, l, c.self.invariant.needed.len)
 
-pub split-requires-clause-names : goal.split-requires-clause-names
-split-requires-clause-names c =
+pub split-requires-clause-needed : goal.split-requires-clause-needed
+split-requires-clause-needed c =
     let s = c.self.inside.refinement in
     let l = subst (λ (s : State). c.args.k < record_count s.h) (sym c.self.view_is)
     c.requires.record in
-    row_named s.h _ c.self.inside.names c.self.invariant.names refl c.args.k l _ c.of-names.ensures
+    row_needed s.h _ c.self.inside.needed c.self.invariant.needed refl c.args.k l _
+    c.of-needed.ensures
 
 pub split-requires-clause-closed : goal.split-requires-clause-closed
 split-requires-clause-closed c =
@@ -35,9 +36,9 @@ invariant_of-self c =
     c.requires.legal in
     let sound = c.self.invariant.sound in
     let at : k < length s.flags = omega (arith, l, sound.flag_len) in
-    ready-same c.split-2.new.self s.h _ c.split.new.self c.self.inside.names c.split-2.ensures.h
+    ready-same c.split-2.new.self s.h _ c.split.new.self c.self.inside.needed c.split-2.ensures.h
     c.split-2.ensures.flags
-    (split_ready s.h s.flags k at c.split.new.self c.self.inside.names c.self.invariant.names
+    (split_ready s.h s.flags k at c.split.new.self c.self.inside.needed c.self.invariant.needed
     (split_sound s.h s.flags sound k l may) c.split.ensures)
 
 pub returns-clause-surface : goal.returns-clause-surface

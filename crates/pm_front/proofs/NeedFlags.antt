@@ -1,4 +1,4 @@
--- Flags that are cleared or set by names, name after name.
+-- Flags that are cleared or set by needs, one after the other.
 use Rattle.std.proofs.Common.{◌≡◌, ℕ, ◌+◌, eqb, Bool, ◌&&◌, List, [], refl, sym}
 use Rattle.std.proofs.lemmas.Grind.{common_steps}
 use Rattle.std.proofs.Common.{arith}

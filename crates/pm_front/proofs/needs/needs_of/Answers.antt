@@ -3,11 +3,11 @@ use Rattle.std.specs.Prelude.{IfSome}
 use Rattle.pm_forest.specs.declared.parts.Record.{Record}
 use Rattle.pm_forest.specs.Forest.{node_count, record_count, maker_of}
 use Rattle.pm_forest.specs.Moves.{neighbours_of}
-use Rattle.pm_front.specs.Needed.{times_in, times_named}
+use Rattle.pm_front.specs.Needed.{times_in, times_needed}
 use Rattle.pm_sides.proofs.SplitNodeLaws.{s_is, s_below}
-use Rattle.pm_front.proofs.NamedLaws.{neighbour_there, names_times}
-use Rattle.pm_front.proofs.NameRows.{all_five}
-use Rattle.pm_front.proofs.names.names_of.Goals as goal
+use Rattle.pm_front.proofs.TimesLaws.{neighbour_there, needs_times}
+use Rattle.pm_front.proofs.NeedRows.{all_five}
+use Rattle.pm_front.proofs.needs.needs_of.Goals as goal
 
 pub maker-requires : goal.maker-requires
 maker-requires c =
@@ -48,8 +48,8 @@ returns c =
     ∙ ap (maker_of h) (ap (λ (r : Record). r.s) c.record_at-change.ensures ∙ s_is h c.args.k) in
     let times : (j : ℕ)
     → times_in j (c.maker.result ∷ c.revealer.result ∷ c.revealer-2.result ∷ c.revealer-3.result
-    ∷ c.revealer-4.result ∷ []) ≡ times_named h c.args.k j = λ j.
-    let names = names_times h c.args.k j sides four (c.neighbours-sides.ensures.list
+    ∷ c.revealer-4.result ∷ []) ≡ times_needed h c.args.k j = λ j.
+    let needed = needs_times h c.args.k j sides four (c.neighbours-sides.ensures.list
     ∙ ap neighbours_of c.record_at-change.ensures) in
     (rw (
       made,
@@ -57,8 +57,8 @@ returns c =
       c.revealer-2.ensures.value,
       c.revealer-3.ensures.value,
       c.revealer-4.ensures.value,
-    ) names) in
-    let P : Option ℕ → Type 0 = λ name. IfSome name (λ j. j < record_count h) in
+    ) needed) in
+    let P : Option ℕ → Type 0 = λ need. IfSome need (λ j. j < record_count h) in
     record {
       there = all_five P c.maker.result c.revealer.result c.revealer-2.result c.revealer-3.result
           c.revealer-4.result c.maker.ensures.below c.revealer.ensures.there

@@ -1,4 +1,4 @@
--- The rows of a table of names.
+-- The rows of the table of what records need.
 use Rattle.std.proofs.Common.{◌≡◌, ℕ, ◌+◌, ◌<◌, List, [], ◌∷◌, ◌++◌, length, get_or, Option, inl}
 use Rattle.std.proofs.lemmas.Grind.{common_steps}
 use Rattle.std.proofs.Common.{inr, refl, sym, subst, arith}
@@ -8,7 +8,7 @@ use Rattle.std.specs.List.{All}
 use Rattle.std.proofs.lemmas.Bool.{cases_lt}
 use Rattle.std.proofs.lemmas.List.Elements.{All-cons, All-nil}
 use Rattle.pm_forest.specs.Forest.{Hierarchy}
-use Rattle.pm_front.specs.Needed.{AreNamesOf}
+use Rattle.pm_front.specs.Needed.{AreNeedsOf}
 
 -- The items of a list of five, read one by one, are the list.
 pub five_are : {X : Type 0} (xs : List X) (a b c x y d e f g h : X) → length xs ≡ 5
@@ -33,13 +33,13 @@ all_five P a b c x y of_a of_b of_c of_x of_y = grind (arith, common_steps, All-
 
 -- One more row.
 pub row_more : (h : Hierarchy) (rows : List (List (Option ℕ))) (k : ℕ) → length rows ≡ k
-    → ((j : ℕ) → j < k → AreNamesOf h j (get_or rows j [])) → (row : List (Option ℕ))
-    → AreNamesOf h k row →
-    (j : ℕ) → j < k + 1 → AreNamesOf h j (get_or (rows ++ row ∷ []) j [])
-row_more h rows k len each row named j l =
+    → ((j : ℕ) → j < k → AreNeedsOf h j (get_or rows j [])) → (row : List (Option ℕ))
+    → AreNeedsOf h k row →
+    (j : ℕ) → j < k + 1 → AreNeedsOf h j (get_or (rows ++ row ∷ []) j [])
+row_more h rows k len each row is j l =
     elim (cases_lt j k) [
       | inl before ↦
-          subst (AreNamesOf h j) (sym (get_or-append rows (row ∷ []) [] j (omega (arith, len))))
+          subst (AreNeedsOf h j) (sym (get_or-append rows (row ∷ []) [] j (omega (arith, len))))
           (each j before)
       | inr last ↦ grind (arith, common_steps, get_or, get_or-append_seam)
     ]

@@ -1,7 +1,7 @@
 use Rattle.std.proofs.Common.{◌≡◌, ◌<◌, ℕ, List, [], length, get_or, Option, ap, ◌∙◌, arith}
 use Rattle.std.proofs.lemmas.List.{get_or_read}
-use Rattle.pm_front.proofs.NameRows.{five_are}
-use Rattle.pm_front.proofs.names.NameTable.of.Goals as goal
+use Rattle.pm_front.proofs.NeedRows.{five_are}
+use Rattle.pm_front.proofs.needs.NeedTable.of.Goals as goal
 
 pub returns : goal.returns
 returns c =

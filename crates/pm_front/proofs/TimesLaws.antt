@@ -1,4 +1,4 @@
--- How often a list of names has a record, and what a record names.
+-- How often a list of needs has a record, and what a record needs.
 use Rattle.std.proofs.Common.{◌≡◌, ℕ, zero, suc, ◌+◌, ◌*◌, ◌<◌, ◌≤◌, Bool, true, false, ◌||◌, cond}
 use Rattle.std.proofs.lemmas.Grind.{common_steps}
 use Rattle.std.proofs.Common.{List, [], ◌∷◌, length, map, filter, get_or, Option, None, Some, inl}
@@ -21,7 +21,7 @@ use Rattle.pm_beyond.proofs.Distinct.{any-parts, any-from}
 use Rattle.pm_beyond.proofs.Neighbours.{recorded-in, recorded-has}
 use Rattle.pm_beyond.proofs.PlanLists.{same_bools}
 use Rattle.pm_beyond.proofs.Outer.{is_at-parts, is_at-from, needs-true, needs-from}
-use Rattle.pm_front.specs.Needed.{named_by, revealer_of, times_in, times_named}
+use Rattle.pm_front.specs.Needed.{needed_by, revealer_of, times_in, times_needed}
 use Rattle.pm_front.proofs.SplitLaws.{neighbours_there, all_first, all_second}
 
 -- How many of a list pass, one item on.
@@ -121,32 +121,34 @@ module _ (h : Hierarchy) where
           (any-from (λ b. is_at j (record_of h b)) (neighbours_of (record_at h k)) b
           (recorded-in h k e b l outer q) (is_at-from j (record_of h b) r))
 
-  -- A record names what it needs, and nothing else.
-  pub named-needs : (j k : ℕ) → j < record_count h → list_any (is_at k) (named_by h j) ≡ needs h j k
-  named-needs j k l =
+  -- The list has what a record needs, and nothing else.
+  pub needed_by-needs : (j k : ℕ) → j < record_count h → list_any (is_at k) (needed_by h j)
+      ≡ needs h j k
+  needed_by-needs j k l =
       ap (λ b. is_at k (maker_of h (s_of h j)) || b)
       (any-map (is_at k) (record_of h) (neighbours_of (record_at h j))) ∙ needs_is j k l
 
-  pub times_named-none : (j k : ℕ) → j < record_count h → needs h j k ≡ false
-      → times_named h j k ≡ 0
-  times_named-none j k l e = none_pass (is_at k) (named_by h j) (named-needs j k l ∙ e)
+  pub times_needed-none : (j k : ℕ) → j < record_count h → needs h j k ≡ false
+      → times_needed h j k ≡ 0
+  times_needed-none j k l e = none_pass (is_at k) (needed_by h j) (needed_by-needs j k l ∙ e)
 
-  pub times_named-some : (j k : ℕ) → j < record_count h → needs h j k ≡ true → 0 < times_named h j k
-  times_named-some j k l e = some_pass (is_at k) (named_by h j) (named-needs j k l ∙ e)
+  pub times_needed-some : (j k : ℕ) → j < record_count h → needs h j k ≡ true
+      → 0 < times_needed h j k
+  times_needed-some j k l e = some_pass (is_at k) (needed_by h j) (needed_by-needs j k l ∙ e)
 
-  -- It names no more than five.
-  pub times_named-most : (j k : ℕ) → times_named h j k ≤ 5
-  times_named-most j k =
+  -- It has no more than five.
+  pub times_needed-most : (j k : ℕ) → times_needed h j k ≤ 5
+  times_needed-most j k =
       grind (
         arith,
         common_steps,
-        count_by-le-length (is_at k) (named_by h j),
+        count_by-le-length (is_at k) (needed_by h j),
         few_neighbours (record_at h j),
-        length-filter (is_at k) (named_by h j),
+        length-filter (is_at k) (needed_by h j),
         length-map (neighbours_of (record_at h j)) (record_of h),
       )
 
-  -- The names by the places of the neighbours are these, and none where no neighbour is recorded.
+  -- The needs by the places of the neighbours are these, and none where no neighbour is recorded.
   revealed_times : (k : ℕ) (items : List (Option Side)) → times_in k (map (revealer_of h) items)
       ≡ times_in k (map (record_of h) (sides_in items))
   revealed_times k [] = refl
@@ -154,14 +156,14 @@ module _ (h : Hierarchy) where
   revealed_times k (Some side ∷ items) =
       grind (arith, common_steps, passing_more, revealed_times k items)
 
-  pub names_times : (j k : ℕ) (items : List (Option Side)) → length items ≡ 4
+  pub needs_times : (j k : ℕ) (items : List (Option Side)) → length items ≡ 4
       → sides_in items ≡ neighbours_of (record_at h j) →
       times_in k (maker_of h (s_of h j) ∷ revealer_of h (get_or items 0 None)
       ∷ revealer_of h (get_or items 1 None) ∷ revealer_of h (get_or items 2 None)
-      ∷ revealer_of h (get_or items 3 None) ∷ []) ≡ times_named h j k
-  names_times j k items four are =
+      ∷ revealer_of h (get_or items 3 None) ∷ []) ≡ times_needed h j k
+  needs_times j k items four are =
       let made = maker_of h (s_of h j) in
-      let at = λ (names : List (Option ℕ)). times_in k (made ∷ names) in
+      let at = λ (needed : List (Option ℕ)). times_in k (made ∷ needed) in
       ap (λ (all : List (Option Side)). at (map (revealer_of h) all))
       (sym (four_items None items four))
       ∙ passing_more (is_at k) made (map (revealer_of h) items)

@@ -5,7 +5,7 @@ ghost use Rattle.pm_base.specs.declared.limits.TheConstants.{MOST_VERTICES};
 ghost use Rattle.pm_forest.specs.Forest.{record_count};
 ghost use Rattle.pm_forest.specs.Faces.{face_count};
 ghost use Rattle.pm_forest.specs.Moves.{side_in};
-ghost use Rattle.pm_front.specs.Needed.{revealer_of, AreNamesOf, AreNames};
+ghost use Rattle.pm_front.specs.Needed.{revealer_of, AreNeedsOf, AreNeeds};
 
 use crate::OutOfMemory;
 use pm_base::{NodeId, OptionalNumber, Side};
@@ -13,18 +13,18 @@ use pm_forest::Hierarchy;
 use std::alloc::Global;
 use std::marker::Model;
 
-// The names of one record, in 20 bytes.
+// What one record needs, in 20 bytes.
 type Row = [OptionalNumber; 5];
 
 /// What each record of a hierarchy needs: the maker of its node, and the revealers of the faces of
 /// its recorded neighbours. A move then reads one row, where it would look up each of these faces.
 /// Contracts see the rows.
 #[derive(Drop)]
-pub(crate) struct NameTable {
+pub(crate) struct NeedTable {
     rows: Vec<Row>,
 }
 
-impl Model for NameTable {
+impl Model for NeedTable {
     ghost use Rattle.std.specs.Prelude.{ℕ, List, Option};
 
     ghost Value = { List (List (Option ℕ)) };
@@ -32,17 +32,17 @@ impl Model for NameTable {
     ghost view = { λ n. n.rows.items };
 }
 
-impl NameTable {
+impl NeedTable {
     /// The rows of all records: O(1) for each. The only call that takes memory: 20 bytes a record.
-    pub(crate) fn new(alloc: Global, h: &Hierarchy) -> Result<NameTable, OutOfMemory>
-        ensures { IfOk result (AreNames h.now) }
+    pub(crate) fn new(alloc: Global, h: &Hierarchy) -> Result<NeedTable, OutOfMemory>
+        ensures { IfOk result (AreNeeds h.now) }
     {
         h.invariant();
         let mut rows = Vec::with_capacity(alloc, h.records() as usize)?;
         for k in 0..h.records() {
-            rows.push(row_of(names_of(h, k)))?;
+            rows.push(row_of(needs_of(h, k)))?;
         }
-        Ok(NameTable { rows })
+        Ok(NeedTable { rows })
     }
 
     /// The row of record `k`. O(1).
@@ -72,9 +72,9 @@ fn revealer(h: &Hierarchy, side: Option<Side>) -> Option<u32>
 
 // What record `k` needs, once for each reason; `None` where no neighbour is recorded, and where no
 // record made a node or revealed a face.
-fn names_of(h: &Hierarchy, k: u32) -> [Option<u32>; 5]
+fn needs_of(h: &Hierarchy, k: u32) -> [Option<u32>; 5]
     requires { k < record_count h.now }
-    ensures { AreNamesOf h.now k result }
+    ensures { AreNeedsOf h.now k result }
 {
     h.invariant();
     let change = h.record_at(k);
@@ -88,16 +88,16 @@ fn names_of(h: &Hierarchy, k: u32) -> [Option<u32>; 5]
     ]
 }
 
-// The names in four bytes each.
-fn row_of(names: [Option<u32>; 5]) -> Row
-    requires { All (λ name. IfSome name (λ k. k < MOST_VERTICES)) names }
-    ensures { result ≡ names }
+// What a record needs, in four bytes each.
+fn row_of(needed: [Option<u32>; 5]) -> Row
+    requires { All (λ need. IfSome need (λ k. k < MOST_VERTICES)) needed }
+    ensures { result ≡ needed }
 {
     [
-        OptionalNumber::of(names[0]),
-        OptionalNumber::of(names[1]),
-        OptionalNumber::of(names[2]),
-        OptionalNumber::of(names[3]),
-        OptionalNumber::of(names[4]),
+        OptionalNumber::of(needed[0]),
+        OptionalNumber::of(needed[1]),
+        OptionalNumber::of(needed[2]),
+        OptionalNumber::of(needed[3]),
+        OptionalNumber::of(needed[4]),
     ]
 }
