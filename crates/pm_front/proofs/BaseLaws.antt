@@ -17,7 +17,7 @@ use Rattle.pm_sides.specs.Stored.{AreStored}
 use Rattle.pm_front.specs.Active.{AreActive, AreShown}
 use Rattle.pm_front.specs.Corners.{base_lists}
 use Rattle.pm_front.specs.Members.{Members}
-use Rattle.pm_front.specs.State.{IsRefinement}
+use Rattle.pm_front.specs.State.{AreFrontTables}
 use Rattle.pm_front.proofs.OpenedLists.{base-right}
 
 base-front : (h : Hierarchy) → IsFront h no_records
@@ -33,7 +33,7 @@ module _ (h : Hierarchy) (flags : List Bool) (none : flags ≡ replicate (record
       corners.items ≡ 3 * face_count h → corners.lists ≡ base_lists h → active.bound ≡ node_count h
       → AreActive h no_records active.list →
       kept.bound ≡ face_count h → AreShown h no_records kept.list → AreStored h no_records table
-      → IsRefinement h flags corners active kept table
+      → AreFrontTables h flags corners active kept table
   base-refined shape once corners active kept table items lists bound nodes kept_bound faces
       beyond =
       grind (arith, common_steps, base-front, base-right, length-replicate, unset)

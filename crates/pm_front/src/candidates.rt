@@ -14,8 +14,8 @@ ghost use Rattle.pm_front.specs.Candidates.{no_candidates, is_among, is_freed, A
 ghost use Rattle.pm_front.specs.Candidates.{AreCleared, AreAdded, AreCandidates};
 
 use crate::OutOfMemory;
+use crate::front_tables::FrontTables;
 use crate::need_counts::NeedCounts;
-use crate::refinement::Refinement;
 use pm_base::NodeId;
 use pm_forest::Hierarchy;
 use pm_sets::NumberSet;
@@ -155,9 +155,9 @@ impl Candidates {
         add_roots(&mut self.waiting, h);
     }
 
-    /// Those after record `k`, which needs these, is split in this refinement.
+    /// Those after record `k`, which needs these, is split in these tables.
     /// O(1).
-    pub(crate) fn split(&mut self, before: &Refinement, needed: &[Option<u32>], k: u32)
+    pub(crate) fn split(&mut self, before: &FrontTables, needed: &[Option<u32>], k: u32)
         requires record { k < record_count before.now.h }
         requires needed { AreNeedsOf before.now.h k needed.now }
         requires unsplit { set_of before.now.flags k ≡ false }
@@ -175,9 +175,9 @@ impl Candidates {
         self.waiting.remove(k);
     }
 
-    /// Those after record `k`, which needs these, is collapsed in this refinement.
+    /// Those after record `k`, which needs these, is collapsed in these tables.
     /// O(1).
-    pub(crate) fn collapse(&mut self, before: &Refinement, needed: &[Option<u32>], k: u32)
+    pub(crate) fn collapse(&mut self, before: &FrontTables, needed: &[Option<u32>], k: u32)
         requires record { k < record_count before.now.h }
         requires needed { AreNeedsOf before.now.h k needed.now }
         requires is_split { set_of before.now.flags k ≡ true }

@@ -29,7 +29,7 @@ impl Front {
             (self.new.corners ≡ split_lists self.old.h (set_of self.old.flags) k self.old.corners) }
         ensures refused { OnErr result (self.new ≡ self.old) }
     {
-        match self.refinement.split_fault(k) {
+        match self.tables.split_fault(k) {
             Some(fault) => Err(fault),
             None => {
                 self.split_legal(k);
@@ -49,8 +49,8 @@ impl Front {
             self.old.corners }
     {
         let needed = self.needed.of(k);
-        self.candidates.split(&self.refinement, &needed, k);
-        self.refinement.split(k);
+        self.candidates.split(&self.tables, &needed, k);
+        self.tables.split(k);
     }
 
     /// Collapses record `k` where that is legal: it is split, both children are active, and beyond
@@ -73,7 +73,7 @@ impl Front {
             (self.new.corners ≡ collapsed_lists self.old.h k self.old.corners) }
         ensures refused { OnErr result (self.new ≡ self.old) }
     {
-        match self.refinement.collapse_fault(k) {
+        match self.tables.collapse_fault(k) {
             Some(fault) => Err(fault),
             None => {
                 self.collapse_legal(k);
@@ -92,7 +92,7 @@ impl Front {
         ensures corners { self.new.corners ≡ collapsed_lists self.old.h k self.old.corners }
     {
         let needed = self.needed.of(k);
-        self.candidates.collapse(&self.refinement, &needed, k);
-        self.refinement.collapse(k);
+        self.candidates.collapse(&self.tables, &needed, k);
+        self.tables.collapse(k);
     }
 }

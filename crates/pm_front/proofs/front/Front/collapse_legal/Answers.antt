@@ -19,7 +19,7 @@ of-needed-requires c =
 
 pub collapse-requires-clause-needed : goal.collapse-requires-clause-needed
 collapse-requires-clause-needed c =
-    let s = c.self.inside.refinement in
+    let s = c.self.inside.tables in
     let l = subst (λ (s : State). c.args.k < record_count s.h) (sym c.self.view_is)
     c.requires.record in
     row_needed s.h _ c.self.inside.needed c.self.invariant.needed refl c.args.k l _
@@ -31,7 +31,7 @@ collapse-requires-clause-closed c =
 
 pub collapse-requires-2-clause-told : goal.collapse-requires-2-clause-told
 collapse-requires-2-clause-told c =
-    let s = c.self.inside.refinement in
+    let s = c.self.inside.tables in
     let k = c.args.k in
     let l = subst (λ (s : State). k < record_count s.h) (sym c.self.view_is) c.requires.record in
     let may = subst (λ (s : State). MayCollapse s.h (set_of s.flags) k) (sym c.self.view_is)
@@ -40,7 +40,7 @@ collapse-requires-2-clause-told c =
 
 pub invariant_of-self : goal.invariant_of-self
 invariant_of-self c =
-    let s = c.self.inside.refinement in
+    let s = c.self.inside.tables in
     let k = c.args.k in
     let l = subst (λ (s : State). k < record_count s.h) (sym c.self.view_is) c.requires.record in
     let may = subst (λ (s : State). MayCollapse s.h (set_of s.flags) k) (sym c.self.view_is)
@@ -55,7 +55,7 @@ invariant_of-self c =
 
 pub returns-clause-surface : goal.returns-clause-surface
 returns-clause-surface c firm =
-    let s = c.self.inside.refinement in
+    let s = c.self.inside.tables in
     let k = c.args.k in
     let l = subst (λ (s : State). k < record_count s.h) (sym c.self.view_is) c.requires.record in
     let may = subst (λ (s : State). MayCollapse s.h (set_of s.flags) k) (sym c.self.view_is)
@@ -67,7 +67,7 @@ returns-clause-surface c firm =
 
 pub returns-clause-done : goal.returns-clause-done
 returns-clause-done c =
-    let s = c.self.inside.refinement in
+    let s = c.self.inside.tables in
     let k = c.args.k in
     let l = subst (λ (s : State). k < record_count s.h) (sym c.self.view_is) c.requires.record in
     let at : k < length s.flags = omega (arith, l, c.self.invariant.sound.flag_len) in

@@ -17,7 +17,7 @@ of-needed-requires c =
 
 pub split-requires-clause-needed : goal.split-requires-clause-needed
 split-requires-clause-needed c =
-    let s = c.self.inside.refinement in
+    let s = c.self.inside.tables in
     let l = subst (λ (s : State). c.args.k < record_count s.h) (sym c.self.view_is)
     c.requires.record in
     row_needed s.h _ c.self.inside.needed c.self.invariant.needed refl c.args.k l _
@@ -29,7 +29,7 @@ split-requires-clause-closed c =
 
 pub invariant_of-self : goal.invariant_of-self
 invariant_of-self c =
-    let s = c.self.inside.refinement in
+    let s = c.self.inside.tables in
     let k = c.args.k in
     let l = subst (λ (s : State). k < record_count s.h) (sym c.self.view_is) c.requires.record in
     let may = subst (λ (s : State). MaySplit s.h (set_of s.flags) k) (sym c.self.view_is)
@@ -43,7 +43,7 @@ invariant_of-self c =
 
 pub returns-clause-surface : goal.returns-clause-surface
 returns-clause-surface c firm =
-    let s = c.self.inside.refinement in
+    let s = c.self.inside.tables in
     let k = c.args.k in
     let l = subst (λ (s : State). k < record_count s.h) (sym c.self.view_is) c.requires.record in
     let may = subst (λ (s : State). MaySplit s.h (set_of s.flags) k) (sym c.self.view_is)

@@ -4,7 +4,7 @@ use Rattle.pm_forest.proofs.ShapeLaws.{shape_is_forest}
 use Rattle.pm_front.specs.Shown.{kept_faces}
 use Rattle.pm_front.specs.State.{State}
 use Rattle.pm_front.proofs.KeptLaws.{kept-many}
-use Rattle.pm_front.proofs.refinement.Refinement.kept_count.Goals as goal
+use Rattle.pm_front.proofs.front_tables.FrontTables.kept_count.Goals as goal
 
 pub returns : goal.returns
 returns c =

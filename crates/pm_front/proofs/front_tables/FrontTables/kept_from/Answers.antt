@@ -7,7 +7,7 @@ use Rattle.pm_forest.proofs.ShapeLaws.{shape_is_forest}
 use Rattle.pm_front.specs.Shown.{NonePasses, IsLeastFrom}
 use Rattle.pm_front.specs.State.{State}
 use Rattle.pm_front.proofs.KeptLaws.{least_kept, none_kept}
-use Rattle.pm_front.proofs.refinement.Refinement.kept_from.Goals as goal
+use Rattle.pm_front.proofs.front_tables.FrontTables.kept_from.Goals as goal
 
 pub returns-in_err-face-clause-none : goal.returns-in_err-face-clause-none
 returns-in_err-face-clause-none c =

@@ -3,7 +3,7 @@ use Rattle.pm_base.specs.Counts.{set_of}
 use Rattle.pm_front.specs.Shown.{active_nodes}
 use Rattle.pm_front.specs.State.{State}
 use Rattle.pm_front.proofs.MemberLaws.{active-many}
-use Rattle.pm_front.proofs.refinement.Refinement.active_count.Goals as goal
+use Rattle.pm_front.proofs.front_tables.FrontTables.active_count.Goals as goal
 
 pub returns : goal.returns
 returns c =

@@ -5,9 +5,9 @@ use Rattle.pm_forest.specs.Fronts.{no_records}
 use Rattle.pm_front.specs.Active.{AreActive, AreShown}
 use Rattle.pm_front.specs.Corners.{base_lists}
 use Rattle.pm_front.specs.Members.{Members}
-use Rattle.pm_front.specs.State.{IsRefinement}
+use Rattle.pm_front.specs.State.{AreFrontTables}
 use Rattle.pm_front.proofs.BaseLaws.{base-refined}
-use Rattle.pm_front.proofs.refinement.Refinement.base.Goals as goal
+use Rattle.pm_front.proofs.front_tables.FrontTables.base.Goals as goal
 
 pub invariant_of-result : goal.invariant_of-result
 invariant_of-result c =
@@ -30,7 +30,7 @@ invariant_of-result c =
     c.base_kept.ensures.bound ∙ ap (λ (v : Members). v.bound) c.requires.empty.no_faces in
     let faces = subst (λ (g : Hierarchy). AreShown g no_records kept.list) same
     c.base_kept.ensures.right in
-    subst (λ (g : Hierarchy). IsRefinement g flags corners active kept parts.result.2)
+    subst (λ (g : Hierarchy). AreFrontTables g flags corners active kept parts.result.2)
     (sym parts.ensures.h)
     (base-refined h flags parts.ensures.flags c.invariant.ensures.shape c.invariant.ensures.once
     corners active kept parts.result.2
