@@ -1,8 +1,9 @@
 -- Counting numbers that pass a test, and those that a walk has met.
 use Rattle.std.proofs.Common.{◌≡◌, ◌≢◌, ℕ, zero, suc, ◌+◌, ◌<◌, ◌≤◌, eqb, Bool, true, false, ◌||◌}
-use Rattle.std.proofs.Common.{inl, inr, refl, sym, ap, ◌∙◌, subst, arith}
-use Rattle.std.proofs.lemmas.Bool.{eqb-true, eq-eqb, ne_eqb, cases_eq, cases_Bool, both_ways}
-use Rattle.std.proofs.lemmas.Bool.{false≢true, or_cases, or_left, or_right, false_from_ne_true}
+use Rattle.std.proofs.lemmas.Grind.{common_steps}
+use Rattle.std.proofs.Common.{inl, inr, refl, sym, ap, ◌∙◌, arith}
+use Rattle.std.proofs.lemmas.Bool.{eqb-true, eq-eqb, ne_eqb, cases_eq}
+use Rattle.std.proofs.lemmas.Bool.{false≢true, or_cases, or_left, or_right}
 use Rattle.pm_base.specs.Counts.{one_if, count}
 
 pub one_if-le : (b : Bool) → one_if b ≤ 1
@@ -25,68 +26,23 @@ count-zero p = refl
 
 pub count_le : (p : ℕ → Bool) (n : ℕ) → count p n ≤ n
 count_le p zero = let a = count-zero p in omega arith
-count_le p (suc n) =
-    let h = count_le p n in
-    elim (cases_Bool (p n)) [
-      | inl e ↦ (let a = count-true p n e in omega arith)
-      | inr e ↦ (let a = count-false p n e in omega arith)
-    ]
+count_le p (suc n) = grind (arith, common_steps, count-false, count-true, count_le p n)
 
 pub count_same : (p q : ℕ → Bool) (n : ℕ) → ((i : ℕ) → i < n → p i ≡ q i) → count p n ≡ count q n
 count_same p q zero h = count-zero p ∙ sym (count-zero q)
-count_same p q (suc n) h =
-    let r = count_same p q n (λ i l. h i (omega arith)) in
-    let here : p n ≡ q n = h n (omega arith) in
-    elim (cases_Bool (p n)) [
-      | inl e ↦ (let a = count-true p n e in let b = count-true q n (sym here ∙ e) in omega arith)
-      | inr e ↦ (let a = count-false p n e in let b = count-false q n (sym here ∙ e) in omega arith)
-    ]
+count_same p q (suc n) h = grind (arith, common_steps, count-false, count-true, count_same p q n)
 
 pub count_more : (p q : ℕ → Bool) (n : ℕ) → ((i : ℕ) → i < n → p i ≡ true → q i ≡ true)
     → count p n ≤ count q n
 count_more p q zero h = let a = count-zero p in omega arith
-count_more p q (suc n) h =
-    let r = count_more p q n (λ i l e. h i (omega arith) e) in
-    elim (cases_Bool (p n)) [
-      | inl e ↦ (let a = count-true p n e in let b = count-true q n (h n (omega arith) e) in
-          omega arith)
-      | inr e ↦
-          let a = count-false p n e in
-          elim (cases_Bool (q n)) [
-            | inl g ↦ (let b = count-true q n g in omega arith)
-            | inr g ↦ (let b = count-false q n g in omega arith)
-          ]
-    ]
+count_more p q (suc n) h = grind (arith, common_steps, count-false, count-true, count_more p q n)
 
 -- Where all that pass one test pass another, and as many pass, the tests are the same.
 pub count_full : (p q : ℕ → Bool) (n : ℕ) → ((i : ℕ) → i < n → p i ≡ true → q i ≡ true)
     → count p n ≡ count q n → (i : ℕ) → i < n → q i ≡ true → p i ≡ true
 count_full p q zero h same i l e = absurd (omega arith)
 count_full p q (suc n) h same i l e =
-    let below : (j : ℕ) → j < n → p j ≡ true → q j ≡ true = λ j m g. h j (omega arith) g in
-    let r = count_more p q n below in
-    elim (cases_Bool (p n)) [
-      | inl g ↦
-          let a = count-true p n g in
-          let b = count-true q n (h n (omega arith) g) in
-          elim (cases_eq i n) [
-            | inl is ↦ subst (λ j. p j ≡ true) (sym is) g
-            | inr ne ↦
-                count_full p q n below (omega arith) i (omega arith) e
-          ]
-      | inr g ↦
-          let a = count-false p n g in
-          elim (cases_Bool (q n)) [
-            | inl k ↦ (let b = count-true q n k in absurd (omega arith))
-            | inr k ↦
-                let b = count-false q n k in
-                elim (cases_eq i n) [
-                  | inl is ↦ absurd (both_ways (q n) k (subst (λ j. q j ≡ true) is e))
-                  | inr ne ↦
-                      count_full p q n below (omega arith) i (omega arith) e
-                ]
-          ]
-    ]
+    grind (arith, common_steps, count-false, count-true, count_more, count_full p q n)
 
 count_one_more : (p : ℕ → Bool) (x n : ℕ) → x < n → p x ≡ false
     → count (λ y. eqb y x || p y) n ≡ suc (count p n)
@@ -95,19 +51,8 @@ count_one_more p x (suc n) l e =
     let q : ℕ → Bool = λ y. eqb y x || p y in
     elim (cases_eq n x) [
       | inl is ↦
-          let a = count-true q n (or_left (eqb n x) (p n) (eq-eqb n x is)) in
-          let b = count-false p n (subst (λ j. p j ≡ false) (sym is) e) in
-          let c = count_same q p n
-          (λ i m. ap (λ t. t || p i) (ne_eqb i x (λ j. absurd (omega arith)))) in
-          omega arith
-      | inr ne ↦
-          let r = count_one_more p x n (omega arith) e in
-          let here : q n ≡ p n = ap (λ t. t || p n) (ne_eqb n x ne) in
-          elim (cases_Bool (p n)) [
-            | inl g ↦ (let a = count-true q n (here ∙ g) in let b = count-true p n g in omega arith)
-            | inr g ↦ (let a = count-false q n (here ∙ g) in let b =
-                count-false p n g in omega arith)
-          ]
+          grind (arith, common_steps, count-false, count-true, count_same, eq-eqb, ne_eqb, or_left)
+      | inr ne ↦ grind (arith, common_steps, count-false, count-true, ne_eqb, count_one_more p x n)
     ]
 
 -- The numbers w 0 to w (k - 1).
@@ -118,20 +63,12 @@ met w (suc k) x = eqb x (w k) || met w k x
 pub met-parts : (w : ℕ → ℕ) (k x : ℕ) → met w k x ≡ true → (i : ℕ) × (i < k) × (x ≡ w i)
 unfolding met
 met-parts w zero x e = absurd (false≢true e)
-met-parts w (suc k) x e =
-    elim (or_cases (eqb x (w k)) (met w k x) e) [
-      | inl a ↦ (k, omega arith, eqb-true x (w k) a)
-      | inr a ↦ (let (i, l, is) = met-parts w k x a in (i, omega arith, is))
-    ]
+met-parts w (suc k) x e = grind (arith, common_steps, eqb-true, met, or_cases, met-parts w k x)
 
 pub met-from : (w : ℕ → ℕ) (k i : ℕ) → i < k → met w k (w i) ≡ true
 unfolding met
 met-from w zero i l = absurd (omega arith)
-met-from w (suc k) i l =
-    elim (cases_eq i k) [
-      | inl is ↦ or_left (eqb (w i) (w k)) (met w k (w i)) (eq-eqb (w i) (w k) (ap w is))
-      | inr ne ↦ or_right (eqb (w i) (w k)) (met w k (w i)) (met-from w k i (omega arith))
-    ]
+met-from w (suc k) i l = grind (arith, common_steps, eq-eqb, met, or_left, or_right, met-from w k i)
 
 count-none : (p : ℕ → Bool) (n : ℕ) → ((i : ℕ) → p i ≡ false) → count p n ≡ 0
 count-none p zero h = count-zero p
@@ -142,9 +79,7 @@ pub met-count : (w : ℕ → ℕ) (k n : ℕ) → ((i j : ℕ) → i < j → j <
 unfolding met
 met-count w zero n distinct within = count-none (met w zero) n (λ i. refl)
 met-count w (suc k) n distinct within =
-    let fresh : met w k (w k) ≡ false =
-    false_from_ne_true (met w k (w k)) (λ e. let (i, l, is) = met-parts w k (w k) e in
-    distinct i k l (omega arith) (sym is)) in
+    let fresh : met w k (w k) ≡ false = grind (arith, common_steps, met, met-parts) in
     let r = met-count w k n (λ i j l g. distinct i j l (omega arith))
     (λ i l. within i (omega arith)) in
     count_one_more (met w k) (w k) n (within k (omega arith)) fresh ∙ ap suc r

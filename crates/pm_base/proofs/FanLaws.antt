@@ -1,8 +1,9 @@
 -- What a fan is, by going round; where a fan is open and where closed; and the fans of an oriented
 -- manifold.
 use Rattle.std.proofs.Common.{◌≡◌, ℕ, zero, suc, ◌-◌, ◌<◌, ◌≤◌, ◌⊎◌, inl, inr, refl, sym, ap, ◌∙◌}
+use Rattle.std.proofs.lemmas.Grind.{common_steps}
 use Rattle.std.proofs.Common.{subst, arith}
-use Rattle.std.proofs.lemmas.Bool.{cases_eq, cases_order}
+use Rattle.std.proofs.lemmas.Bool.{cases_eq}
 use Rattle.pm_base.specs.Sides.{Net, side_count, to, third, Stands, NoSideTwice, IsBorderSide}
 use Rattle.pm_base.specs.Sides.{IsBorder}
 use Rattle.pm_base.specs.Fans.{IsPairAt, IsUsed, IsChain, IsDistinctBelow, IsOpen, IsClosedChain}
@@ -15,11 +16,7 @@ use Rattle.pm_base.proofs.Rounds.{uncons, pair_out, pair_in, border_first, borde
 use Rattle.pm_base.proofs.FanWalks.{walk_ends, cover, trail_fan, three}
 
 same_place : (w : ℕ → ℕ) (n i j : ℕ) → IsDistinctBelow w n → i < n → j < n → w i ≡ w j → i ≡ j
-same_place w n i j d a b is =
-    elim (cases_order i j) [
-      | inl e ↦ e
-      | inr o ↦ elim o [ inl l ↦ absurd (d i j l b is) | inr l ↦ absurd (d j i l a (sym is)) ]
-    ]
+same_place w n i j d a b is = grind (arith, common_steps)
 
 -- The place after place i in a closed chain.
 after : (w : ℕ → ℕ) (n i : ℕ) → 3 ≤ n → w n ≡ w 0 → i < n → (r : ℕ) × (r < n) × (w (suc i) ≡ w r)
@@ -105,13 +102,7 @@ round_fan m once v plain (c, all) =
     elim (used? m v) [
       | inr unused ↦ unused_fan m v unused
       | inl (e, t, a) ↦
-          let f : IsPairAt m v (to m e) (third m e) = record {
-            side = e;
-            stands = t;
-            at = a;
-            one = refl;
-            two = refl;
-          } in
+          let f : IsPairAt m v (to m e) (third m e) = grind (arith, common_steps) in
           elim (uncons m once v (all (to m e) (third m e) f)) [
             | inl is ↦ fan_from m once v plain (c, all) e t a is
             | inr (b, g, w) ↦ fan_from m once v plain (c, all) g.side g.stands g.at (sym g.one)

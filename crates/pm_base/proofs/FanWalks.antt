@@ -1,6 +1,7 @@
 -- Walking round a vertex from side to side: the pairs passed are a chain, and a walk that passes
 -- every pair is the fan.
 use Rattle.std.proofs.Common.{◌≡◌, ◌≢◌, ℕ, zero, suc, ◌<◌, ◌≤◌, ◌⊎◌, inl, inr, refl, sym, ap, ◌∙◌}
+use Rattle.std.proofs.lemmas.Grind.{common_steps}
 use Rattle.std.proofs.Common.{subst, arith}
 use Rattle.std.proofs.lemmas.Bool.{cases_eq}
 use Rattle.pm_base.specs.Sides.{Net, side_count, to, third, Stands, NoSideTwice, around}
@@ -25,10 +26,7 @@ module _ (m : Net) (once : NoSideTwice m) (v a : ℕ) (start : Stands m a) (at_v
   pub on_trail : (i : ℕ) → i ≤ k → Stands m (at i) × (m.from (at i) ≡ v)
   on_trail zero l = let e =
       after_steps-zero (around m) a in (subst (Stands m) (sym e) start, ap m.from e ∙ at_v)
-  on_trail (suc i) l =
-      let h = on_trail i (omega arith) in
-      let (t, f, s) = around-is m once (at i) (at (suc i)) (trail.steps i (omega arith)) in
-      (t, f ∙ h.1)
+  on_trail (suc i) l = grind (arith, common_steps, around-is m once (at i) (at (suc i)), on_trail i)
 
   -- The vertices that the walk passes.
   abbrev pub rim : ℕ → ℕ

@@ -1,7 +1,8 @@
 -- Lengths and distances of integer vectors: the laws of `Squares` on natural numbers, axis by axis.
 use Rattle.std.proofs.Common.{ℕ, ◌+◌, ◌*◌, ◌<◌, ◌≤◌, arith}
+use Rattle.std.proofs.lemmas.Grind.{common_steps}
 use Rattle.std.proofs.Math.Nat.{le_trans}
-use Rattle.std.specs.Prelude.{◌+ℤ◌, ◌-ℤ◌, ◌*ℤ◌, unsigned_abs}
+use Rattle.std.specs.Prelude.{◌-ℤ◌, unsigned_abs}
 use Rattle.std.proofs.lemmas.Nat.{mul-le}
 use Rattle.std.proofs.lemmas.Int.{unsigned_abs-mul}
 use Rattle.pm_base.specs.Place.{Place}
@@ -21,17 +22,7 @@ squares_le x y z a b c d e f p q r =
 abs_dot : (u v : Direction)
     → unsigned_abs (dot_of u v) ≤ unsigned_abs u.x * unsigned_abs v.x + unsigned_abs
     u.y * unsigned_abs v.y + unsigned_abs u.z * unsigned_abs v.z
-abs_dot u v =
-    let s = abs_plus (u.x *ℤ v.x +ℤ u.y *ℤ v.y) (u.z *ℤ v.z) in
-    let t = abs_plus (u.x *ℤ v.x) (u.y *ℤ v.y) in
-    omega (
-      arith,
-      s,
-      t,
-      unsigned_abs-mul u.x v.x,
-      unsigned_abs-mul u.y v.y,
-      unsigned_abs-mul u.z v.z,
-    )
+abs_dot u v = grind (arith, common_steps, abs_plus, unsigned_abs-mul)
 
 pub dot_le : (u v : Direction)
     → unsigned_abs (dot_of u v) * unsigned_abs (dot_of u v) ≤ norm2_of u * norm2_of v

@@ -1,8 +1,8 @@
 -- The sides of a list of faces, and of a well-formed mesh.
-use Rattle.std.proofs.Common.{◌≡◌, ◌≢◌, ℕ, ◌+◌, ◌*◌, ◌/◌, ◌%◌, ◌<◌, ◌⊎◌, inl, inr, refl, sym, ap}
-use Rattle.std.proofs.Common.{◌∙◌, subst, List, length, arith}
+use Rattle.std.proofs.Common.{◌≡◌, ◌≢◌, ℕ, ◌+◌, ◌*◌, ◌/◌, ◌%◌, ◌<◌, ◌⊎◌, inl, inr, refl, ap}
+use Rattle.std.proofs.lemmas.Grind.{common_steps}
+use Rattle.std.proofs.Common.{◌∙◌, List, length, arith}
 use Rattle.std.specs.Prelude.{slice_index_or}
-use Rattle.std.proofs.lemmas.Bool.{cases_eq}
 use Rattle.std.proofs.lemmas.List.Elements.{All-get_or}
 use Rattle.pm_base.specs.declared.mesh.Corners.{Corners}
 use Rattle.pm_base.specs.Meshes.{Mesh, IsFace, IsWellFormed}
@@ -57,39 +57,25 @@ side_cases : (fs : List Corners) (e f : ℕ) → e / 3 ≡ f → let k =
     AreTurned (net_of fs) e k.a k.b k.c
     ⊎ (AreTurned (net_of fs) e k.b k.c k.a ⊎ AreTurned (net_of fs) e k.c k.a k.b)
 side_cases fs e f at =
-    let a = next_cases e in
-    let b = next_cases (next e) in
-    elim (cases_eq (e % 3) 0) [
-      | inl is ↦ inl (record {
-        from_is = from-corner fs e f 0 at is;
-        to_is = from-corner fs (next e) f 1 (omega arith) (omega arith);
-        third_is = from-corner fs (prev e) f 2 (omega arith) (omega arith);
-      })
-      | inr n0 ↦ inr (elim (cases_eq (e % 3) 1) [
-        | inl is ↦ inl (record {
-          from_is = from-corner fs e f 1 at is;
-          to_is = from-corner fs (next e) f 2 (omega arith) (omega arith);
-          third_is = from-corner fs (prev e) f 0 (omega arith) (omega arith);
-        })
-        | inr n1 ↦ inr (record {
-          from_is = from-corner fs e f 2 at (omega arith);
-          to_is = from-corner fs (next e) f 0 (omega arith) (omega arith);
-          third_is = from-corner fs (prev e) f 1 (omega arith) (omega arith);
-        })
-      ])
-    ]
+    grind (
+      arith,
+      common_steps,
+      from-corner fs e f 0 at,
+      from-corner fs (next e) f 1,
+      from-corner fs (prev e) f 2,
+      from-corner fs e f 1 at,
+      from-corner fs (next e) f 2,
+      from-corner fs (prev e) f 0,
+      from-corner fs e f 2 at,
+      from-corner fs (next e) f 0,
+      from-corner fs (prev e) f 1,
+      next_cases e,
+      next_cases (next e),
+    )
 
 turned_stands : (m : Net) (e a b c n : ℕ) → AreTurned m e a b c → e < 3 * m.faces → a < n → a ≢ b
     → b ≢ c → c ≢ a → Stands m e × (m.from e < n)
-turned_stands m e a b c n t l low ab bc ca = (
-  record {
-    is_side = l;
-    first = λ is. ab (sym t.from_is ∙ is ∙ t.to_is);
-    second = λ is. bc (sym t.to_is ∙ is ∙ t.third_is);
-    last = λ is. ca (sym t.third_is ∙ is ∙ t.from_is);
-  },
-  subst (λ i. i < n) (sym t.from_is) low,
-)
+turned_stands m e a b c n t l low ab bc ca = grind (arith, common_steps)
 
 -- Every side of a well-formed mesh stands, and runs from one of its points.
 pub mesh_side : (m : Mesh) → IsWellFormed m → (e : ℕ) → e < 3 * length m.faces

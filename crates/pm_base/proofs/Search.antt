@@ -1,8 +1,9 @@
 -- Searches and decisions over the numbers below a bound.
 use Rattle.std.proofs.Common.{◌≡◌, ◌≢◌, ℕ, zero, suc, ◌<◌, Bool, true, false, Option, Some, None}
-use Rattle.std.proofs.Common.{◌⊎◌, inl, inr, refl, sym, ◌∙◌, subst, arith}
+use Rattle.std.proofs.lemmas.Grind.{common_steps}
+use Rattle.std.proofs.Common.{◌⊎◌, inl, inr, refl, sym, arith}
 use Rattle.std.specs.Option.{is_some, is_none}
-use Rattle.std.proofs.lemmas.Bool.{false≢true, cases_Bool, cases_eq, both_ways, cond-true}
+use Rattle.std.proofs.lemmas.Bool.{false≢true, cases_Bool, cond-true}
 use Rattle.std.proofs.lemmas.Bool.{cond-false}
 use Rattle.std.proofs.lemmas.Option.{none-some, same_Some}
 use Rattle.pm_base.specs.Sides.{find_below}
@@ -10,11 +11,7 @@ use Rattle.pm_base.specs.Sides.{find_below}
 pub find_below-some : (p : ℕ → Bool) (n g : ℕ) → find_below p n ≡ Some g → (p g ≡ true) × (g < n)
 find_below-some p zero g e = absurd (none-some g e)
 find_below-some p (suc n) g e =
-    elim (cases_Bool (p n)) [
-      | inl a ↦ (let is : n ≡ g = same_Some n g (sym (cond-true _ _ _ a) ∙ e) in
-          (subst (λ i. p i ≡ true) is a, omega arith))
-      | inr a ↦ (let r = find_below-some p n g (sym (cond-false _ _ _ a) ∙ e) in (r.0, omega arith))
-    ]
+    grind (arith, common_steps, cond-false, cond-true, same_Some, find_below-some p n g)
 
 pub find_below-has : (p : ℕ → Bool) (n g : ℕ) → g < n → p g ≡ true
     → (k : ℕ) × (find_below p n ≡ Some k)
@@ -22,10 +19,7 @@ find_below-has p zero g l e = absurd (omega arith)
 find_below-has p (suc n) g l e =
     elim (cases_Bool (p n)) [
       | inl a ↦ (n, cond-true _ _ _ a)
-      | inr a ↦
-          let differs : g ≢ n = λ is. both_ways _ a (subst (λ i. p i ≡ true) is e) in
-          let r = find_below-has p n g (omega arith) e in
-          (r.0, cond-false _ _ _ a ∙ r.1)
+      | inr a ↦ grind (arith, common_steps, cond-false, find_below-has p n g)
     ]
 
 pub option_cases : (r : Option ℕ) → (r ≡ None) ⊎ ((k : ℕ) × (r ≡ Some k))
@@ -53,14 +47,5 @@ search_below P decide zero = inr (λ i l h. absurd (omega arith))
 search_below P decide (suc n) =
     elim (decide n) [
       | inl h ↦ inl (n, omega arith, h)
-      | inr never ↦
-          elim (search_below P decide n) [
-            | inl (i, l, h) ↦ inl (i, omega arith, h)
-            | inr none ↦
-                inr (λ i l h. elim (cases_eq i n) [
-                  | inl is ↦ never (subst P is h)
-                  | inr ne ↦
-                      none i (omega arith) h
-                ])
-          ]
+      | inr never ↦ grind (arith, common_steps, search_below P decide n)
     ]

@@ -1,18 +1,14 @@
 -- Sides of a face, and the pairs at a vertex: turning a face, and what stands once.
-use Rattle.std.proofs.Common.{◌≡◌, ◌≢◌, ℕ, ◌+◌, ◌-◌, ◌*◌, ◌%◌, ◌<◌, ◌⊎◌, inl, inr, refl, sym, ap}
+use Rattle.std.proofs.Common.{◌≡◌, ◌≢◌, ℕ, ◌+◌, ◌-◌, ◌*◌, ◌%◌, ◌<◌, ◌⊎◌, refl, sym, ap}
+use Rattle.std.proofs.lemmas.Grind.{common_steps}
 use Rattle.std.proofs.Common.{◌∙◌, subst, arith}
-use Rattle.std.proofs.lemmas.Bool.{eq-eqb, ne_eqb, cases_eq, cond-true, cond-false}
+use Rattle.std.proofs.lemmas.Bool.{eq-eqb, ne_eqb, cond-true, cond-false}
 use Rattle.pm_base.specs.Sides.{Net, face_of, next, prev, to, third, Stands, NoSideTwice}
 use Rattle.pm_base.specs.Fans.{IsPairAt}
 
 pub next_cases : (e : ℕ) → ((e % 3 ≡ 2) × (next e ≡ e - 2)) ⊎ ((e % 3 ≢ 2) × (next e ≡ e + 1))
 unfolding next
-next_cases e =
-    elim (cases_eq (e % 3) 2) [
-      | inl a ↦ inl (a, cond-true _ _ _ (eq-eqb _ _ a))
-      | inr a ↦
-          inr (a, cond-false _ _ _ (ne_eqb _ _ a))
-    ]
+next_cases e = grind (arith, common_steps, cond-false, cond-true, eq-eqb, ne_eqb)
 
 pub next-next-next : (e : ℕ) → next (next (next e)) ≡ e
 next-next-next e = let a = next_cases e in let b = next_cases (next e) in let c =
@@ -26,22 +22,11 @@ face_of-next e = let a = next_cases e in omega arith
 
 -- A side of the same face is the side itself or one of the other two.
 pub face_cases : (e g : ℕ) → face_of e ≡ face_of g → (g ≡ e) ⊎ ((g ≡ next e) ⊎ (g ≡ prev e))
-face_cases e g f =
-    let a = next_cases e in
-    let b = next_cases (next e) in
-    elim (cases_eq g e) [
-      | inl is ↦ inl is
-      | inr n0 ↦ inr (elim (cases_eq g (next e)) [ inl is ↦ inl is | inr n1 ↦ inr (omega arith) ])
-    ]
+face_cases e g f = grind (arith, common_steps, next_cases e, next_cases (next e))
 
 -- The next side stands with its face.
 pub stands_next : (m : Net) (e : ℕ) → Stands m e → Stands m (next e)
-stands_next m e t = record {
-  is_side = next-lt m.faces e t.is_side;
-  first = t.second;
-  second = λ is. t.last (is ∙ ap m.from (next-next-next e));
-  last = λ is. t.first (sym (ap m.from (next-next-next e)) ∙ is);
-}
+stands_next m e t = grind (arith, common_steps, next-lt m.faces e t.is_side, next-next-next e)
 
 -- A face is seen from each of its corners.
 abbrev pub turn : (m : Net) (v x y : ℕ) → IsPairAt m v x y → IsPairAt m x y v

@@ -1,7 +1,8 @@
 -- The twin of a side, found by search, and the next side round a vertex.
-use Rattle.std.proofs.Common.{◌≡◌, ◌≢◌, ℕ, eqb, ltb, true, not, ◌&&◌, Some, None, inl, inr, sym, ap}
+use Rattle.std.proofs.Common.{◌≡◌, ◌≢◌, ℕ, eqb, true, ◌&&◌, Some, None, inl, inr, sym, ap}
+use Rattle.std.proofs.lemmas.Grind.{common_steps}
 use Rattle.std.proofs.Common.{◌∙◌, arith}
-use Rattle.std.proofs.lemmas.Bool.{cases_eq, cases_lt, eqb-true, eqb-false, eq-eqb, ne_eqb}
+use Rattle.std.proofs.lemmas.Bool.{eqb-true, eqb-false, eq-eqb, ne_eqb}
 use Rattle.std.proofs.lemmas.Bool.{ltb-true, lt-ltb, and_parts, and_from, not-true, not_from_false}
 use Rattle.std.proofs.lemmas.Option.{none-some}
 use Rattle.pm_base.specs.Sides.{Net, side_count, face_of, next, prev, to, third, Stands, stands}
@@ -11,66 +12,19 @@ use Rattle.pm_base.proofs.Sides.{next-next-next, stands_next, face_cases}
 
 pub stands-true : (m : Net) (e : ℕ) → stands m e ≡ true → Stands m e
 unfolding stands
-stands-true m e t =
-    let p = and_parts (ltb e (side_count m))
-    (not (eqb (m.from e) (to m e)) &&
-    (not (eqb (to m e) (third m e)) && not (eqb (third m e) (m.from e)))) t in
-    let q = and_parts (not (eqb (m.from e) (to m e)))
-    (not (eqb (to m e) (third m e)) && not (eqb (third m e) (m.from e))) p.1 in
-    let r = and_parts (not (eqb (to m e) (third m e))) (not (eqb (third m e) (m.from e))) q.1 in
-    record {
-      is_side = ltb-true e (side_count m) p.0;
-      first = eqb-false (m.from e) (to m e) (not-true (eqb (m.from e) (to m e)) q.0);
-      second = eqb-false (to m e) (third m e) (not-true (eqb (to m e) (third m e)) r.0);
-      last = eqb-false (third m e) (m.from e) (not-true (eqb (third m e) (m.from e)) r.1);
-    }
+stands-true m e t = grind (arith, common_steps, and_parts, eqb-false, ltb-true, not-true)
 
 pub stands_is_true : (m : Net) (e : ℕ) → Stands m e → stands m e ≡ true
 unfolding stands
-stands_is_true m e t =
-    and_from (ltb e (side_count m))
-    (not (eqb (m.from e) (to m e)) &&
-    (not (eqb (to m e) (third m e)) && not (eqb (third m e) (m.from e))))
-    (lt-ltb e (side_count m) t.is_side)
-    (and_from (not (eqb (m.from e) (to m e)))
-    (not (eqb (to m e) (third m e)) && not (eqb (third m e) (m.from e)))
-    (not_from_false (eqb (m.from e) (to m e)) (ne_eqb (m.from e) (to m e) t.first))
-    (and_from (not (eqb (to m e) (third m e))) (not (eqb (third m e) (m.from e)))
-    (not_from_false (eqb (to m e) (third m e)) (ne_eqb (to m e) (third m e) t.second))
-    (not_from_false (eqb (third m e) (m.from e)) (ne_eqb (third m e) (m.from e) t.last))))
+stands_is_true m e t = grind (arith, common_steps, and_from, lt-ltb, ne_eqb, not_from_false)
 
 pub stands? : (m : Net) (e : ℕ) → Decided (Stands m e)
-stands? m e =
-    elim (cases_lt e (side_count m)) [
-      | inr l ↦ inr (λ t. absurd (omega (arith, t.is_side)))
-      | inl l ↦
-          elim (cases_eq (m.from e) (to m e)) [
-            | inl is ↦ inr (λ t. t.first is)
-            | inr a ↦
-                elim (cases_eq (to m e) (third m e)) [
-                  | inl is ↦ inr (λ t. t.second is)
-                  | inr b ↦
-                      elim (cases_eq (third m e) (m.from e)) [
-                        | inl is ↦ inr (λ t. t.last is)
-                        | inr c ↦ inl (record { is_side = l; first = a; second = b; last = c })
-                      ]
-                ]
-          ]
-    ]
+stands? m e = grind (arith, common_steps)
 
 -- A twin that is found is one.
 pub twin-is : (m : Net) (e g : ℕ) → twin_of m e ≡ Some g → IsTwin m e g
 unfolding twin_of
-twin-is m e g t =
-    let p = find_below-some (runs_back m e) (side_count m) g t in
-    let q = and_parts (stands m g) (eqb (m.from g) (to m e) && eqb (to m g) (m.from e)) p.0 in
-    let r = and_parts (eqb (m.from g) (to m e)) (eqb (to m g) (m.from e)) q.1 in
-    record {
-      stands = stands-true m g q.0;
-      begins = eqb-true (m.from g) (to m e) r.0;
-      ends =
-          eqb-true (to m g) (m.from e) r.1;
-    }
+twin-is m e g t = grind (arith, common_steps, and_parts, eqb-true, find_below-some, stands-true)
 
 -- Where there is a twin, one is found.
 pub twin-has : (m : Net) (e g : ℕ) → IsTwin m e g → (k : ℕ) × (twin_of m e ≡ Some k)
@@ -99,15 +53,7 @@ twin-twin m e g t w = record { stands = t; begins = sym w.ends; ends = sym w.beg
 
 -- A face has no two sides that are twins: its corners differ.
 pub other_face : (m : Net) (e g : ℕ) → Stands m e → IsTwin m e g → face_of g ≢ face_of e
-other_face m e g t w same =
-    elim (face_cases e g (sym same)) [
-      | inl is ↦ t.first (sym (ap m.from is) ∙ w.begins)
-      | inr h ↦
-          elim h [
-            | inl is ↦ t.last (sym (ap (to m) is) ∙ w.ends)
-            | inr is ↦ t.second (sym w.begins ∙ ap m.from is)
-          ]
-    ]
+other_face m e g t w same = grind (arith, common_steps, face_cases)
 
 module _ (m : Net) (once : NoSideTwice m) where
   pub twin-one : (e g : ℕ) → IsTwin m e g → twin_of m e ≡ Some g

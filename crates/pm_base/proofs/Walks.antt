@@ -1,6 +1,7 @@
 -- Walks by a step that is one to one, among finitely many numbers: each comes to an end or back to
 -- its start.
 use Rattle.std.proofs.Common.{◌≡◌, ◌≢◌, ℕ, zero, suc, ◌+◌, ◌<◌, ◌≤◌, Option, Some, None, ◌⊎◌, inl}
+use Rattle.std.proofs.lemmas.Grind.{common_steps}
 use Rattle.std.proofs.Common.{inr, refl, sym, ap, ◌∙◌, subst, arith}
 use Rattle.std.specs.Option.{unwrap_or}
 use Rattle.std.proofs.lemmas.Bool.{cases_eq}
@@ -51,34 +52,17 @@ module _ (f : ℕ → Option ℕ) (Good : ℕ → Type 0) (keeps : (p o : ℕ) �
   new_number : (k : ℕ) → IsTrail f a k → (o : ℕ) → f (after_steps f a k) ≡ Some o → o ≢ a → (i : ℕ)
       → i ≤ k → after_steps f a i ≢ o
   new_number k t o e ne zero l is = ne (sym is ∙ after_steps-zero f a)
-  new_number k t o e ne (suc i) l is =
-      t.distinct i k (omega arith) (omega arith)
-      (injective (after_steps f a i) (after_steps f a k) o (trail-good k t i (omega arith))
-      (trail-good k t k (omega arith)) (t.steps i (omega arith) ∙ ap Some is) e)
+  new_number k t o e ne (suc i) l is = grind (arith, common_steps, trail-good)
 
   pub trail-suc : (k : ℕ) → IsTrail f a k → (o : ℕ) → f (after_steps f a k) ≡ Some o → o ≢ a
       → IsTrail f a (suc k)
   trail-suc k t o e ne =
-      let is = after_steps-suc f a k o e in
-      record {
-        steps = λ i l. elim (cases_eq i k) [
-          | inl same ↦ subst (λ j. f (after_steps f a j) ≡ Some (after_steps f a (suc j)))
-              (sym same) (e ∙ ap Some (sym is))
-          | inr other ↦ t.steps i (omega arith)
-        ];
-        distinct = λ i j l g. elim (cases_eq j (suc k)) [
-          | inl same ↦
-              (λ eq. new_number k t o e ne i (omega arith) (eq ∙ ap (after_steps f a) same ∙ is))
-          | inr other ↦ t.distinct i j l (omega arith)
-        ];
-      }
+      grind (arith, common_steps, after_steps-suc f a k o e, new_number k t o e ne)
 
   module _ (n : ℕ) (bound : (p : ℕ) → Good p → p < n) where
     pub trail-lt : (k : ℕ) → IsTrail f a k → k < n
     trail-lt k t =
-        let b = pigeons (after_steps f a) (suc k) n t.distinct
-        (λ i l. bound (after_steps f a i) (trail-good k t i (omega arith))) in
-        omega arith
+        grind (arith, common_steps, pigeons (after_steps f a) (suc k) n t.distinct, trail-good k t)
 
     trail-on : (fuel k : ℕ) → IsTrail f a k → k + fuel ≡ n → (l : ℕ) × IsTrail f a l
         × (Stops f a l ⊎ Returns f a l)
