@@ -24,7 +24,7 @@ use Rattle.obj_prepare.specs.Joining.{place_in_list, renamed, joined_faces}
 use Rattle.obj_prepare.specs.Prepared.{staying, IsPrepared, AreNotes, joined_count, flat_count}
 use Rattle.obj_prepare.specs.Prepared.{double_count, unnamed_count, split_count, gone_count}
 use Rattle.obj_prepare.specs.Laws.{DoAccountsClose, AccountsClose}
-use Rattle.obj_prepare.proofs.CountLaws.{count_both}
+use Rattle.pm_base.proofs.Counted.{count_both}
 use Rattle.obj_prepare.proofs.KeptCounts.{kept_and_flat}
 use Rattle.obj_prepare.proofs.PieceLaws.{named_low, kept_after_all}
 use Rattle.obj_prepare.proofs.TurnedLaws.{some_corner_turned}

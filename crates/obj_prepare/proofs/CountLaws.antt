@@ -1,5 +1,5 @@
 -- Laws of counting what was done.
-use Rattle.std.proofs.Common.{◌≡◌, ℕ, zero, suc, ◌+◌, ◌-◌, ◌==◌, ◌&&◌, not, Bool, true, false, List}
+use Rattle.std.proofs.Common.{◌≡◌, ℕ, suc, ◌+◌, ◌-◌, ◌==◌, ◌&&◌, not, Bool, true, false, List}
 use Rattle.std.proofs.lemmas.Grind.{common_steps}
 use Rattle.std.proofs.Common.{length, refl, sym, ◌∙◌, ap, arith}
 use Rattle.std.specs.Prelude.{slice_index_or}
@@ -8,6 +8,7 @@ use Rattle.std.proofs.lemmas.Bool.{and_from}
 use Rattle.pm_base.specs.declared.mesh.Corners.{Corners}
 use Rattle.pm_base.specs.Sides.{net_of}
 use Rattle.pm_base.specs.Counts.{count}
+use Rattle.pm_base.proofs.Counted.{count_both}
 use Rattle.pm_base.proofs.Counts.{count-true, count-false, count-zero, count_same}
 use Rattle.pm_fans.specs.Kept.{is_flat}
 use Rattle.pm_fans.specs.Cuts.{cut_count}
@@ -90,11 +91,6 @@ pub there_next : (before : List Bool) (names : List ℕ) (after : List Bool) (v 
 unfolding gone_below
 there_next before names after v n is f = passed (λ v. slice_index_or before v false
     && (slice_index_or names v 0 == v) && not (slice_index_or after v false)) v n is f
-
--- Those that pass, and those that don't.
-pub count_both : (p : ℕ → Bool) (n : ℕ) → count p n + count (λ v. not (p v)) n ≡ n
-count_both p zero = omega (arith, count-zero p, count-zero (λ v. not (p v)))
-count_both p (suc n) = grind (arith, common_steps, count-false, count-true, count_both p n)
 
 set_named : (fs : List Corners) (n : ℕ) → set_below (named_in fs n) (length (named_in fs n))
     ≡ count (is_some_corner fs) n

@@ -16,7 +16,7 @@ use Rattle.pm_base.proofs.Counts.{count-true, count-false, count-zero}
 use Rattle.pm_base.proofs.TwinLaws.{stands-true}
 use Rattle.pm_fans.specs.Cuts.{side_runs, is_cut, cut_count}
 use Rattle.pm_fans.specs.Splits.{AllStand}
-use Rattle.pm_fans.proofs.CutLaws.{count_none}
+use Rattle.pm_base.proofs.Counted.{count_never}
 use Rattle.pm_fans.proofs.KeptLaws.{kept_are_fit}
 use Rattle.pm_turn.specs.declared.counts.TurnCounts.{TurnCounts}
 use Rattle.pm_turn.specs.Turning.{turned_by}
@@ -38,7 +38,7 @@ use Rattle.obj_prepare.proofs.RestoredLaws.{none_gone, all_named, split_as_joine
 count_lone : (p : ℕ → Bool) (n : ℕ) → ((i j : ℕ) → p i ≡ true → p j ≡ true → i ≡ j) → count p n ≤ 1
 count_lone p zero lone = omega (arith, count-zero p)
 count_lone p (suc n) lone =
-    grind (arith, common_steps, count-false, count-true, count_none, count_lone p n lone)
+    grind (arith, common_steps, count-false, count-true, count_never, count_lone p n lone)
 
 -- No side of an oriented manifold is cut open.
 
@@ -49,7 +49,7 @@ runs_once m p q is =
 
 none_cut : (m : Net) → IsOrientedManifold m → cut_count m ≡ 0
 unfolding is_cut cut_count
-none_cut m is = count_none (is_cut m) (side_count m)
+none_cut m is = count_never (is_cut m) (side_count m)
     (λ e l t. true≢false (sym t
     ∙ or_from _ _ (runs_once m (m.from e) (to m e) is) (runs_once m (to m e) (m.from e) is)))
 
@@ -82,7 +82,7 @@ module _ (m : Mesh) (corners : All (AreVerticesBelow (length m.points)) m.faces)
 
   none_joined : joined_count p.names m.faces ≡ 0
   unfolding joined_count
-  none_joined = count_none _ (length p.names) (λ v l t.
+  none_joined = count_never _ (length p.names) (λ v l t.
       let low : v < length m.points = omega (arith, l, p.joined.all) in
       true≢false (sym (and_parts _ _ t).1 ∙ ap not (eq-eqb _ _ (own_name v low))))
 

@@ -17,13 +17,13 @@ use Rattle.pm_base.specs.Fans.{IsUsed}
 use Rattle.pm_base.specs.Counts.{count}
 use Rattle.pm_base.proofs.Counts.{count_same}
 use Rattle.pm_fans.specs.Kept.{is_corner, kept_after, kept_of}
-use Rattle.pm_fans.proofs.CutLaws.{count_none}
+use Rattle.pm_base.proofs.Counted.{count_never}
 use Rattle.obj_prepare.specs.Named.{is_some_corner, AreVerticesBelow}
 use Rattle.obj_prepare.specs.Joining.{place_in_list, renamed, joined_faces}
 use Rattle.obj_prepare.specs.Prepared.{staying, IsPrepared, joined_count, flat_count, double_count}
 use Rattle.obj_prepare.specs.Prepared.{unnamed_count, split_count, gone_count}
 use Rattle.pm_turn.proofs.TurnedFaces.{turned_length}
-use Rattle.obj_prepare.proofs.CountLaws.{count_both}
+use Rattle.pm_base.proofs.Counted.{count_both}
 use Rattle.obj_prepare.proofs.KeptCounts.{kept_and_flat}
 use Rattle.pm_base.proofs.NetLaws.{face_at}
 use Rattle.obj_prepare.proofs.PieceLaws.{corners_named, corner_in_has}
@@ -132,7 +132,7 @@ module _ (m : Mesh) (used : (v : ℕ) → v < length m.points → IsUsed (net_of
 
   pub none_unnamed : unnamed_count (length m.points) m.faces ≡ 0
   unfolding unnamed_count
-  none_unnamed = count_none _ (length m.points)
+  none_unnamed = count_never _ (length m.points)
       (λ v l t. true≢false (sym t ∙ ap not (all_named v l)))
 
   pub none_gone : gone_count p.names m.faces ≡ 0
@@ -143,7 +143,7 @@ module _ (m : Mesh) (used : (v : ℕ) → v < length m.points → IsUsed (net_of
         common_steps,
         all_stay,
         and_parts,
-        count_none,
+        count_never,
         eqb-true,
         joined_named p.names m.faces,
       )

@@ -11,7 +11,7 @@ use Rattle.pm_base.specs.Counts.{count}
 use Rattle.pm_base.proofs.NetLaws.{face_at, second_side}
 use Rattle.pm_fans.specs.Splits.{AllStand}
 use Rattle.pm_fans.specs.Kept.{is_corner, kept_of}
-use Rattle.pm_fans.proofs.CutLaws.{count_none}
+use Rattle.pm_base.proofs.Counted.{count_never}
 use Rattle.pm_fans.proofs.KeptAgain.{renumbered}
 use Rattle.pm_fans.proofs.KeptLaws.{kept_are_fit}
 use Rattle.pm_turn.specs.Turning.{turned_face, turned_if, turned_by, flag_of}
@@ -77,7 +77,7 @@ turned_renumbered r (false ∷ flags) (f ∷ fs) =
 pub none_turned : (flags : List Bool) (fs : List Corners) → AllStand (net_of fs)
     → turned_by flags fs ≡ fs → count (flag_of flags) (length fs) ≡ 0
 none_turned flags fs stand same =
-    count_none (flag_of flags) (length fs) (λ i low set.
+    count_never (flag_of flags) (length fs) (λ i low set.
     let is : turned_face (face_at fs i) ≡ face_at fs i =
     sym (turned_at flags fs i low ∙ ap (λ (b : Bool). turned_if b (face_at fs i)) set)
     ∙ ap (λ (gs : List Corners). face_at gs i) same in

@@ -8,6 +8,7 @@ pub mod Search
 pub mod TwinLaws
 pub mod Rounds
 pub mod Counts
+pub mod Counted
 pub mod Numbers
 pub mod Walks
 pub mod FanWalks

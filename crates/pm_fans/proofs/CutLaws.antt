@@ -1,47 +1,19 @@
 -- Sides that are cut open, by the map of all sides by their ends.
-use Rattle.std.proofs.Common.{◌≡◌, ◌≢◌, ℕ, zero, suc, ◌+◌, ◌<◌, ◌≤◌, eqb, ltb, Bool, true, false}
+use Rattle.std.proofs.Common.{◌≡◌, ◌≢◌, ℕ, ◌+◌, ◌<◌, ◌≤◌, eqb, ltb, Bool, true, false}
 use Rattle.std.proofs.lemmas.Grind.{common_steps}
 use Rattle.std.proofs.Common.{◌&&◌, inl, inr, sym, ◌∙◌, subst, Option, Some, None, arith}
-use Rattle.std.proofs.lemmas.Bool.{eqb-true, eq-eqb, cases_Bool, and_parts}
+use Rattle.std.proofs.lemmas.Bool.{eqb-true, eq-eqb, and_parts}
 use Rattle.std.proofs.lemmas.Bool.{and_from, ltb-true, lt-ltb, false_from_ne_true}
 use Rattle.std.specs.Int.{from_bool}
 use Rattle.pm_base.specs.Counts.{count}
 use Rattle.pm_base.specs.Sides.{Net, side_count, to, stands}
-use Rattle.pm_base.proofs.Counts.{count-true, count-false, count-zero}
+use Rattle.pm_base.proofs.Counts.{count-true, count-false}
+use Rattle.pm_base.proofs.Counted.{count_never, count_most_one, count_several}
 use Rattle.pm_base.proofs.TwinLaws.{stands_is_true}
 use Rattle.pm_fans.specs.Splits.{IsCuttable}
 use Rattle.pm_fans.specs.Ends.{ends_key, ends_key_at, IsNoted}
 use Rattle.pm_fans.specs.Cuts.{side_runs, is_cut}
 use Rattle.pm_fans.proofs.GlueLaws.{runs_between, key_is}
-
-pub count_none : (p : ℕ → Bool) (n : ℕ) → ((i : ℕ) → i < n → p i ≡ true → ⊥) → count p n ≡ 0
-count_none p zero h = count-zero p
-count_none p (suc n) h =
-    let r = count_none p n (λ i l e. h i (omega arith) e) in
-    elim (cases_Bool (p n)) [ inl e ↦ absurd (h n (omega arith) e) | inr e ↦ count-false p n e ∙ r ]
-
-count_one : (p : ℕ → Bool) (n k : ℕ) → ((i : ℕ) → i < n → p i ≡ true → i ≡ k) → count p n ≤ 1
-count_one p zero k h = let a = count-zero p in omega arith
-count_one p (suc n) k h =
-    grind (arith, common_steps, count-false, count-true, count_none, count_one p n k)
-
-count_some : (p : ℕ → Bool) (n i : ℕ) → i < n → p i ≡ true → 0 < count p n
-count_some p zero i l e = absurd (omega arith)
-count_some p (suc n) i l e = grind (arith, common_steps, count-false, count-true, count_some p n i)
-
-count_two : (p : ℕ → Bool) (n i j : ℕ) → i < n → j < n → i ≢ j → p i ≡ true → p j ≡ true
-    → 1 < count p n
-count_two p zero i j il jl ne ei ej = absurd (omega arith)
-count_two p (suc n) i j il jl ne ei ej =
-    grind (
-      arith,
-      common_steps,
-      count-false p n,
-      count-true p n,
-      count_some p n j,
-      count_some p n i,
-      count_two p n i j,
-    )
 
 module _ (m : Net) (ok : IsCuttable m) (p q : ℕ) (low : q < 4294967296) where
   runs_true : (e : ℕ) → e < side_count m → ends_key_at m e ≡ ends_key p q → side_runs m p q e ≡ true
@@ -63,14 +35,14 @@ module _ (m : Net) (ok : IsCuttable m) (p q : ℕ) (low : q < 4294967296) where
   pub many_none : (r : Option ℕ) → IsNoted m (side_count m) (ends_key p q) r → r ≡ None
       → ltb 1 (count (side_runs m p q) (side_count m)) ≡ false
   many_none r h is =
-      grind (arith, common_steps, not_many, true_runs, count_none (side_runs m p q) (side_count m))
+      grind (arith, common_steps, not_many, true_runs, count_never (side_runs m p q) (side_count m))
 
   pub many_some : (r : Option ℕ) (v : ℕ) → IsNoted m (side_count m) (ends_key p q) r → r ≡ Some v
       → ltb 1 (count (side_runs m p q) (side_count m)) ≡ eqb v 4294967295
   many_some r v h is =
       elim (subst (IsNoted m (side_count m) (ends_key p q)) is h) [
         | inl a ↦
-            let one = count_one (side_runs m p q) (side_count m) v
+            let one = count_most_one (side_runs m p q) (side_count m) v
             (λ e l t. a.alone e l (true_runs e t)) in
             let l = a.in_range in
             let few = ok.short in
@@ -78,7 +50,8 @@ module _ (m : Net) (ok : IsCuttable m) (p q : ℕ) (low : q < 4294967296) where
             not_many one
             ∙ sym (false_from_ne_true (eqb v 4294967295) (λ e. ne (eqb-true v 4294967295 e)))
         | inr s ↦
-            let two = count_two (side_runs m p q) (side_count m) s.one s.other s.one_in s.other_in
+            let two = count_several (side_runs m p q) (side_count m) s.one s.other s.one_in
+            s.other_in
             s.differ (runs_true s.one s.one_in s.one_has)
             (runs_true s.other s.other_in s.other_has) in
             lt-ltb 1 (count (side_runs m p q) (side_count m)) two ∙ sym (eq-eqb v 4294967295 s.mark)

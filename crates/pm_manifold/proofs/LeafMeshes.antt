@@ -29,7 +29,7 @@ use Rattle.pm_manifold.specs.Measure.{is_border_side, is_joined_side, nodes_show
 use Rattle.pm_manifold.specs.Measure.{border_sides, joined_sides, edges_shown, euler_of, edges_of}
 use Rattle.pm_manifold.specs.Laws as law
 use Rattle.pm_manifold.proofs.BorderSides.{stands_as}
-use Rattle.pm_manifold.proofs.Counted.{count_all}
+use Rattle.pm_base.proofs.Counted.{count_all}
 use Rattle.pm_manifold.proofs.Euler.{nodes_same, as_base}
 use Rattle.pm_manifold.proofs.SplitCounts.{nodes_more}
 

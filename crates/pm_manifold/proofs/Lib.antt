@@ -1,4 +1,3 @@
-pub mod Counted
 pub mod BorderSides
 pub mod SplitBorders
 pub mod Presence

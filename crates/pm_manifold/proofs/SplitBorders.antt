@@ -32,7 +32,7 @@ use Rattle.pm_beyond.proofs.Relinking.{split-new, split-neighbour, split-other}
 use Rattle.pm_firm.specs.Firm.{FacesAreHeld}
 use Rattle.pm_firm.proofs.Held.{held_side, inner_expected}
 use Rattle.pm_manifold.specs.Measure.{is_border_side}
-use Rattle.pm_manifold.proofs.Counted.{both, only, count_matched, count_one, count_none}
+use Rattle.pm_base.proofs.Counted.{both, only, count_matched, count_one, count_none}
 use Rattle.pm_manifold.proofs.BorderSides.{border-parts, border-from}
 
 -- the sides at which record k tells of side e, and the inner sides of its faces, as tests

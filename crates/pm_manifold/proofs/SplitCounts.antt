@@ -28,7 +28,7 @@ use Rattle.pm_beyond.proofs.Closed.{split-closed}
 use Rattle.pm_firm.specs.Firm.{FacesAreHeld}
 use Rattle.pm_manifold.specs.Measure.{is_border_side, is_joined_side, nodes_shown, faces_shown}
 use Rattle.pm_manifold.specs.Measure.{border_sides, joined_sides, edges_shown}
-use Rattle.pm_manifold.proofs.Counted.{both, only, count_parts, count_one, count_two, count_sides}
+use Rattle.pm_base.proofs.Counted.{both, only, count_parts, count_one, count_two, count_sides}
 use Rattle.pm_manifold.proofs.SplitBorders.{is_inner, outer_borders, two_faces, one_face}
 
 and-turned : (a b : Bool) → (a && b) ≡ (b && a)

@@ -176,3 +176,58 @@ count_next p n e = let a = count-true p n e in let m : n + 1 ≡ suc n =
 pub count_stays : (p : ℕ → Bool) (n : ℕ) → p n ≡ false → count p (n + 1) ≡ count p n
 count_stays p n e = let a = count-false p n e in let m : n + 1 ≡ suc n =
     omega arith in ap (count p) m ∙ a
+
+-- No number passes.
+pub count_never : (p : ℕ → Bool) (n : ℕ) → ((i : ℕ) → i < n → p i ≡ true → ⊥) → count p n ≡ 0
+count_never p zero h = count-zero p
+count_never p (suc n) h =
+    let r = count_never p n (λ i l e. h i (omega arith) e) in
+    elim (cases_Bool (p n)) [ inl e ↦ absurd (h n (omega arith) e) | inr e ↦ count-false p n e ∙ r ]
+
+-- No number but one passes.
+pub count_most_one : (p : ℕ → Bool) (n k : ℕ) → ((i : ℕ) → i < n → p i ≡ true → i ≡ k)
+    → count p n ≤ 1
+count_most_one p zero k h = let a = count-zero p in omega arith
+count_most_one p (suc n) k h =
+    grind (arith, common_steps, count-false, count-true, count_never, count_most_one p n k)
+
+-- Some number passes.
+pub count_some : (p : ℕ → Bool) (n i : ℕ) → i < n → p i ≡ true → 0 < count p n
+count_some p zero i l e = absurd (omega arith)
+count_some p (suc n) i l e = grind (arith, common_steps, count-false, count-true, count_some p n i)
+
+-- Two numbers pass.
+pub count_several : (p : ℕ → Bool) (n i j : ℕ) → i < n → j < n → i ≢ j → p i ≡ true → p j ≡ true
+    → 1 < count p n
+count_several p zero i j il jl ne ei ej = absurd (omega arith)
+count_several p (suc n) i j il jl ne ei ej =
+    grind (
+      arith,
+      common_steps,
+      count-false p n,
+      count-true p n,
+      count_some p n j,
+      count_some p n i,
+      count_several p n i j,
+    )
+
+-- One more number passes.
+pub count_gains : (p q : ℕ → Bool) (x n : ℕ) → x < n
+    → ((i : ℕ) → i < n → p i ≡ true → q i ≡ true) → p x ≡ false → q x ≡ true
+    → suc (count p n) ≤ count q n
+count_gains p q x zero l h a b = absurd (omega arith)
+count_gains p q x (suc n) l h a b =
+    grind (arith, common_steps, count-false, count-true, count_more, count_gains p q x n)
+
+-- Two tests that never pass together.
+pub count_apart : (p q r : ℕ → Bool) (n : ℕ) → ((i : ℕ) → p i ≡ true → r i ≡ true)
+    → ((i : ℕ) → q i ≡ true → r i ≡ true) → ((i : ℕ) → p i ≡ true → q i ≡ false)
+    → count p n + count q n ≤ count r n
+count_apart p q r zero a b c = let x = count-zero p in let y = count-zero q in omega arith
+count_apart p q r (suc n) a b c =
+    grind (arith, common_steps, count-false, count-true, count_apart p q r n a b c)
+
+-- Those that pass a test, and those that don't.
+pub count_both : (p : ℕ → Bool) (n : ℕ) → count p n + count (λ v. not (p v)) n ≡ n
+count_both p zero = omega (arith, count-zero p, count-zero (λ v. not (p v)))
+count_both p (suc n) = grind (arith, common_steps, count-false, count-true, count_both p n)
