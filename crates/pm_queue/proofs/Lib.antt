@@ -6,8 +6,7 @@ mod SiftUp
 mod SiftDown
 mod Members
 mod NewKey
-mod PartLaws
-mod PlacedKeys
-mod QueueTables
 mod EntryTables
+mod TableLaws
+mod PartLaws
 mod LeastAtRoot

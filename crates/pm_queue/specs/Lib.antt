@@ -2,5 +2,5 @@ pub mod Keys
 pub mod Entries
 pub mod Places
 pub mod Heap
+pub mod Tables
 pub mod Parts
-pub mod Viewed

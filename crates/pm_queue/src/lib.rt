@@ -8,6 +8,7 @@ mod key;
 mod parts;
 mod places;
 mod queue;
+mod samples;
 mod sift;
 mod slot;
 

@@ -2,11 +2,9 @@
 ghost use Rattle.std.specs.Prelude.{◌≡◌, ◌<◌, ◌≤◌, IfNone, IfOk, IfSome, false, is_some, length};
 ghost use Rattle.std.specs.Prelude.{replicate, slice_set};
 
-use super::heap::{drop_item, place_item};
+use super::heap::Heap;
 use super::key::Key;
-use super::parts::Parting;
-use super::places::identity;
-use super::slot::Slot;
+use super::parts::Parts;
 use std::alloc::{AllocError, Global};
 use std::marker::Model;
 
@@ -28,28 +26,19 @@ const _: () = prove!(ITEM_LIMIT == 4_194_304);
 /// by an eighth at least.
 #[derive(Drop)]
 pub struct Queue {
-    // The item at each place. Those that have a key stand in the first places, and of them the near
-    // ones come first.
-    heap: Vec<u32>,
-    // The place of each item.
-    place: Vec<u32>,
-    // The key of the item at each of the first places, beside the keys that it is compared with.
-    // The list has room for the key of each item, which is touched only as keys come.
-    keys: Vec<Slot>,
-    parting: Parting,
+    parts: Parts,
 }
 
 impl Model for Queue {
-    ghost use Rattle.std.specs.Prelude.{vec_capacity};
     ghost use Rattle.pm_queue.specs.Entries.{Entries};
-    ghost use Rattle.pm_queue.specs.Viewed.{entries, IsIndexedHeap};
+    ghost use Rattle.pm_queue.specs.Parts.{IsQueue};
+    ghost use Rattle.pm_queue.specs.Tables.{entries_of};
 
     ghost Value = { Entries };
 
-    ghost view = { λ q. entries q.keys.items q.place.items };
+    ghost view = { λ q. entries_of q.parts.heap };
 
-    ghost invariant = { λ q. IsIndexedHeap q.keys.items (vec_capacity q.keys) q.heap.items
-        q.place.items q.parting };
+    ghost invariant = { λ q. IsQueue q.parts };
 }
 
 impl Queue {
@@ -62,15 +51,13 @@ impl Queue {
         requires within_limit { n ≤ ITEM_LIMIT }
         ensures empty { IfOk result (λ entries. entries ≡ replicate n None) }
     {
-        let heap = identity(alloc, n)?;
-        let place = identity(alloc, n)?;
-        let keys = Vec::with_capacity(alloc, n as usize)?;
-        let parting = Parting { near: 0, bound: 0 };
+        let heap = Heap::new(alloc, n)?;
         Ok(Queue {
-            heap,
-            place,
-            keys,
-            parting,
+            parts: Parts {
+                heap,
+                near: 0,
+                bound: 0,
+            },
         })
     }
 
@@ -80,14 +67,7 @@ impl Queue {
         requires in_range { item < length self.old }
         ensures replaced { self.new ≡ slice_set self.old item (Some key) }
     {
-        place_item(
-            &mut self.heap,
-            &mut self.place,
-            &mut self.keys,
-            &mut self.parting,
-            item,
-            key,
-        );
+        self.parts.set(item, key);
     }
 
     /// Whether `item` has a key. O(1) time.
@@ -95,7 +75,7 @@ impl Queue {
         requires in_range { item < length self.now }
         ensures { result ≡ is_some (key_at self.now item) }
     {
-        (self.place[item as usize] as usize) < self.keys.len()
+        self.parts.heap.has(item)
     }
 
     /// Takes the key of `item` away, and says whether it had one. Its time is that of `set`.
@@ -106,13 +86,9 @@ impl Queue {
         ensures unchanged { result ≡ false → self.new ≡ self.old }
     {
         let had = self.has(item);
-        drop_item(
-            &mut self.heap,
-            &mut self.place,
-            &mut self.keys,
-            &mut self.parting,
-            item,
-        );
+        if had {
+            self.parts.remove(item);
+        }
         had
     }
 
@@ -121,10 +97,10 @@ impl Queue {
         ensures some { IfSome result (IsLeast self.now) }
         ensures none { IfNone result (IsEmpty self.now) }
     {
-        if self.keys.is_empty() {
+        if self.parts.heap.count() == 0 {
             return None;
         }
-        Some((self.heap[0], self.keys[0].key()))
+        Some(self.parts.heap.first())
     }
 
     /// The same answer as `least`, and the item loses its key. Its time is that of `set`.

@@ -1,8 +1,7 @@
-use Rattle.pm_queue.proofs.EntryTables.{entries_none}
+use Rattle.pm_queue.proofs.PartLaws.{parted_none}
 use Rattle.pm_queue.proofs.queue.Queue.new.Goals as goal
 
-pub returns : goal.returns
-returns c = record {
-  empty = rw c.in_ok-keys.ensures.items
-      (entries_none c.args.n c.in_ok-place.place.items c.in_ok-place.ensures.len);
-}
+pub invariant_of-result : goal.invariant_of-result
+invariant_of-result c =
+    let e = c.in_ok-heap.ensures in
+    parted_none c.in_ok-heap.heap e.placed e.no_keys
