@@ -161,6 +161,17 @@ impl Heap {
         precedes(&self.items, &self.keys, p, q)
     }
 
+    // Puts the items at places `p` and `q` in each other's place. Their keys stay where they are.
+    fn exchange_items(&mut self, p: u32, q: u32)
+        requires placed { IsPlaced self.old }
+        requires p_in { p < length self.old.places }
+        requires q_in { q < length self.old.places }
+        ensures exchanged { IsExchanged self.old self.new p q }
+        ensures keys { self.new.keys ≡ self.old.keys }
+    {
+        exchange_items(&mut self.items, &mut self.places, p, q);
+    }
+
     /// Puts the items at places `p` and `q` in each other's place, with their keys.
     pub(crate) fn exchange(&mut self, p: u32, q: u32)
         requires placed { IsPlaced self.old }
@@ -169,7 +180,7 @@ impl Heap {
         ensures kept { IsKept self.old self.new }
         ensures exchanged { IsExchanged self.old self.new p q }
     {
-        exchange_items(&mut self.items, &mut self.places, p, q);
+        self.exchange_items(p, q);
         exchange_keys(&mut self.keys, p, q);
     }
 
@@ -187,7 +198,7 @@ impl Heap {
             self.keys[at as usize] = Slot::of(key);
             return;
         }
-        exchange_items(&mut self.items, &mut self.places, at, len);
+        self.exchange_items(at, len);
         let _ = self.keys.push(Slot::of(key));
     }
 
@@ -200,7 +211,7 @@ impl Heap {
     {
         let at = self.places[item as usize];
         let last = self.keys.len() as u32 - 1;
-        exchange_items(&mut self.items, &mut self.places, at, last);
+        self.exchange_items(at, last);
         self.keys.swap_remove(at as usize);
     }
 }
