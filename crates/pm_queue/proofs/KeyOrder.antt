@@ -60,9 +60,8 @@ before_same k l h i = grind (arith, common_steps, lex_same_rest, ltb-false, same
 
 -- no key is before itself
 pub before_irrefl : (k : Key) → is_before k k ≡ false
-before_irrefl k = ⊎_elim (λ e. before_asym k k e) (λ e. e) (cases_Bool (is_before k k))
+before_irrefl k = grind (arith, before_asym k k, cases_Bool (is_before k k))
 
 -- of two different keys one is before the other
 pub before_total : (k l : Key) → k ≢ l → is_before k l ≡ false → is_before l k ≡ true
-before_total k l ne h =
-    ⊎_elim (λ e. e) (λ e. absurd (ne (before_same k l h e))) (cases_Bool (is_before l k))
+before_total k l ne h = grind (arith, before_same k l, cases_Bool (is_before l k))

@@ -61,10 +61,8 @@ pub least_set_first : (m : Entries) (i : ℕ) (k : Key) → i < length m → IsE
     IsLeast (set m i (Some k)) (i, k)
 least_set_first m i k lt none = record {
   there = key_at-set_same m i (Some k) lt;
-  least = λ j l e. ⊎_elim (λ same. not_before k l same.1)
-      (λ had. absurd (none-some l (sym (none j) ∙ had))) (key_at-set m i (Some k) j l e);
-  smallest = λ j l e less. ⊎_elim (λ same. absurd (omega arith))
-      (λ had. absurd (none-some l (sym (none j) ∙ had))) (key_at-set m i (Some k) j l e);
+  least = λ j l e. grind (arith, key_at-set m i (Some k) j l e, not_before k l, none j);
+  smallest = λ j l e less. grind (arith, key_at-set m i (Some k) j l e, none j);
 }
 
 -- an item gets a lesser key than the least
@@ -73,14 +71,21 @@ pub least_set_less : (m : Entries) (d : ℕ × Key) (i : ℕ) (k : Key) → IsLe
     IsLeast (set m i (Some k)) (i, k)
 least_set_less m d i k f lt less = record {
   there = key_at-set_same m i (Some k) lt;
-  least = λ j l e. ⊎_elim (λ same. not_before k l same.1)
-      (λ had. before_trans k d.1 l (before_asym k d.1 less) (f.least j l had))
-      (key_at-set m i (Some k) j l e);
-  smallest = λ j l e lower. ⊎_elim (λ same. absurd (omega arith))
-      (λ had. ⊎_elim (λ t. t)
-      (λ t. absurd (false≢true (sym (before_trans d.1 l k (f.least j l had) t) ∙ less)))
-      (cases_Bool (is_before k l)))
-      (key_at-set m i (Some k) j l e);
+  least = λ j l e. grind (
+    arith,
+    key_at-set m i (Some k) j l e,
+    not_before k l,
+    before_trans k d.1 l,
+    before_asym k d.1,
+    f.least j l,
+  );
+  smallest = λ j l e lower. grind (
+    arith,
+    key_at-set m i (Some k) j l e,
+    before_trans d.1 l k,
+    cases_Bool (is_before k l),
+    f.least j l,
+  );
 }
 
 -- an item other than the least's gets a key that isn't less, and is greater if the item is smaller
@@ -89,35 +94,24 @@ pub least_set_more : (m : Entries) (d : ℕ × Key) (i : ℕ) (k : Key) → IsLe
     (i < d.0 → is_before d.1 k ≡ true) → IsLeast (set m i (Some k)) d
 least_set_more m d i k f ne stays smaller = record {
   there = key_at-set_other m i d.0 (Some k) (λ e. ne (sym e)) ∙ f.there;
-  least = λ j l e. ⊎_elim (λ same. let k_is_l : k ≡ l = same_Some k l same.1 in
-      subst (λ (x : Key). is_before x d.1 ≡ false) k_is_l stays)
-      (λ had. f.least j l had) (key_at-set m i (Some k) j l e);
-  smallest = λ j l e lower. ⊎_elim
-      (λ same. let k_is_l : k ≡ l = same_Some k l same.1 in
-      subst (λ (x : Key). is_before d.1 x ≡ true) k_is_l (smaller (omega (arith, same.0))))
-      (λ had. f.smallest j l had lower) (key_at-set m i (Some k) j l e);
+  least = λ j l e. grind (arith, key_at-set m i (Some k) j l e, f.least j l);
+  smallest = λ j l e lower. grind (arith, key_at-set m i (Some k) j l e, f.smallest j l);
 }
 
 -- a smaller item than the least's, or the same, gets the least key
 pub least_set_same : (m : Entries) (d : ℕ × Key) (i : ℕ) → IsLeast m d → i ≤ d.0 →
     IsLeast (set m i (Some d.1)) (i, d.1)
-least_set_same m d i f le =
-    let lt : d.0 < length m = key_at_in m d.0 d.1 f.there in
-    record {
-      there = key_at-set_same m i (Some d.1) (omega arith);
-      least = λ j l e. ⊎_elim (λ same. not_before d.1 l same.1) (λ had. f.least j l had)
-          (key_at-set m i (Some d.1) j l e);
-      smallest = λ j l e lower. ⊎_elim (λ same. absurd (omega arith))
-          (λ had. f.smallest j l had (omega arith)) (key_at-set m i (Some d.1) j l e);
-    }
+least_set_same m d i f le = record {
+  there = key_at-set_same m i (Some d.1) (omega (arith, key_at_in m d.0 d.1 f.there));
+  least = λ j l e. grind (arith, key_at-set m i (Some d.1) j l e, not_before d.1 l, f.least j l);
+  smallest = λ j l e lower. grind (arith, key_at-set m i (Some d.1) j l e, f.smallest j l);
+}
 
 -- an item other than the least's loses its key
 pub least_set_none : (m : Entries) (d : ℕ × Key) (i : ℕ) → IsLeast m d → i ≢ d.0 →
     IsLeast (set m i None) d
 least_set_none m d i f ne = record {
   there = key_at-set_other m i d.0 None (λ e. ne (sym e)) ∙ f.there;
-  least = λ j l e. ⊎_elim (λ same. absurd (none-some l same.1)) (λ had. f.least j l had)
-      (key_at-set m i None j l e);
-  smallest = λ j l e lower. ⊎_elim (λ same. absurd (none-some l same.1))
-      (λ had. f.smallest j l had lower) (key_at-set m i None j l e);
+  least = λ j l e. grind (arith, key_at-set m i None j l e, f.least j l);
+  smallest = λ j l e lower. grind (arith, key_at-set m i None j l e, f.smallest j l);
 }
