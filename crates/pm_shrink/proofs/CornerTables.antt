@@ -6,7 +6,7 @@ use Rattle.pm_base.specs.declared.mesh.Corners.{Corners}
 use Rattle.pm_links.specs.Lists.{Lists, list_of, has, with_first}
 use Rattle.pm_links.proofs.Members.{has_tail}
 use Rattle.pm_links.proofs.Calls.{after_push}
-use Rattle.pm_shrink.specs.Tables.{side_from}
+use Rattle.pm_shrink.specs.FaceRows.{side_from}
 
 -- The first n corners are in the lists of their vertices, and no other ones.
 abbrev pub AreListed : List (Option Corners) → ℕ → Lists → Type 0

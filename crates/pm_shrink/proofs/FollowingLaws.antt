@@ -22,11 +22,11 @@ step_after : (m : Mesh) (log : List Collapse) (c : Collapse) (s r : Shrinking) �
 step_after m log c s r after step made = grind (arith, common_steps, run-more, surface_after-more)
 
 -- By what a collapse says of the pair, of the log's entry and of the mesh afterwards.
-pub collapse_after : (m : Mesh) (log : List Collapse) (s r : Shrinking) (a b : ℕ) (place : Place)
-    (c : Collapse) → IsAfter m log s → a < b →
-    IsLegalPair s.surface a b place → c ≡ entry_of s.surface a b place
-    → r.surface ≡ collapsed s.surface a b place → IsAfter m (log ++ c ∷ []) r
-collapse_after m log s r a b place c after order legal entry made =
+pub collapse_after : {m : Mesh} {log : List Collapse} {s r : Shrinking} {a b : ℕ} {place : Place}
+    {c : Collapse} → IsAfter m log s → a < b → IsLegalPair s.surface a b place
+    → c ≡ entry_of s.surface a b place → r.surface ≡ collapsed s.surface a b place
+    → IsAfter m (log ++ c ∷ []) r
+collapse_after {m} {log} {s} {r} {a} {b} {place} {c} after order legal entry made =
     let now : Surface = surface_after m log in
     let d : Collapse = entry_of now a b place in
     let same : c ≡ d = entry ∙ ap (λ (z : Surface). entry_of z a b place) after.surface in

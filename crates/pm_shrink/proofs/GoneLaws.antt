@@ -1,5 +1,6 @@
 -- The faces that a collapse drops: where they are, and which corners they take out of the lists.
-use Rattle.std.proofs.Common.{◌≡◌, ◌≢◌, ℕ, ◌+◌, ◌*◌, ◌<◌, true, List, Option, Some, None}
+use Rattle.std.proofs.Common.{◌≡◌, ◌≢◌, ℕ, ◌+◌, ◌*◌, ◌<◌, true, List, length, Option}
+use Rattle.std.proofs.Common.{Some, None}
 use Rattle.std.proofs.lemmas.Grind.{common_steps}
 use Rattle.std.proofs.Common.{refl, sym, ap, ◌∙◌, arith}
 use Rattle.std.specs.Prelude.{option_map, IfSome}
@@ -9,13 +10,15 @@ use Rattle.pm_base.specs.Sides.{Net, face_of, next, prev, Stands, NoSideTwice, s
 use Rattle.pm_base.proofs.Sides.{stands_next, face_cases}
 use Rattle.pm_base.proofs.Search.{option_cases}
 use Rattle.pm_base.proofs.TwinLaws.{twin-is}
-use Rattle.pm_links.specs.Lists.{Lists, has, IsHeld}
+use Rattle.pm_links.specs.Lists.{Lists, list_of, list_without, without_item, has, IsHeld}
+use Rattle.pm_links.proofs.Calls.{after_unlink}
 use Rattle.pm_links.proofs.Without.{has-without, was_there}
 use Rattle.pm_runs.specs.Pairs.{Runs, Links}
 use Rattle.pm_runs.specs.Steps.{side_id, gone_at, gone_of}
 use Rattle.pm_runs.proofs.Found.{found-runs, runs-found}
 use Rattle.pm_runs.proofs.Legal.{no_two_ways}
-use Rattle.pm_shrink.specs.Writes.{without_corners, unlisted}
+use Rattle.pm_shrink.specs.Tables.{Tables}
+use Rattle.pm_shrink.specs.Writes.{without_corners, unlisted, lists_left, IsIn}
 
 -- What is so of each face with a side from p to q is so of the one that goes.
 pub if_gone : (m : Net) (p q : ℕ) (P : Gone → Type 0) → ((e : ℕ) → Runs m e p q → P (gone_at m e))
@@ -26,10 +29,29 @@ pub gone_is : (m : Net) → NoSideTwice m → (e p q : ℕ) → Runs m e p q
     → gone_of m p q ≡ Some (gone_at m e)
 gone_is m once e p q r = ap (option_map (gone_at m)) (runs-found m p q once e r)
 
-if_side : (t : Option ℕ) (n : ℕ) → ((k : ℕ) → t ≡ Some k → k < n)
-    → IfSome (option_map side_id t) (λ (s : Side). s.0 < n)
-if_side None n low = tt
-if_side (Some k) n low = low k refl
+-- What stands across a side is a side.
+across_in : (m : Net) (e n : ℕ) → n ≡ side_count m
+    → IfSome (option_map side_id (twin_of m e)) (λ (s : Side). s.0 < n)
+across_in m e n is = within (twin_of m e) (λ k t. twin_low k t)
+  where
+    twin_low : (k : ℕ) → twin_of m e ≡ Some k → k < n
+    twin_low k t = (let l = (twin-is m e k t).stands.is_side in omega arith)
+
+    within : (t : Option ℕ) → ((k : ℕ) → t ≡ Some k → k < n)
+        → IfSome (option_map side_id t) (λ (s : Side). s.0 < n)
+    within None low = tt
+    within (Some k) low = low k refl
+
+module _ (m : Net) (p q : ℕ) where
+  pub gone_first_in : (n : ℕ) → n ≡ side_count m
+      → IfSome (gone_of m p q) (λ g. IfSome g.first (λ s. s.0 < n))
+  gone_first_in n is =
+      if_gone m p q (λ g. IfSome g.first (λ s. s.0 < n)) (λ e r. across_in m (next e) n is)
+
+  pub gone_second_in : (n : ℕ) → n ≡ side_count m
+      → IfSome (gone_of m p q) (λ g. IfSome g.second (λ s. s.0 < n))
+  gone_second_in n is =
+      if_gone m p q (λ g. IfSome g.second (λ s. s.0 < n)) (λ e r. across_in m (prev e) n is)
 
 -- All sides of a face stand.
 pub stands_beside : (m : Net) (e g : ℕ) → Stands m e → face_of g ≡ face_of e → Stands m g
@@ -42,43 +64,25 @@ stands_beside m e g st same =
       stands_next m (next e),
     )
 
--- The three corners of a face are in lists.
-abbrev pub AreHeld : Lists → ℕ → Type 0
-AreHeld lists f = IsHeld lists (3 * f) × IsHeld lists (3 * f + 1) × IsHeld lists (3 * f + 2)
+-- A face that goes is in tables that have all faces and sides of a net, and its corners.
+module _ (m : Net) (p q : ℕ) (t : Tables) (faces : length t.faces ≡ m.faces)
+    (across : length t.across ≡ side_count m)
+    (held : (e : ℕ) → Runs m e p q → (g : ℕ) → Stands m g → face_of g ≡ face_of e
+    → IsHeld t.corners g) where
+  corner : (e : ℕ) → Runs m e p q → (g : ℕ) → face_of g ≡ face_of e → IsHeld t.corners g
+  corner e r g same = held e r g (stands_beside m e g r.stands same) same
 
-module _ (m : Net) (p q : ℕ) where
-  pub gone_face_in : IfSome (gone_of m p q) (λ g. g.face.0 < m.faces)
-  gone_face_in =
-      if_gone m p q (λ g. g.face.0 < m.faces) (λ e r. (let l = r.stands.is_side in omega arith))
-
-  pub gone_first_in : (n : ℕ) → n ≡ side_count m
-      → IfSome (gone_of m p q) (λ g. IfSome g.first (λ s. s.0 < n))
-  gone_first_in n is =
-      if_gone m p q (λ g. IfSome g.first (λ s. s.0 < n))
-      (λ e r. if_side (twin_of m (next e)) n
-      (λ k t. (let l = (twin-is m (next e) k t).stands.is_side in omega arith)))
-
-  pub gone_second_in : (n : ℕ) → n ≡ side_count m
-      → IfSome (gone_of m p q) (λ g. IfSome g.second (λ s. s.0 < n))
-  gone_second_in n is =
-      if_gone m p q (λ g. IfSome g.second (λ s. s.0 < n))
-      (λ e r. if_side (twin_of m (prev e)) n
-      (λ k t. (let l = (twin-is m (prev e) k t).stands.is_side in omega arith)))
-
-  pub gone_held : (lists : Lists)
-      → ((e : ℕ) → Runs m e p q → (g : ℕ) → Stands m g → face_of g ≡ face_of e → IsHeld lists g)
-      → IfSome (gone_of m p q) (λ g. AreHeld lists g.face.0)
-  gone_held lists held = if_gone m p q (λ g. AreHeld lists g.face.0) (λ e r. all_held e r)
-    where
-      corner : (e : ℕ) → Runs m e p q → (g : ℕ) → face_of g ≡ face_of e → IsHeld lists g
-      corner e r g same = held e r g (stands_beside m e g r.stands same) same
-
-      all_held : (e : ℕ) → Runs m e p q → AreHeld lists (face_of e)
-      all_held e r = (
-        corner e r (3 * face_of e) (omega arith),
-        corner e r (3 * face_of e + 1) (omega arith),
-        corner e r (3 * face_of e + 2) (omega arith),
-      )
+  pub gone_in : IfSome (gone_of m p q) (IsIn t)
+  gone_in = if_gone m p q (IsIn t) (λ e r. record {
+    face = (let l = r.stands.is_side in omega arith);
+    first = across_in m (next e) (length t.across) across;
+    second = across_in m (prev e) (length t.across) across;
+    held = (
+      corner e r (3 * face_of e) (omega arith),
+      corner e r (3 * face_of e + 1) (omega arith),
+      corner e r (3 * face_of e + 2) (omega arith),
+    );
+  })
 
 -- The face of corner x doesn't go.
 abbrev pub IsSparedBy : Option Gone → ℕ → Type 0
@@ -101,6 +105,28 @@ pub unlisted-was : (o : Option Gone) (xs : List ℕ) (x : ℕ) → has (unlisted
     → (has xs x ≡ true) × IsSparedBy o (face_of x)
 unlisted-was None xs x h = (h, tt)
 unlisted-was (Some g) xs x h = without-was g.face.0 xs x h
+
+-- The lists after a face has gone.
+pub record AfterGone (v w : Lists) (o : Option Gone) : Type 0 where
+  pub lists : (h : ℕ) → list_of w h ≡ unlisted o (list_of v h)
+  pub items : w.items ≡ v.items
+  pub heads : length w.lists ≡ length v.lists
+
+pub after_gone : (v : Lists) (o : Option Gone) → AfterGone v (lists_left v o) o
+after_gone v None = record { lists = λ h. refl; items = refl; heads = refl }
+after_gone v (Some g) =
+    let f : ℕ = g.face.0 in
+    let v1 : Lists = without_item v (3 * f) in
+    let v2 : Lists = without_item v1 (3 * f + 1) in
+    let one = after_unlink v v1 (3 * f) refl in
+    let two = after_unlink v1 v2 (3 * f + 1) refl in
+    let three = after_unlink v2 (without_item v2 (3 * f + 2)) (3 * f + 2) refl in
+    record {
+      lists = λ h. three.lost h ∙ ap (list_without (3 * f + 2)) (two.lost h
+          ∙ ap (list_without (3 * f + 1)) (one.lost h));
+      items = refl;
+      heads = three.heads ∙ two.heads ∙ one.heads;
+    }
 
 module _ (m : Net) (once : NoSideTwice m) (a b : ℕ) where
   -- A face is spared by both where it holds no side between the two.

@@ -13,5 +13,6 @@ pub mod GoneLaws
 mod MergedCorners
 mod MergedFaces
 mod MergedTables
+mod CollapseLaws
 mod MergedShrink
 mod FollowingLaws

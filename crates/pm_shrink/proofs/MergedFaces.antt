@@ -13,20 +13,16 @@ use Rattle.pm_base.proofs.Search.{option_cases}
 use Rattle.pm_links.specs.Lists.{Lists, list_of, has}
 use Rattle.pm_runs.specs.Surfaces.{Surface, next_vertex, net_of_surface, corners_at, IsSurface}
 use Rattle.pm_runs.specs.Surfaces.{IsLiveFace, collapsed, merge, merged_corners}
-use Rattle.pm_runs.specs.Pairs.{Runs, Links, IsLegalPair}
+use Rattle.pm_runs.specs.Pairs.{Runs, Links}
 use Rattle.pm_runs.specs.Steps.{side_from_to, gone_at, gone_of}
-use Rattle.pm_runs.specs.Merged.{IsProper}
-use Rattle.pm_runs.specs.Collapses.{DropsFaces}
 use Rattle.pm_runs.proofs.CornerNets.{AreDistinct, distinct_stands}
 use Rattle.pm_runs.proofs.Collapsed.{corners_in, next_face}
 use Rattle.pm_runs.proofs.FacesLeft.{face_gone, face_left, some_within}
 use Rattle.pm_runs.proofs.Found.{found-runs}
 use Rattle.pm_runs.proofs.Present.{option_is}
-use Rattle.pm_runs.proofs.StepLaws.{steps_keep_surfaces}
-use Rattle.pm_shrink.specs.Shrinking.{AreCornersAt}
-use Rattle.pm_shrink.specs.Writes.{with_corners, without_face, unlisted}
+use Rattle.pm_shrink.specs.Writes.{with_corners, without_face}
 use Rattle.pm_shrink.proofs.GoneLaws.{IsSparedBy, spared-links, stands_beside}
-use Rattle.pm_shrink.proofs.MergedCorners.{mid_each}
+use Rattle.pm_shrink.proofs.MergedCorners.{AreDropped, mid_each}
 use Rattle.pm_shrink.proofs.WriteLaws.{renamed, corners_same, cond_twice, length-with_corners}
 use Rattle.pm_shrink.proofs.WriteLaws.{read_corners}
 
@@ -86,13 +82,9 @@ named_twice : (x y : Bool) (a b s v : ℕ) → x ≡ eqb v a → y ≡ eqb v b
 unfolding merge
 named_twice x y a b s v p q = rw (p, q) (cond_twice (eqb v b) (eqb v a) s v)
 
-module _ (s : Surface) (sound : IsSurface s) (proper : IsProper (net_of_surface s)) (a b : ℕ)
-    (place : Place) (legal : IsLegalPair s a b place)
-    (corners mid : Lists) (fan : (v : ℕ) → AreCornersAt (net_of_surface s) v (list_of corners v))
-    (lists : (h : ℕ)
-    → list_of mid h
-    ≡ unlisted (gone_of (net_of_surface s) b a)
-    (unlisted (gone_of (net_of_surface s) a b) (list_of corners h))) where
+module _ (s : Surface) (a b : ℕ) (place : Place) (sound : IsSurface s) {before mid : Lists}
+    (w : AreDropped (net_of_surface s) (net_of_surface (collapsed s a b place)) a b (next_vertex s)
+    before mid) where
   abbrev m : Net
   m = net_of_surface s
 
@@ -111,17 +103,13 @@ module _ (s : Surface) (sound : IsSurface s) (proper : IsProper (net_of_surface 
       (gone_of (net_of_surface s) b a)) (list_of mid a) (next_vertex s)) (list_of mid b)
       (next_vertex s)
 
-  drops : DropsFaces (net_of_surface s) (net_of_surface (collapsed s a b place)) a b (next_vertex s)
-  drops = (steps_keep_surfaces s sound proper a b place legal).faces
-
   length-dropped : length dropped ≡ length s.faces
   length-dropped = length-without_face (without_face s.faces (gone_of m a b)) (gone_of m b a)
       ∙ length-without_face s.faces (gone_of m a b)
 
   low : (v e : ℕ) → has (list_of mid v) e ≡ true → face_of e < length s.faces
   low v e h = (let l =
-      (drops.stood e
-      ((mid_each s sound proper a b place legal corners mid fan lists v e).0 h).0).is_side in
+      (w.drops.stood e ((mid_each w v e).0 h).0).is_side in
       omega arith)
 
   read : (f : ℕ)
@@ -150,7 +138,7 @@ module _ (s : Surface) (sound : IsSurface s) (proper : IsProper (net_of_surface 
       → cond (has (list_of mid b) e) (next_vertex s)
       (cond (has (list_of mid a) e) (next_vertex s) v) ≡ merge a b (next_vertex s) v
   named e v st at =
-      let each = mid_each s sound proper a b place legal corners mid fan lists in
+      let each = mid_each w in
       named_twice (has (list_of mid a) e) (has (list_of mid b) e) a b (next_vertex s) v
       (test_same (has (list_of mid a) e) v a (λ t. sym at ∙ ((each a e).0 t).1)
       (λ is. (each a e).1 (st, at ∙ is)))
@@ -160,7 +148,7 @@ module _ (s : Surface) (sound : IsSurface s) (proper : IsProper (net_of_surface 
   stay_same : (f : ℕ) → IsSparedBy (gone_of m a b) f → IsSparedBy (gone_of m b a) f
       → get_or merged_faces f None ≡ get_or (collapsed s a b place).faces f None
   stay_same f left right =
-      let never = spared-links m proper.once a b f left right in
+      let never = spared-links m w.once a b f left right in
       let same : get_or dropped f None ≡ get_or s.faces f None =
       without-spared (without_face s.faces (gone_of m a b)) (gone_of m b a) f right
       ∙ without-spared s.faces (gone_of m a b) f left in
@@ -180,7 +168,7 @@ module _ (s : Surface) (sound : IsSurface s) (proper : IsProper (net_of_surface 
             (subst AreDistinct (sym (at (3 * f) (omega arith)))
             (record { ab = live.ab; bc = live.bc; ca = live.ca })) in
             let new : Stands n (3 * f) =
-            drops.stays (3 * f) st
+            w.drops.stays (3 * f) st
             (λ x links is. never x links (is ∙ (let first : face_of (3 * f) ≡ f = omega arith in
             first))) in
             let from : (e i : ℕ) → face_of e ≡ f → e % 3 ≡ i → m.from e ≡ corner_in k i =

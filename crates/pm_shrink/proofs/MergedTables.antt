@@ -12,14 +12,12 @@ use Rattle.pm_base.specs.declared.ids.Side.{Side}
 use Rattle.pm_base.specs.declared.log.Gone.{Gone}
 use Rattle.pm_base.specs.Sides.{Net, next, prev, Stands, NoSideTwice, twin_of}
 use Rattle.pm_base.proofs.Search.{option_cases}
-use Rattle.pm_runs.specs.Surfaces.{Surface, net_of_surface, IsSurface, collapsed, merged_places}
-use Rattle.pm_runs.specs.Pairs.{Runs, Links, IsLegalPair}
+use Rattle.pm_runs.specs.Surfaces.{merged_places}
+use Rattle.pm_runs.specs.Pairs.{Runs, Links}
 use Rattle.pm_runs.specs.Steps.{side_from_to, side_id, gone_at, gone_of}
-use Rattle.pm_runs.specs.Merged.{IsProper}
 use Rattle.pm_runs.specs.Collapses.{RelinksTwins}
 use Rattle.pm_runs.proofs.Found.{found-runs, runs-found}
 use Rattle.pm_runs.proofs.Present.{option_eq?}
-use Rattle.pm_runs.proofs.StepLaws.{steps_keep_surfaces}
 use Rattle.pm_shrink.specs.Writes.{with_across, relinked, side_number}
 
 -- ---- what stands across
@@ -130,17 +128,7 @@ hits? m once p q e =
           ]
     ]
 
-module _ (s : Surface) (sound : IsSurface s) (proper : IsProper (net_of_surface s)) (a b : ℕ)
-    (place : Place) (legal : IsLegalPair s a b place) where
-  abbrev m : Net
-  m = net_of_surface s
-
-  abbrev n : Net
-  n = net_of_surface (collapsed s a b place)
-
-  relinks : RelinksTwins (net_of_surface s) (net_of_surface (collapsed s a b place)) a b
-  relinks = (steps_keep_surfaces s sound proper a b place legal).twins
-
+module _ {m n : Net} {a b : ℕ} (once : NoSideTwice m) (relinks : RelinksTwins m n a b) where
   -- Each side that stands after the collapse has its new twin.
   pub across-merged : (table : List (Option ℕ)) (e : ℕ) → e < length table → Stands n e
       → get_or table e None ≡ twin_of m e →
@@ -154,11 +142,11 @@ module _ (s : Surface) (sound : IsSurface s) (proper : IsProper (net_of_surface 
       let one = relinked table (gone_of m a b) in
       let len : length one ≡ length table = length-relinked table (gone_of m a b) in
       face_right m b a one e (twin_of n e) (omega arith) (λ y r. right y (inr r))
-      (elim (hits? m proper.once b a e) [
+      (elim (hits? m once b a e) [
         | inl hit ↦ inr hit
         | inr off_right ↦
             inl (face_right m a b table e (twin_of n e) l (λ y r. right y (inl r))
-            (elim (hits? m proper.once a b e) [
+            (elim (hits? m once a b e) [
               | inl hit ↦ inr hit
               | inr off_left ↦ inl (was ∙ sym (relinks.others e st (λ x links. (
                 (λ k. elim links [
@@ -172,8 +160,8 @@ module _ (s : Surface) (sound : IsSurface s) (proper : IsProper (net_of_surface 
                       off_right (x, r, inr k)
                 ]),
               ))))
-            ]) proper.once)
-      ]) proper.once
+            ]) once)
+      ]) once
 
 -- ---- places
 

@@ -1,5 +1,5 @@
 -- What a `Shrink` holds before the first collapse.
-use Rattle.std.proofs.Common.{◌≡◌, ℕ, ◌-◌, ◌*◌, ◌<◌, ◌≤◌, cond, List, [], ◌∷◌, ◌++◌, length, map}
+use Rattle.std.proofs.Common.{◌≡◌, true, ℕ, ◌-◌, ◌*◌, ◌<◌, ◌≤◌, cond, List, [], ◌∷◌, ◌++◌, length, map}
 use Rattle.std.proofs.lemmas.Grind.{common_steps}
 use Rattle.std.proofs.Common.{take, get_or, Option, Some, None, inl, inr, refl, sym, ap, ◌∙◌, subst}
 use Rattle.std.proofs.Common.{arith}
@@ -8,7 +8,7 @@ use Rattle.std.specs.List.{count_by}
 use Rattle.std.proofs.Math.ListN.{replicate}
 use Rattle.std.proofs.Math.Seq.{take-append_seam}
 use Rattle.std.proofs.lemmas.List.{length-map, length-append, length-replicate, get_or-append_right}
-use Rattle.std.proofs.lemmas.List.{get_or-replicate, get_or_past}
+use Rattle.std.proofs.lemmas.List.{get_or-map, get_or-replicate, get_or_past}
 use Rattle.std.proofs.lemmas.List.Sums.{sum_by-cons}
 use Rattle.std.proofs.lemmas.Bool.{cases_lt}
 use Rattle.std.proofs.lemmas.Option.{none-some}
@@ -16,7 +16,7 @@ use Rattle.pm_base.specs.declared.limits.TheConstants.{MOST_FACES, MOST_SIDES}
 use Rattle.pm_base.specs.Place.{Place}
 use Rattle.pm_base.specs.declared.mesh.Corners.{Corners}
 use Rattle.pm_base.specs.Meshes.{Mesh, IsWellFormed}
-use Rattle.pm_base.specs.Sides.{Net, side_count, Stands, net_of, twin_of}
+use Rattle.pm_base.specs.Sides.{Net, side_count, face_of, no_corners, Stands, net_of, twin_of}
 use Rattle.pm_base.specs.Fans.{IsOrientedManifold}
 use Rattle.pm_base.proofs.NetLaws.{mesh_side}
 use Rattle.pm_base.proofs.Search.{option_cases}
@@ -31,7 +31,8 @@ use Rattle.pm_runs.proofs.Living.{first_live_count}
 use Rattle.pm_runs.proofs.Manifolds.{manifold-same}
 use Rattle.pm_runs.proofs.Proper.{input-proper}
 use Rattle.pm_shrink.specs.Shrinking.{IsKept}
-use Rattle.pm_shrink.specs.Tables.{surface_with, IsAcross, IsShrink}
+use Rattle.pm_shrink.specs.FaceRows.{side_from}
+use Rattle.pm_shrink.specs.Tables.{Tables, surface_in, IsAcross, IsShrink}
 use Rattle.pm_shrink.proofs.AllFaces.{net_there}
 use Rattle.pm_shrink.proofs.CornerTables.{AreListed}
 
@@ -55,9 +56,20 @@ roomy_places m = map Some m.points ++ replicate (2 * length m.points - length m.
 taken_places : (m : Mesh) → take (length m.points) (roomy_places m) ≡ map Some m.points
 taken_places m = grind (arith, common_steps, length-map, replicate, take-append_seam)
 
-pub surface_there : (m : Mesh) → surface_with (map Some m.faces) (roomy_places m) (length m.points)
-    ≡ surface_of m
-surface_there m = grind (arith, common_steps, taken_places)
+-- The tables of a mesh, with no list of corners yet.
+abbrev pub start_tables : Mesh → Lists → List (Option ℕ) → Tables
+start_tables m corners across = record {
+  faces = map Some m.faces;
+  across = across;
+  corners = corners;
+  places = roomy_places m;
+  next = length m.points;
+  face_count = length m.faces;
+}
+
+pub surface_there : (m : Mesh) (corners : Lists) (across : List (Option ℕ))
+    → surface_in (start_tables m corners across) ≡ surface_of m
+surface_there m corners across = grind (arith, common_steps, taken_places)
 
 fresh_places : (m : Mesh) (v : ℕ) → length m.points ≤ v → get_or (roomy_places m) v None ≡ None
 fresh_places m v le =
@@ -121,33 +133,47 @@ module _ (m : Mesh) (formed : IsWellFormed m) (manifold : IsOrientedManifold (ne
     };
   }
 
-  pub started : (places : List (Option Place)) (twins : Table) (corners : Lists)
-      → places ≡ roomy_places m →
-      IsTableOf (net_of m.faces) (length m.points) twins →
-      corners.items ≡ 3 * length m.faces → length corners.lists ≡ 2 * length m.points
-      → IsSound corners → AreListed (map Some m.faces) (3 * length m.faces) corners →
-      IsShrink (map Some m.faces) places (length m.points) (length m.faces) twins.twins corners
-  started places twins corners places_are table items heads sound listed =
-      let P : List (Option Place) → Type 0 =
-      λ (k : List (Option Place)). IsShrink (map Some m.faces) k (length m.points)
-      (length m.faces) twins.twins corners in
+  pub started : (twins : Table) (corners : Lists) → IsTableOf (net_of m.faces) (length m.points) twins
+      → corners.items ≡ 3 * length m.faces → length corners.lists ≡ 2 * length m.points
+      → IsSound corners → AreListed (map Some m.faces) (3 * length m.faces) corners
+      → IsShrink (start_tables m corners twins.twins)
+  started twins corners table items heads sound listed =
       let all : length (map Some m.faces) ≡ length m.faces = length-map m.faces Some in
       let room : length (roomy_places m) ≡ 2 * length m.points =
       grind (arith, common_steps, length-append, length-map, length-replicate, replicate) in
-      subst P (sym places_are) (record {
+      let there : surface_in (start_tables m corners twins.twins) ≡ surface_of m =
+      surface_there m corners twins.twins in
+      record {
         kept = subst (λ (s : Surface). IsKept (record { surface = s; corners = corners.lists }))
-            (sym (surface_there m)) (kept_there corners sound listed);
-        twins = subst (λ (s : Surface). IsAcross s twins.twins) (sym (surface_there m))
+            (sym there) (kept_there corners sound listed);
+        twins = subst (λ (s : Surface). IsAcross s twins.twins) (sym there)
             (let t = subst (λ (n : Net). AreTwins n twins.twins) (sym (net_there m))
             (twins_there (net_of m.faces) twins.twins table.twins) in
             record { sides = t.sides; each = t.each });
         roomy = record {
           count = sym (all_counted m.faces);
-          made = ap (λ (s : Surface). length s.places) (surface_there m) ∙ length-map m.points Some;
-          room = omega (arith, ap live_count_of (surface_there m), first_live_count m);
+          made = ap (λ (s : Surface). length s.places) there ∙ length-map m.points Some;
+          room = omega (arith, ap live_count_of there, first_live_count m);
           most = omega (arith, formed.points);
           fresh = fresh_places m;
         };
         items = omega arith;
         heads = omega arith;
-      })
+      }
+
+  -- Of the faces as they are stored.
+  module _ {faces : List (Option Corners)} (are : faces ≡ map Some m.faces) where
+    pub corners_there : (e : ℕ) → e < 3 * length faces
+        → is_some (get_or faces (face_of e) None) ≡ true
+    corners_there =
+        subst (λ (fs : List (Option Corners)). (e : ℕ) → e < 3 * length fs
+        → is_some (get_or fs (face_of e) None) ≡ true) (sym are)
+        (λ e l. ap is_some
+        (get_or-map Some m.faces (face_of e) no_corners None
+        (omega (arith, length-map m.faces Some))))
+
+    pub corners_within : (e : ℕ) → e < 3 * length faces → side_from faces e < length m.points
+    corners_within =
+        subst (λ (fs : List (Option Corners)). (e : ℕ) → e < 3 * length fs
+        → side_from fs e < length m.points) (sym are)
+        (λ e l. (side_there m formed e (omega (arith, length-map m.faces Some))).1)

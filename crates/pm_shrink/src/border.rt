@@ -50,10 +50,10 @@ impl Shrink {
             × ((net_at self.now).from corner.0 ≡ v)) }
     {
         self.invariant();
-        if corner.0 as usize >= 3 * self.faces.len() {
+        if corner.0 as usize >= 3 * self.tables.faces.len() {
             return None;
         }
-        self.corners.head_of(corner.0)
+        self.tables.corners.head_of(corner.0)
     }
 
     // Notes a side for the vertex that it runs from, if it is a border side.
@@ -77,7 +77,7 @@ impl Shrink {
         ensures { self.new ≡ self.old }
     {
         self.invariant();
-        let sides = 3 * self.faces.len() as u32;
+        let sides = 3 * self.tables.faces.len() as u32;
         for number in 0..sides {
             self.note_rim(Some(Side(number)));
         }

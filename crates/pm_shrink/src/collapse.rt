@@ -10,7 +10,6 @@ ghost use Rattle.pm_shrink.specs.Shrinking.{net_at};
 ghost use Rattle.pm_shrink.specs.Following.{IsAfter};
 
 use crate::Shrink;
-use crate::tables::{count_gone, drop_face, merge_corners, merge_places};
 use pm_base::{Collapse, Gone, Point};
 
 impl Shrink {
@@ -41,24 +40,24 @@ impl Shrink {
         ensures after { (m : Mesh) (log : List Entry) → IsAfter m log self.old
             → IsAfter m (log ++ result ∷ []) self.new }
     {
-        self.invariant();
-        let left = self.gone(a, b);
-        let right = self.gone(b, a);
-        let s = self.next;
-        drop_face(&mut self.faces, &mut self.corners, left);
-        drop_face(&mut self.faces, &mut self.corners, right);
-        merge_corners(&mut self.faces, &mut self.corners, a, s);
-        merge_corners(&mut self.faces, &mut self.corners, b, s);
-        merge_places(&mut self.places, a, b, s, place);
-        self.next = s + 1;
-        self.left -= count_gone(left, right);
+        let entry = self.entry(a, b, place);
+        self.tables.collapse(&entry);
+        entry
+    }
+
+    // The log's entry for a pair.
+    fn entry(&self, a: u32, b: u32, place: Point) -> Collapse
+        requires a_live { is_live_in self.now.surface a ≡ true }
+        requires b_live { is_live_in self.now.surface b ≡ true }
+        ensures { result ≡ entry_of self.now.surface a b place }
+    {
         Collapse {
             t: a,
             u: b,
-            s,
+            s: self.next_vertex(),
             place,
-            left,
-            right,
+            left: self.gone(a, b),
+            right: self.gone(b, a),
         }
     }
 

@@ -4,8 +4,7 @@ ghost use Rattle.std.specs.Prelude.{slice_index_or, slice_set, is_some, true, Al
 ghost use Rattle.std.specs.Option.{option_map};
 ghost use Rattle.pm_base.specs.declared.limits.TheConstants.{MOST_FACES, MOST_NODES, MOST_SIDES};
 ghost use Rattle.pm_base.specs.Sides.{face_of};
-ghost use Rattle.pm_shrink.specs.FaceRows.{across_in};
-ghost use Rattle.pm_shrink.specs.Tables.{side_from};
+ghost use Rattle.pm_shrink.specs.FaceRows.{across_in, side_from};
 ghost use Rattle.pm_shrink.specs.Writes.{with_vertex, with_corner, side_number};
 
 use crate::corners::OptionalCorners;
@@ -60,8 +59,7 @@ pub(crate) struct FaceTable {
 }
 
 impl Model for FaceTable {
-    ghost use Rattle.pm_shrink.specs.Tables.{Faces};
-    ghost use Rattle.pm_shrink.specs.FaceRows.{row_corners, across_of};
+    ghost use Rattle.pm_shrink.specs.FaceRows.{Faces, row_corners, across_of};
 
     ghost Value = { Faces };
 

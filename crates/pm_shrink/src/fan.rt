@@ -29,7 +29,7 @@ impl Shrink {
         ensures within { All (λ e. e < side_count (net_at self.now)) result }
         ensures small { side_count (net_at self.now) ≤ MOST_SIDES }
     {
-        self.corners.items(v)
+        self.tables.corners.items(v)
     }
 
     // The vertex from which a side runs.
@@ -37,7 +37,7 @@ impl Shrink {
         requires { Stands (net_at self.now) side.0 }
         ensures { result ≡ (net_at self.now).from side.0 }
     {
-        self.faces.from(side)
+        self.tables.faces.from(side)
     }
 
     // The vertex to which a side runs.

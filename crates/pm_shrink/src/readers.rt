@@ -17,28 +17,28 @@ impl Shrink {
         ensures kept { IsKept self.now }
         ensures few_sides { side_count (net_at self.now) ≤ MOST_SIDES }
     {
-        let _ = &self.faces;
+        let _ = &self.tables.faces;
     }
 
     /// The number of faces still there.
     pub fn face_count(&self) -> u32
         ensures { result ≡ face_count_of self.now.surface }
     {
-        self.left
+        self.tables.face_count
     }
 
     /// The number that the next vertex takes.
     pub fn next_vertex(&self) -> u32
         ensures { result ≡ next_vertex_of self.now.surface }
     {
-        self.next
+        self.tables.next
     }
 
     /// Whether a number, which may be any, is that of a live vertex.
     pub fn is_live(&self, v: u32) -> bool
         ensures { result ≡ is_live_in self.now.surface v }
     {
-        (v as usize) < self.places.len() && self.places[v as usize].is_some()
+        (v as usize) < self.tables.places.len() && self.tables.places[v as usize].is_some()
     }
 
     /// The place of a live vertex.
@@ -46,7 +46,7 @@ impl Shrink {
         requires { is_live_in self.now.surface v ≡ true }
         ensures { result ≡ place_at self.now.surface v }
     {
-        self.places[v as usize].unwrap()
+        self.tables.places[v as usize].unwrap()
     }
 
     /// The first corner of the list of a live vertex, and none exactly where no face that is still
@@ -57,7 +57,7 @@ impl Shrink {
         ensures stands { IfSome result (λ c. Stands (net_at self.now) c.0
             × ((net_at self.now).from c.0 ≡ v)) }
     {
-        self.corners.first(v).map(Side)
+        self.tables.corners.first(v).map(Side)
     }
 
     /// The corner after this one in the list of its vertex, and none exactly at the last. With
@@ -69,7 +69,7 @@ impl Shrink {
         ensures stands { IfSome result (λ c. Stands (net_at self.now) c.0
             × ((net_at self.now).from c.0 ≡ (net_at self.now).from corner.0)) }
     {
-        self.corners.next(corner.0).map(Side)
+        self.tables.corners.next(corner.0).map(Side)
     }
 
     /// Whether the face of a side is still there.
@@ -78,7 +78,7 @@ impl Shrink {
         ensures { IsTrue result ↔ Stands (net_at self.now) side.0 }
     {
         self.invariant();
-        self.corners.head_of(side.0).is_some()
+        self.tables.corners.head_of(side.0).is_some()
     }
 
     /// The vertex at a corner of a face that is still there.
@@ -86,7 +86,7 @@ impl Shrink {
         requires { Stands (net_at self.now) corner.0 }
         ensures { result ≡ (net_at self.now).from corner.0 }
     {
-        self.faces.from(corner)
+        self.tables.faces.from(corner)
     }
 
     /// What stands across a side of a face that is still there, and none exactly where nothing
@@ -95,6 +95,6 @@ impl Shrink {
         requires { Stands (net_at self.now) side.0 }
         ensures { option_map (λ s. s.0) result ≡ twin_of (net_at self.now) side.0 }
     {
-        self.faces.across(side)
+        self.tables.faces.across(side)
     }
 }

@@ -8,13 +8,14 @@ ghost use Rattle.pm_base.specs.Fans.{IsOrientedManifold};
 ghost use Rattle.pm_links.specs.Lists.{list_of, has, IsSound};
 ghost use Rattle.pm_runs.specs.Surfaces.{surface_of};
 ghost use Rattle.pm_twins.specs.Table.{IsTableOf};
-ghost use Rattle.pm_shrink.specs.Tables.{side_from};
+ghost use Rattle.pm_shrink.specs.FaceRows.{side_from};
 ghost use Rattle.pm_shrink.specs.Following.{IsAfter};
 
 use crate::Shrink;
 use crate::faces::FaceTable;
 use crate::rims::RimTable;
 use crate::shrink::OutOfMemory;
+use crate::tables::Tables;
 use pm_base::{Mesh, Point, Side};
 use pm_links::Links;
 use pm_twins::Twins;
@@ -50,14 +51,14 @@ impl Shrink {
         let places = places_with_room(alloc, points, room)?;
         let corners = corner_lists(alloc, &faces, room)?;
         let rims = RimTable::new(alloc, room)?;
-        Ok(Shrink {
+        let tables = Tables {
             faces,
             corners,
             places,
-            rims,
             next: points.len() as u32,
-            left: triples.len() as u32,
-        })
+            face_count: triples.len() as u32,
+        };
+        Ok(Shrink { tables, rims })
     }
 }
 

@@ -1,6 +1,6 @@
 use Rattle.std.proofs.Common.{◌≡◌, ◌<◌, ◌↔◌, ℕ, true, length}
 use Rattle.pm_links.specs.Lists.{list_of, has, IsSound}
-use Rattle.pm_shrink.specs.Tables.{side_from}
+use Rattle.pm_shrink.specs.FaceRows.{side_from}
 use Rattle.pm_shrink.proofs.setup.corner_lists.Given as goal
 
 abbrev pub invariant-loop-number : goal.invariant-loop-number

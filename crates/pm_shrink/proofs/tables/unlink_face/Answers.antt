@@ -1,17 +1,17 @@
-use Rattle.std.proofs.Common.{◌≡◌, ◌*◌, sym, ap, subst, ◌∙◌, arith}
-use Rattle.pm_links.specs.Lists.{list_without, IsHeld}
+use Rattle.std.proofs.Common.{sym, subst, arith}
+use Rattle.pm_links.specs.Lists.{IsHeld}
 use Rattle.pm_links.proofs.Calls.{after_unlink, held-unlink}
 use Rattle.pm_shrink.proofs.tables.unlink_face.Goals as goal
 
 pub unlink-requires : goal.unlink-requires
 unlink-requires c =
-    subst (IsHeld c.args.corners.now) (omega (arith, c.side.ensures.value)) c.requires.first
+    subst (IsHeld c.args.corners.now) (omega (arith, c.side.ensures.value)) c.requires.held.0
 
 pub unlink-requires-2 : goal.unlink-requires-2
 unlink-requires-2 c =
     let one = after_unlink c.args.corners.now c.unlink.new.self c.side.result.0
     c.unlink.ensures.lists in
-    let second = subst (IsHeld c.args.corners.now) (sym c.side-2.ensures.value) c.requires.second in
+    let second = subst (IsHeld c.args.corners.now) (sym c.side-2.ensures.value) c.requires.held.1 in
     held-unlink one c.side-2.result.0
     (λ e. absurd (omega (arith, e, c.side.ensures.value, c.side-2.ensures.value))) second
 
@@ -21,22 +21,8 @@ unlink-requires-3 c =
     c.unlink.ensures.lists in
     let two = after_unlink c.unlink.new.self c.unlink-2.new.self c.side-2.result.0
     c.unlink-2.ensures.lists in
-    let third = subst (IsHeld c.args.corners.now) (sym c.side-3.ensures.value) c.requires.third in
+    let third = subst (IsHeld c.args.corners.now) (sym c.side-3.ensures.value) c.requires.held.2 in
     held-unlink two c.side-3.result.0
     (λ e. absurd (omega (arith, e, c.side-2.ensures.value, c.side-3.ensures.value)))
     (held-unlink one c.side-3.result.0
     (λ e. absurd (omega (arith, e, c.side.ensures.value, c.side-3.ensures.value))) third)
-
-pub returns-clause-lists : goal.returns-clause-lists
-returns-clause-lists c h =
-    let one = after_unlink c.args.corners.now c.unlink.new.self c.side.result.0
-    c.unlink.ensures.lists in
-    let two = after_unlink c.unlink.new.self c.unlink-2.new.self c.side-2.result.0
-    c.unlink-2.ensures.lists in
-    let three = after_unlink c.unlink-2.new.self c.unlink-3.new.self c.side-3.result.0
-    c.unlink-3.ensures.lists in
-    let first : c.side.result.0 ≡ 3 * c.args.face.0 = omega (arith, c.side.ensures.value) in
-    rw (first, c.side-2.ensures.value, c.side-3.ensures.value) at
-    (three.lost h
-    ∙ ap (list_without c.side-3.result.0) (two.lost h
-    ∙ ap (list_without c.side-2.result.0) (one.lost h)))

@@ -2,7 +2,7 @@ use Rattle.std.proofs.Common.{◌∙◌, ℕ, ◌*◌, ◌%◌, ◌<◌, List, N
 use Rattle.std.proofs.lemmas.List.{get_or_read}
 use Rattle.pm_shrink.specs.declared.faces.Row.{Row}
 use Rattle.pm_shrink.specs.FaceRows.{across_in, no_row}
-use Rattle.pm_shrink.specs.Tables.{Faces}
+use Rattle.pm_shrink.specs.FaceRows.{Faces}
 use Rattle.pm_shrink.proofs.FaceTables.{length-across_of, across_at}
 use Rattle.pm_shrink.proofs.faces.FaceTable.across.Goals as goal
 

@@ -2,7 +2,7 @@ use Rattle.std.proofs.Common.{◌∙◌, ◌<◌, List, None, length, set, refl,
 use Rattle.std.proofs.lemmas.List.{map-set}
 use Rattle.pm_shrink.specs.declared.faces.Row.{Row}
 use Rattle.pm_shrink.specs.FaceRows.{row_corners}
-use Rattle.pm_shrink.specs.Tables.{Faces}
+use Rattle.pm_shrink.specs.FaceRows.{Faces}
 use Rattle.pm_shrink.proofs.FaceTables.{length-row_corners, across_kept}
 use Rattle.pm_shrink.proofs.faces.FaceTable.drop_face.Goals as goal
 

@@ -3,7 +3,7 @@ use Rattle.std.proofs.Math.Seq.{map-set_same}
 use Rattle.pm_base.specs.Sides.{face_of}
 use Rattle.pm_shrink.specs.declared.faces.Row.{Row}
 use Rattle.pm_shrink.specs.FaceRows.{across_of}
-use Rattle.pm_shrink.specs.Tables.{Faces}
+use Rattle.pm_shrink.specs.FaceRows.{Faces}
 use Rattle.pm_shrink.specs.Writes.{side_number}
 use Rattle.pm_shrink.proofs.FaceTables.{length-across_of, across_written}
 use Rattle.pm_shrink.proofs.faces.FaceTable.set_across.Goals as goal

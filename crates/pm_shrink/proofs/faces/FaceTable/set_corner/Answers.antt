@@ -3,7 +3,7 @@ use Rattle.std.specs.Prelude.{option_map}
 use Rattle.std.proofs.lemmas.List.{map-set, get_or_read}
 use Rattle.pm_shrink.specs.declared.faces.Row.{Row}
 use Rattle.pm_shrink.specs.FaceRows.{no_row, row_corners}
-use Rattle.pm_shrink.specs.Tables.{Faces}
+use Rattle.pm_shrink.specs.FaceRows.{Faces}
 use Rattle.pm_shrink.specs.Writes.{with_vertex, with_corner}
 use Rattle.pm_shrink.proofs.FaceTables.{length-row_corners, corners_at, across_kept}
 use Rattle.pm_shrink.proofs.faces.FaceTable.set_corner.Goals as goal

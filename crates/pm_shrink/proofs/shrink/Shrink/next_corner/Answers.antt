@@ -2,7 +2,7 @@ use Rattle.std.proofs.Common.{◌≡◌, ◌∙◌, refl, rules, subst, ℕ}
 use Rattle.std.specs.Prelude.{option_map}
 use Rattle.pm_base.specs.declared.ids.Side.{Side}
 use Rattle.pm_links.specs.Lists.{first_of, after}
-use Rattle.pm_shrink.specs.Tables.{side_from}
+use Rattle.pm_shrink.specs.FaceRows.{side_from}
 use Rattle.pm_shrink.specs.Shrinking.{Shrinking, AreCornersAt, net_at, fan_at}
 use Rattle.pm_shrink.proofs.ReaderLaws.{next_stands}
 use Rattle.pm_shrink.proofs.shrink.Shrink.next_corner.Goals as goal
@@ -10,13 +10,13 @@ use Rattle.pm_shrink.proofs.shrink.Shrink.next_corner.Goals as goal
 pub next-requires : goal.next-requires
 next-requires c =
     let stands = rw (← c.self.view_is) at c.requires in
-    let v = side_from c.self.inside.faces.faces c.args.corner.0 in
+    let v = side_from c.self.inside.tables.faces.faces c.args.corner.0 in
     (v, ((c.self.invariant.kept.corners v).each c.args.corner.0).1 (stands, refl))
 
 pub returns-clause-value : goal.returns-clause-value
 returns-clause-value c =
     let stands = rw (← c.self.view_is) at c.requires in
-    let v : ℕ = side_from c.self.inside.faces.faces c.args.corner.0 in
+    let v : ℕ = side_from c.self.inside.tables.faces.faces c.args.corner.0 in
     let is = c.next.ensures.value v
     (((c.self.invariant.kept.corners v).each c.args.corner.0).1 (stands, refl)) in
     let same : option_map (λ (k : Side). k.0) c.map.result ≡ c.next.result = search rules in
