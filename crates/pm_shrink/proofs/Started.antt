@@ -1,5 +1,6 @@
 -- What a `Shrink` holds before the first collapse.
-use Rattle.std.proofs.Common.{◌≡◌, true, ℕ, ◌-◌, ◌*◌, ◌<◌, ◌≤◌, cond, List, [], ◌∷◌, ◌++◌, length, map}
+use Rattle.std.proofs.Common.{◌≡◌, true, ℕ, ◌-◌, ◌*◌, ◌<◌, ◌≤◌, cond, List, [], ◌∷◌, ◌++◌}
+use Rattle.std.proofs.Common.{length, map}
 use Rattle.std.proofs.lemmas.Grind.{common_steps}
 use Rattle.std.proofs.Common.{take, get_or, Option, Some, None, inl, inr, refl, sym, ap, ◌∙◌, subst}
 use Rattle.std.proofs.Common.{arith}
@@ -56,7 +57,14 @@ roomy_places m = map Some m.points ++ replicate (2 * length m.points - length m.
 taken_places : (m : Mesh) → take (length m.points) (roomy_places m) ≡ map Some m.points
 taken_places m = grind (arith, common_steps, length-map, replicate, take-append_seam)
 
--- The tables of a mesh, with no list of corners yet.
+-- The lists hold each corner of a mesh, with a list for each vertex that can come.
+pub record HoldCorners (m : Mesh) (corners : Lists) : Type 0 where
+  pub items : corners.items ≡ 3 * length m.faces
+  pub heads : length corners.lists ≡ 2 * length m.points
+  pub sound : IsSound corners
+  pub each : AreListed (map Some m.faces) (3 * length m.faces) corners
+
+-- The tables of a mesh with these lists of corners and twins.
 abbrev pub start_tables : Mesh → Lists → List (Option ℕ) → Tables
 start_tables m corners across = record {
   faces = map Some m.faces;
@@ -108,10 +116,9 @@ module _ (m : Mesh) (formed : IsWellFormed m) (manifold : IsOrientedManifold (ne
   net : Net
   net = net_of_surface (surface_of m)
 
-  kept_there : (corners : Lists) → IsSound corners
-      → AreListed (map Some m.faces) (3 * length m.faces) corners →
-      IsKept (record { surface = surface_of m; corners = corners.lists })
-  kept_there corners sound listed = record {
+  kept_there : (corners : Lists) → HoldCorners m corners
+      → IsKept (record { surface = surface_of m; corners = corners.lists })
+  kept_there corners held = record {
     short = omega (arith, length-map m.faces Some, formed.faces);
     room = omega (
       arith,
@@ -126,18 +133,17 @@ module _ (m : Mesh) (formed : IsWellFormed m) (manifold : IsOrientedManifold (ne
         manifold;
     corners = λ v. record {
       each = λ e. (
-        λ h. (let at = (listed v e).0 h in ((side_there m formed e at.0).0, at.1)),
-        λ (stands, at). (listed v e).1 (omega (arith, stands.is_side, length-map m.faces Some), at),
+        λ h. (let at = (held.each v e).0 h in ((side_there m formed e at.0).0, at.1)),
+        λ (stands, at). (held.each v e).1 (omega (arith, stands.is_side, length-map m.faces Some), at),
       );
-      once = sound.once v;
+      once = held.sound.once v;
     };
   }
 
-  pub started : (twins : Table) (corners : Lists) → IsTableOf (net_of m.faces) (length m.points) twins
-      → corners.items ≡ 3 * length m.faces → length corners.lists ≡ 2 * length m.points
-      → IsSound corners → AreListed (map Some m.faces) (3 * length m.faces) corners
+  pub started : {twins : Table} {corners : Lists}
+      → IsTableOf (net_of m.faces) (length m.points) twins → HoldCorners m corners
       → IsShrink (start_tables m corners twins.twins)
-  started twins corners table items heads sound listed =
+  started {twins} {corners} table held =
       let all : length (map Some m.faces) ≡ length m.faces = length-map m.faces Some in
       let room : length (roomy_places m) ≡ 2 * length m.points =
       grind (arith, common_steps, length-append, length-map, length-replicate, replicate) in
@@ -145,7 +151,7 @@ module _ (m : Mesh) (formed : IsWellFormed m) (manifold : IsOrientedManifold (ne
       surface_there m corners twins.twins in
       record {
         kept = subst (λ (s : Surface). IsKept (record { surface = s; corners = corners.lists }))
-            (sym there) (kept_there corners sound listed);
+            (sym there) (kept_there corners held);
         twins = subst (λ (s : Surface). IsAcross s twins.twins) (sym there)
             (let t = subst (λ (n : Net). AreTwins n twins.twins) (sym (net_there m))
             (twins_there (net_of m.faces) twins.twins table.twins) in
@@ -157,8 +163,8 @@ module _ (m : Mesh) (formed : IsWellFormed m) (manifold : IsOrientedManifold (ne
           most = omega (arith, formed.points);
           fresh = fresh_places m;
         };
-        items = omega arith;
-        heads = omega arith;
+        items = omega (arith, held.items);
+        heads = omega (arith, held.heads);
       }
 
   -- Of the faces as they are stored.

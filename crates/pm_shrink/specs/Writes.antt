@@ -1,7 +1,7 @@
 -- What a collapse writes, table by table.
 use Rattle.std.specs.Prelude.{◌≡◌, ◌≢◌, ℕ, ◌+◌, ◌-◌, ◌*◌, ◌<◌, ◌≤◌, ◌%◌, ◌==◌, cond}
-use Rattle.std.specs.Prelude.{Option, Some, None, option_map, is_some, IfSome, List, [], ◌∷◌, length}
-use Rattle.std.specs.Prelude.{slice_index_or, slice_set}
+use Rattle.std.specs.Prelude.{Option, Some, None, option_map, is_some, IfSome, List, [], ◌∷◌}
+use Rattle.std.specs.Prelude.{length, slice_index_or, slice_set}
 use Rattle.pm_base.specs.declared.limits.TheConstants.{MOST_FACES, MOST_NODES}
 use Rattle.pm_base.specs.declared.ids.Side.{Side}
 use Rattle.pm_base.specs.declared.log.Gone.{Gone}

@@ -1,12 +1,13 @@
-use Rattle.std.proofs.Common.{◌<◌, ◌∙◌, ℕ, List, Option, Some, None, length, get_or, map, ap, sym, subst}
-use Rattle.std.proofs.Common.{arith}
+use Rattle.std.proofs.Common.{◌<◌, ◌∙◌, ℕ, List, Option, Some, None, length, get_or, map}
+use Rattle.std.proofs.Common.{ap, sym, subst, arith}
 use Rattle.std.specs.Prelude.{IfSome}
 use Rattle.std.proofs.lemmas.List.{length-map}
 use Rattle.pm_base.specs.declared.limits.TheConstants.{MOST_SIDES}
 use Rattle.pm_base.specs.Meshes.{mesh_of}
 use Rattle.pm_base.specs.Sides.{net_of}
 use Rattle.pm_shrink.proofs.FollowingLaws.{start_after}
-use Rattle.pm_shrink.proofs.Started.{twins_low, corners_there, corners_within, surface_there, started}
+use Rattle.pm_shrink.proofs.Started.{HoldCorners, twins_low, corners_there, corners_within}
+use Rattle.pm_shrink.proofs.Started.{surface_there, started}
 use Rattle.pm_shrink.proofs.shrink.Shrink.filled.Goals as goal
 
 pub new-requires-clause-small : goal.new-requires-clause-small
@@ -32,12 +33,17 @@ invariant_of-result c =
     let faces = (c.in_ok-faces.ensures {u = tt}).faces ∙ ap (map Some) c.as_slice-triples.ensures in
     let across = (c.in_ok-faces.ensures {u = tt}).across ∙ c.into_sides.ensures in
     let places = rw c.as_slice-points.ensures at c.in_ok-places.ensures in
-    let corners =
+    let lists =
     rw (faces, length-map c.args.mesh.faces.items Some, c.as_slice-points.ensures) at
     (c.in_ok-corners.ensures {u = tt}) in
+    let held : HoldCorners (mesh_of c.args.mesh) c.in_ok-corners.corners = record {
+      items = lists.items;
+      heads = lists.heads;
+      sound = lists.sound;
+      each = lists.each;
+    } in
     rw (faces, across, places, c.as_slice-points.ensures, c.as_slice-triples.ensures)
-    (started (mesh_of c.args.mesh) c.requires.formed c.requires.manifold c.args.twins
-    c.in_ok-corners.corners c.requires.twins corners.items corners.heads corners.sound corners.each)
+    (started (mesh_of c.args.mesh) c.requires.formed c.requires.manifold c.requires.twins held)
 
 pub returns-clause-surface : goal.returns-clause-surface
 returns-clause-surface c =

@@ -9,6 +9,7 @@ returns-then-v-len c =
     rw (← c.self.view_is)
     (c.is_some.ensures
     ∙ ap is_some (c.index.ensures
-    ∙ get_or_default c.self.inside.tables.places.items c.args.v c.index.result.now None (omega arith)
+    ∙ get_or_default c.self.inside.tables.places.items c.args.v c.index.result.now None
+    (omega arith)
     ∙ sym (place_read c.self.inside.tables.places.items c.self.inside.tables.next c.args.v
     c.self.invariant.roomy.fresh)))
