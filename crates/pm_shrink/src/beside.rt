@@ -64,7 +64,6 @@ impl Shrink {
         ensures { IfSome result (λ e. Stands (net_at self.now) e.0
             × ((net_at self.now).from e.0 ≡ p)) }
     {
-        self.invariant();
         let mut at_p = self.corners_at(p);
         let mut at_q = self.corners_at(q);
         while let (Some(from_p), Some(from_q)) = (at_p.next(), at_q.next()) {
@@ -73,10 +72,10 @@ impl Shrink {
                 return Some(corner_p);
             }
             if self.to(corner_q) == p {
-                return Some(corner_q.next());
+                return Some(self.next_side(corner_q));
             }
             if self.third(corner_q) == p {
-                return Some(corner_q.prev());
+                return Some(self.prev_side(corner_q));
             }
         }
         None
@@ -109,12 +108,11 @@ impl Shrink {
         ensures { IfSome result (λ e. Stands (net_at self.now) e.0
             × ((net_at self.now).from e.0 ≡ (net_at self.now).from corner.0)) }
     {
-        self.invariant();
         match way {
-            Way::Left => self.twin(corner.prev()),
+            Way::Left => self.twin(self.prev_side(corner)),
             Way::Right => match self.twin(corner) {
                 None => None,
-                Some(twin) => Some(twin.next()),
+                Some(twin) => Some(self.next_side(twin)),
             },
         }
     }

@@ -49,7 +49,6 @@ impl Shrink {
         ensures { IfSome result (λ v. Stands (net_at self.now) corner.0
             × ((net_at self.now).from corner.0 ≡ v)) }
     {
-        self.invariant();
         if corner.0 as usize >= 3 * self.tables.faces.len() {
             return None;
         }
@@ -76,7 +75,6 @@ impl Shrink {
     pub(crate) fn note_all(&mut self)
         ensures { self.new ≡ self.old }
     {
-        self.invariant();
         let sides = 3 * self.tables.faces.len() as u32;
         for number in 0..sides {
             self.note_rim(Some(Side(number)));

@@ -67,13 +67,12 @@ impl Shrink {
         requires q_live { is_live_in self.now.surface q ≡ true }
         ensures { result ≡ gone_of (net_at self.now) p q }
     {
-        self.invariant();
         match self.side_to(p, q) {
             None => None,
             Some(side) => Some(Gone {
                 face: side.face(),
-                first: self.across(side.next()),
-                second: self.across(side.prev()),
+                first: self.across(self.next_side(side)),
+                second: self.across(self.prev_side(side)),
             }),
         }
     }

@@ -1,10 +1,11 @@
 //! Walks over the corners at one vertex.
-ghost use Rattle.std.specs.Prelude.{◌≡◌, ◌<◌, ◌≤◌, ℕ, ◌↔◌, ◌||◌, true, IsTrue, All, MatchOption};
-ghost use Rattle.std.specs.Prelude.{is_none};
+ghost use Rattle.std.specs.Prelude.{◌≡◌, ◌<◌, ◌≤◌, ℕ, ◌↔◌, ◌||◌, true, IsTrue, All, IfSome};
+ghost use Rattle.std.specs.Prelude.{is_none, MatchOption};
 ghost use Rattle.std.specs.Option.{option_map};
 ghost use Rattle.pm_base.specs.declared.limits.TheConstants.{MOST_SIDES};
-ghost use Rattle.pm_base.specs.Sides.{side_count, prev as prev_of, to as to_of, third as third_of};
-ghost use Rattle.pm_base.specs.Sides.{Stands, IsBorder, twin_of};
+ghost use Rattle.pm_base.specs.Sides.{side_count, next as next_of, prev as prev_of, to as to_of};
+ghost use Rattle.pm_base.specs.Sides.{third as third_of};
+ghost use Rattle.pm_base.specs.Sides.{Stands, NoSideTwice, IsBorder, twin_of};
 ghost use Rattle.pm_runs.specs.Surfaces.{is_live as is_live_in};
 ghost use Rattle.pm_runs.specs.Pairs.{Joined, IsThird, HasFace};
 ghost use Rattle.pm_runs.specs.Steps.{side_from_to};
@@ -35,27 +36,47 @@ impl Shrink {
     // The vertex from which a side runs.
     pub(crate) fn from(&self, side: Side) -> u32
         requires { Stands (net_at self.now) side.0 }
-        ensures { result ≡ (net_at self.now).from side.0 }
+        ensures value { result ≡ (net_at self.now).from side.0 }
+        ensures live { is_live_in self.now.surface result ≡ true }
     {
         self.tables.faces.from(side)
+    }
+
+    // The side that follows in the same face.
+    pub(crate) fn next_side(&self, side: Side) -> Side
+        requires { Stands (net_at self.now) side.0 }
+        ensures value { result.0 ≡ next_of side.0 }
+        ensures stands { Stands (net_at self.now) result.0 }
+    {
+        self.invariant();
+        side.next()
+    }
+
+    // The side that comes before in the same face.
+    pub(crate) fn prev_side(&self, side: Side) -> Side
+        requires { Stands (net_at self.now) side.0 }
+        ensures value { result.0 ≡ prev_of side.0 }
+        ensures stands { Stands (net_at self.now) result.0 }
+    {
+        self.next_side(self.next_side(side))
     }
 
     // The vertex to which a side runs.
     pub(crate) fn to(&self, side: Side) -> u32
         requires { Stands (net_at self.now) side.0 }
-        ensures { result ≡ to_of (net_at self.now) side.0 }
+        ensures value { result ≡ to_of (net_at self.now) side.0 }
+        ensures live { is_live_in self.now.surface result ≡ true }
     {
-        self.invariant();
-        self.from(side.next())
+        self.from(self.next_side(side))
     }
 
     // The third corner of a side's face.
     pub(crate) fn third(&self, side: Side) -> u32
         requires { Stands (net_at self.now) side.0 }
-        ensures { result ≡ third_of (net_at self.now) side.0 }
+        ensures value { result ≡ third_of (net_at self.now) side.0 }
+        ensures live { is_live_in self.now.surface result ≡ true }
     {
-        self.invariant();
-        self.from(side.prev())
+        self.from(self.prev_side(side))
     }
 
     // Whether nothing stands across a side.
@@ -73,8 +94,7 @@ impl Shrink {
         ensures { result ≡ (is_none (twin_of (net_at self.now) corner.0)
             || is_none (twin_of (net_at self.now) (prev_of corner.0))) }
     {
-        self.invariant();
-        self.is_border_side(corner) || self.is_border_side(corner.prev())
+        self.is_border_side(corner) || self.is_border_side(self.prev_side(corner))
     }
 
     // The side from p to q, if a face has one. The corners at both are walked at once, so that the
@@ -82,7 +102,9 @@ impl Shrink {
     pub(crate) fn side_to(&self, p: u32, q: u32) -> Option<Side>
         requires p_live { is_live_in self.now.surface p ≡ true }
         requires q_live { is_live_in self.now.surface q ≡ true }
-        ensures { option_map (λ s. s.0) result ≡ side_from_to (net_at self.now) p q }
+        ensures value { option_map (λ s. s.0) result ≡ side_from_to (net_at self.now) p q }
+        ensures stands { IfSome result (λ s. Stands (net_at self.now) s.0) }
+        ensures once { NoSideTwice (net_at self.now) }
     {
         self.invariant();
         let mut at_p = self.corners_at(p);
@@ -93,7 +115,7 @@ impl Shrink {
                 return Some(corner_p);
             }
             if self.third(corner_q) == p {
-                return Some(corner_q.prev());
+                return Some(self.prev_side(corner_q));
             }
         }
         None

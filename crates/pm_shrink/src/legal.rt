@@ -154,7 +154,6 @@ impl Shrink {
         requires q_live { is_live_in self.now.surface q ≡ true }
         ensures { IsTrue result ↔ IsAloneAlong (net_at self.now) p q }
     {
-        self.invariant();
         match self.side_to(p, q) {
             None => false,
             Some(side) => self.is_border_side(side) && self.is_alone_beside(side),
@@ -167,8 +166,7 @@ impl Shrink {
         ensures { result ≡ (is_none (twin_of (net_at self.now) (next_of side.0))
             && is_none (twin_of (net_at self.now) (prev_of side.0))) }
     {
-        self.invariant();
-        self.is_border_side(side.next()) && self.is_border_side(side.prev())
+        self.is_border_side(self.next_side(side)) && self.is_border_side(self.prev_side(side))
     }
 
     // (iv) No face that holds exactly one of the two turns over when that corner moves to the
@@ -197,9 +195,9 @@ impl Shrink {
             ↔ StaysUpright self.now.surface place ((net_at self.now).from corner.0)
             (to_of (net_at self.now) corner.0) (third_of (net_at self.now) corner.0) }
     {
-        self.invariant();
         let was = self.place_of(corner);
-        let (q, r) = (self.place_of(corner.next()), self.place_of(corner.prev()));
+        let q = self.place_of(self.next_side(corner));
+        let r = self.place_of(self.prev_side(corner));
         is_at_least_zero(dot_of_normals(place, was, q, r))
     }
 
@@ -208,7 +206,6 @@ impl Shrink {
         requires { Stands (net_at self.now) corner.0 }
         ensures { result ≡ place_at self.now.surface ((net_at self.now).from corner.0) }
     {
-        self.invariant();
         self.place(self.from(corner))
     }
 }

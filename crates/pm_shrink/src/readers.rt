@@ -77,7 +77,6 @@ impl Shrink {
         requires { side.0 < side_count (net_at self.now) }
         ensures { IsTrue result ↔ Stands (net_at self.now) side.0 }
     {
-        self.invariant();
         self.tables.corners.head_of(side.0).is_some()
     }
 

@@ -93,12 +93,12 @@ impl Shrink {
             (λ e. Stands (net_at self.now) e.0
             × Strays (net_at self.now) a b ((net_at self.now).from e.0)) }
     {
-        self.invariant();
         if self.is_stray(a, b, self.to(corner)) {
-            return Some(corner.next());
+            return Some(self.next_side(corner));
         }
-        if self.is_border_side(corner.prev()) && self.is_stray(a, b, self.third(corner)) {
-            return Some(corner.prev());
+        let before = self.prev_side(corner);
+        if self.is_border_side(before) && self.is_stray(a, b, self.third(corner)) {
+            return Some(before);
         }
         None
     }
@@ -111,7 +111,6 @@ impl Shrink {
         ensures { MatchOption result (ShareNoTriangle (net_at self.now) a b)
             (λ e. Stands (net_at self.now) e.0 × TellsTriangle (net_at self.now) a b e.0) }
     {
-        self.invariant();
         let (Some(left), Some(right)) = (self.side_to(a, b), self.side_to(b, a)) else {
             return None;
         };
@@ -129,7 +128,6 @@ impl Shrink {
         ensures { MatchOption result (AreNotAlone (net_at self.now) a b)
             (λ e. Stands (net_at self.now) e.0 × IsAlone (net_at self.now) a b e.0) }
     {
-        self.invariant();
         if self.is_alone_along(a, b) {
             return self.side_to(a, b);
         }

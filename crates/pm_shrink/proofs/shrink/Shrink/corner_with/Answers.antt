@@ -1,7 +1,6 @@
-use Rattle.std.proofs.Common.{◌≡◌, ◌∙◌, ℕ, sym, subst, arith}
+use Rattle.std.proofs.Common.{◌≡◌, ◌∙◌, sym, ap, arith}
 use Rattle.std.proofs.lemmas.List.Elements.{All-tail}
-use Rattle.pm_base.specs.Sides.{Net, next, Stands}
-use Rattle.pm_base.proofs.Sides.{stands_next}
+use Rattle.pm_base.specs.Sides.{Net, Stands}
 use Rattle.pm_shrink.specs.Shrinking.{net_at}
 use Rattle.pm_shrink.proofs.shrink.Shrink.corner_with.Goals as goal
 
@@ -27,43 +26,29 @@ third-requires c =
     (rw (c.in-Some-Some.ensures' {u = tt}).steps at c.loop-from_p.invariant.stand_q) 0 0
     (omega arith)
 
-pub next-requires-then-to-p : goal.next-requires-then-to-p
-next-requires-then-to-p c =
-    let stands : Stands (net_at c.args.self.now) c.in-Some-Some.from_q =
+pub next_side-requires : goal.next_side-requires
+next_side-requires c =
     (rw (c.in-Some-Some.ensures' {u = tt}).steps at c.loop-from_p.invariant.stand_q) 0 0
-    (omega arith) in
-    let l = stands.is_side in
-    let few = c.invariant.ensures.few_sides in
-    omega arith
+    (omega arith)
 
-pub prev-requires : goal.prev-requires
-prev-requires c =
-    let stands : Stands (net_at c.args.self.now) c.in-Some-Some.from_q =
+pub prev_side-requires : goal.prev_side-requires
+prev_side-requires c =
     (rw (c.in-Some-Some.ensures' {u = tt}).steps at c.loop-from_p.invariant.stand_q) 0 0
-    (omega arith) in
-    let l = stands.is_side in
-    let few = c.invariant.ensures.few_sides in
-    omega arith
+    (omega arith)
 
 pub returns-then-to-p : goal.returns-then-to-p
-returns-then-to-p c =
-    let m : Net = net_at c.args.self.now in
-    let stands : Stands m c.in-Some-Some.from_q =
-    (rw (c.in-Some-Some.ensures' {u = tt}).steps at c.loop-from_p.invariant.stand_q) 0 0
-    (omega arith) in
-    subst (λ (e : ℕ). Stands m e × (m.from e ≡ c.args.p)) (sym c.next-then-to-p.ensures.value)
-    (stands_next m c.in-Some-Some.from_q stands, sym c.to.ensures ∙ c.if-to-p.true)
+returns-then-to-p c = (
+  c.next_side.ensures.stands,
+  ap (net_at c.args.self.now).from c.next_side.ensures.value ∙ sym c.to.ensures.value
+      ∙ c.if-to-p.true,
+)
 
 pub returns-then-third-p : goal.returns-then-third-p
-returns-then-third-p c =
-    let m : Net = net_at c.args.self.now in
-    let stands : Stands m c.in-Some-Some.from_q =
-    (rw (c.in-Some-Some.ensures' {u = tt}).steps at c.loop-from_p.invariant.stand_q) 0 0
-    (omega arith) in
-    subst (λ (e : ℕ). Stands m e × (m.from e ≡ c.args.p)) (sym c.prev.ensures.value) (
-      stands_next m (next c.in-Some-Some.from_q) (stands_next m c.in-Some-Some.from_q stands),
-      sym c.third.ensures ∙ c.if-third-p.true,
-    )
+returns-then-third-p c = (
+  c.prev_side.ensures.stands,
+  ap (net_at c.args.self.now).from c.prev_side.ensures.value ∙ sym c.third.ensures.value
+      ∙ c.if-third-p.true,
+)
 
 pub loop-from_p-preserved : goal.loop-from_p-preserved
 loop-from_p-preserved c =

@@ -11,8 +11,11 @@ use Rattle.pm_shrink.proofs.shrink.Shrink.has_side.Goals as goal
 pub returns : goal.returns
 returns c =
     let m : Net = net_at c.args.self.now in (
-      λ t. (let (e, is) = some_from c.side_to.result (sym c.is_some.ensures ∙ t) in
-          (e.0, found-runs m c.args.p c.args.q e.0 (sym c.side_to.ensures ∙ ap side_number is))),
+      λ t. (let (e, is) = some_from c.side_to.result (sym c.is_some.ensures ∙ t) in (
+        e.0,
+        found-runs m c.args.p c.args.q e.0 (sym c.side_to.ensures.value ∙ ap side_number is),
+      )),
       λ (e, r). (let (k, is) = runs-has m c.args.p c.args.q e r in
-          c.is_some.ensures ∙ some_numbered c.side_to.result ∙ ap is_some (c.side_to.ensures ∙ is)),
+          c.is_some.ensures ∙ some_numbered c.side_to.result
+          ∙ ap is_some (c.side_to.ensures.value ∙ is)),
     )

@@ -12,21 +12,11 @@ use Rattle.pm_shrink.specs.Writes.{side_number}
 use Rattle.pm_shrink.proofs.FanLaws.{border-side}
 use Rattle.pm_shrink.proofs.shrink.Shrink.is_alone_along.Goals as goal
 
-pub is_border_side-requires : goal.is_border_side-requires
-is_border_side-requires c =
-    (found-runs (net_at c.args.self.now) c.args.p c.args.q c.in-Some.side.0 (sym c.side_to.ensures
-    ∙ ap side_number c.in-Some.is)).stands
-
-pub is_alone_beside-requires : goal.is_alone_beside-requires
-is_alone_beside-requires c =
-    (found-runs (net_at c.args.self.now) c.args.p c.args.q c.in-Some.side.0 (sym c.side_to.ensures
-    ∙ ap side_number c.in-Some.is)).stands
-
 pub returns-in-None : goal.returns-in-None
 returns-in-None c = (
   λ t. absurd (false≢true t),
   λ (e, r, x, y, z). absurd
-      (none-side (net_at c.args.self.now) c.args.p c.args.q (sym c.side_to.ensures
+      (none-side (net_at c.args.self.now) c.args.p c.args.q (sym c.side_to.ensures.value
       ∙ ap side_number c.in-None.is) (e, r)),
 )
 
@@ -34,7 +24,7 @@ pub returns-then-is_border_side : goal.returns-then-is_border_side
 returns-then-is_border_side c =
     let m : Net = net_at c.args.self.now in
     let e : ℕ = c.in-Some.side.0 in
-    let found = sym c.side_to.ensures ∙ ap side_number c.in-Some.is in
+    let found = sym c.side_to.ensures.value ∙ ap side_number c.in-Some.is in
     let r = found-runs m c.args.p c.args.q e found in
     let one = stands_next m e r.stands in
     let two = stands_next m (next e) one in
@@ -51,7 +41,7 @@ returns-then-is_border_side c =
       λ (g, w, x, y, z). (
           let same : g ≡ e =
           same_Some g e
-          (sym (runs-found m c.args.p c.args.q c.invariant.ensures.kept.proper.once g w)
+          (sym (runs-found m c.args.p c.args.q c.side_to.ensures.once g w)
           ∙ found) in
           c.is_alone_beside.ensures ∙ and_from first second
           ((border-side m (next e) one).1 (subst (λ (k : ℕ). IsBorderSide m (next k)) same y))
@@ -62,13 +52,13 @@ pub returns-else-is_border_side : goal.returns-else-is_border_side
 returns-else-is_border_side c =
     let m : Net = net_at c.args.self.now in
     let e : ℕ = c.in-Some.side.0 in
-    let found = sym c.side_to.ensures ∙ ap side_number c.in-Some.is in
+    let found = sym c.side_to.ensures.value ∙ ap side_number c.in-Some.is in
     let r = found-runs m c.args.p c.args.q e found in (
       λ t. absurd (false≢true (sym c.if-is_border_side.false ∙ t)),
       λ (g, w, x, y, z). (
           let same : g ≡ e =
           same_Some g e
-          (sym (runs-found m c.args.p c.args.q c.invariant.ensures.kept.proper.once g w)
+          (sym (runs-found m c.args.p c.args.q c.side_to.ensures.once g w)
           ∙ found) in
           c.is_border_side.ensures ∙ (border-side m e r.stands).1 (subst (IsBorderSide m) same x)),
     )

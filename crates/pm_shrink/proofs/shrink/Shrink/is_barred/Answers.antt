@@ -9,5 +9,5 @@ returns-then-has_rim c = λ t.
     let m : Net = net_at c.args.self.now in
     side_barred m c.args.side.0 c.requires (sym c.is_border_side.ensures
     ∙ c.if-is_border_side.false)
-    (subst (IsBorder m) c.from.ensures (c.has_rim.ensures c.if-has_rim.true))
-    (subst (IsBorder m) c.to.ensures (c.has_rim-then-has_rim.ensures t))
+    (subst (IsBorder m) c.from.ensures.value (c.has_rim.ensures c.if-has_rim.true))
+    (subst (IsBorder m) c.to.ensures.value (c.has_rim-then-has_rim.ensures t))

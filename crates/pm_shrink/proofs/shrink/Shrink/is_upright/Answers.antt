@@ -1,25 +1,9 @@
 use Rattle.std.proofs.Common.{◌∙◌, sym, subst}
-use Rattle.pm_base.specs.Sides.{Net, next, Stands}
-use Rattle.pm_shrink.specs.Shrinking.{net_at}
 use Rattle.std.proofs.Common.{rules, FitsSigned}
 use Rattle.std.proofs.lemmas.Int.{to_z-of_z}
 use mir.Syntax.{w128}
 use Rattle.std.specs.Prelude.{ℤ, pos, ◌≤ℤ◌}
-use Rattle.pm_base.proofs.Sides.{stands_next}
 use Rattle.pm_shrink.proofs.shrink.Shrink.is_upright.Goals as goal
-
-pub place_of-q-requires : goal.place_of-q-requires
-place_of-q-requires c =
-    (let m : Net =
-    net_at c.args.self.now in
-    subst (Stands m) (sym c.next.ensures.value) (stands_next m c.args.corner.0 c.requires))
-
-pub place_of-r-requires : goal.place_of-r-requires
-place_of-r-requires c =
-    (let m : Net =
-    net_at c.args.self.now in
-    subst (Stands m) (sym c.prev.ensures.value)
-    (stands_next m (next c.args.corner.0) (stands_next m c.args.corner.0 c.requires)))
 
 pub returns : goal.returns
 returns c =
@@ -29,8 +13,8 @@ returns c =
       c.place_of-was.ensures,
       c.place_of-q.ensures,
       c.place_of-r.ensures,
-      c.next.ensures.value,
-      c.prev.ensures.value,
+      c.next_side.ensures.value,
+      c.prev_side.ensures.value,
     ) at c.dot_of_normals.ensures in (
       λ t. subst (λ (z : ℤ). pos 0 ≤ℤ z) value (c.is_at_least_zero.ensures.0 t),
       λ up. c.is_at_least_zero.ensures.1 (subst (λ (z : ℤ). pos 0 ≤ℤ z) (sym value) up),

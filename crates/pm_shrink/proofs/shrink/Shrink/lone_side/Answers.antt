@@ -7,8 +7,8 @@ use Rattle.pm_shrink.proofs.shrink.Shrink.lone_side.Goals as goal
 pub returns-then-is_alone_along : goal.returns-then-is_alone_along
 returns-then-is_alone_along c =
     let m : Net = net_at c.args.self.now in
-    alone_found m c.args.a c.args.b c.invariant.ensures.kept.proper.once
-    (c.is_alone_along.ensures.0 c.if-is_alone_along.true) c.side_to.result c.side_to.ensures
+    alone_found m c.args.a c.args.b c.side_to.ensures.once
+    (c.is_alone_along.ensures.0 c.if-is_alone_along.true) c.side_to.result c.side_to.ensures.value
     (AreNotAlone m c.args.a c.args.b)
 
 pub returns-then-is_alone_along-2 : goal.returns-then-is_alone_along-2
@@ -16,7 +16,7 @@ returns-then-is_alone_along-2 c =
     let m : Net = net_at c.args.self.now in
     alone_back m c.args.a c.args.b c.side_to-then-is_alone_along-2.result
     (AreNotAlone m c.args.a c.args.b)
-    (alone_found m c.args.b c.args.a c.invariant.ensures.kept.proper.once
+    (alone_found m c.args.b c.args.a c.side_to-then-is_alone_along-2.ensures.once
     (c.is_alone_along-2.ensures.0 c.if-is_alone_along-2.true)
-    c.side_to-then-is_alone_along-2.result c.side_to-then-is_alone_along-2.ensures
+    c.side_to-then-is_alone_along-2.result c.side_to-then-is_alone_along-2.ensures.value
     (AreNotAlone m c.args.a c.args.b))

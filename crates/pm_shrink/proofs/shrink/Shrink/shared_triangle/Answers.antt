@@ -9,39 +9,39 @@ use Rattle.pm_shrink.proofs.shrink.Shrink.shared_triangle.Goals as goal
 
 pub returns-in_default : goal.returns-in_default
 returns-in_default c e g r w f k =
-    none-side (net_at c.args.self.now) c.args.b c.args.a (sym c.side_to-2.ensures
+    none-side (net_at c.args.self.now) c.args.b c.args.a (sym c.side_to-2.ensures.value
     ∙ ap side_number c.in_default.is-1) (g, w)
 
 pub returns-in_default-2 : goal.returns-in_default-2
 returns-in_default-2 c e g r w f k =
-    none-side (net_at c.args.self.now) c.args.a c.args.b (sym c.side_to.ensures
+    none-side (net_at c.args.self.now) c.args.a c.args.b (sym c.side_to.ensures.value
     ∙ ap side_number c.in_default.is-0) (e, r)
 
 pub third-v-requires : goal.third-v-requires
 third-v-requires c =
     (found-runs (net_at c.args.self.now) c.args.a c.args.b c.in-Some-Some.left.0
-    (sym c.side_to.ensures ∙ ap side_number c.in-Some-Some.is-0)).stands
+    (sym c.side_to.ensures.value ∙ ap side_number c.in-Some-Some.is-0)).stands
 
 pub third-w-requires : goal.third-w-requires
 third-w-requires c =
     (found-runs (net_at c.args.self.now) c.args.b c.args.a c.in-Some-Some.right.0
-    (sym c.side_to-2.ensures ∙ ap side_number c.in-Some-Some.is-1)).stands
+    (sym c.side_to-2.ensures.value ∙ ap side_number c.in-Some-Some.is-1)).stands
 
 pub returns-then-not-has_face : goal.returns-then-not-has_face
 returns-then-not-has_face c =
     let m : Net = net_at c.args.self.now in
-    let found = rw (c.third-v.ensures, c.third-w.ensures) at c.has_face.ensures in
-    only_triangle m c.args.a c.args.b c.invariant.ensures.kept.proper.once c.in-Some-Some.left.0
-    c.in-Some-Some.right.0 (sym c.side_to.ensures ∙ ap side_number c.in-Some-Some.is-0)
-    (sym c.side_to-2.ensures ∙ ap side_number c.in-Some-Some.is-1)
+    let found = rw (c.third-v.ensures.value, c.third-w.ensures.value) at c.has_face.ensures in
+    only_triangle m c.args.a c.args.b c.side_to.ensures.once c.in-Some-Some.left.0
+    c.in-Some-Some.right.0 (sym c.side_to.ensures.value ∙ ap side_number c.in-Some-Some.is-0)
+    (sym c.side_to-2.ensures.value ∙ ap side_number c.in-Some-Some.is-1)
     (λ f k. false≢true (sym c.if-not-has_face.true ∙ found.1 k))
 
 pub returns : goal.returns
 returns c =
     let m : Net = net_at c.args.self.now in
-    let found = rw (c.third-v.ensures, c.third-w.ensures) at c.has_face.ensures in
-    let with = rw (c.third-v.ensures, c.third-w.ensures) at c.face_with.ensures in
-    triangle_told m c.args.a c.args.b c.invariant.ensures.kept.proper.once c.in-Some-Some.left.0
-    c.in-Some-Some.right.0 (sym c.side_to.ensures ∙ ap side_number c.in-Some-Some.is-0)
-    (sym c.side_to-2.ensures ∙ ap side_number c.in-Some-Some.is-1)
+    let found = rw (c.third-v.ensures.value, c.third-w.ensures.value) at c.has_face.ensures in
+    let with = rw (c.third-v.ensures.value, c.third-w.ensures.value) at c.face_with.ensures in
+    triangle_told m c.args.a c.args.b c.side_to.ensures.once c.in-Some-Some.left.0
+    c.in-Some-Some.right.0 (sym c.side_to.ensures.value ∙ ap side_number c.in-Some-Some.is-0)
+    (sym c.side_to-2.ensures.value ∙ ap side_number c.in-Some-Some.is-1)
     (found.0 c.if-not-has_face.false) c.face_with.result with

@@ -35,17 +35,18 @@ third-requires c =
     (rw (c.in-Some-Some.ensures' {u = tt}).steps at c.loop-from_p.invariant.stand_q) 0 0
     (omega arith)
 
-pub prev-requires : goal.prev-requires
-prev-requires c =
-    let stands : Stands (net_at c.args.self.now) c.in-Some-Some.from_q =
+pub prev_side-requires : goal.prev_side-requires
+prev_side-requires c =
     (rw (c.in-Some-Some.ensures' {u = tt}).steps at c.loop-from_p.invariant.stand_q) 0 0
-    (omega arith) in
-    let l = stands.is_side in
-    let few = c.invariant.ensures.few_sides in
-    omega arith
+    (omega arith)
 
-pub returns-then-to-q : goal.returns-then-to-q
-returns-then-to-q c =
+pub returns-then-to-q-clause-stands : goal.returns-then-to-q-clause-stands
+returns-then-to-q-clause-stands c =
+    (rw (c.in-Some-Some.ensures {u = tt}).steps at c.loop-from_p.invariant.stand_p) 0 0
+    (omega arith)
+
+pub returns-then-to-q-clause-value : goal.returns-then-to-q-clause-value
+returns-then-to-q-clause-value c =
     let m : Net = net_at c.args.self.now in
     let steps = (c.in-Some-Some.ensures {u = tt}).steps in
     let e : ℕ = c.in-Some-Some.from_p in
@@ -53,21 +54,21 @@ returns-then-to-q c =
     let start : m.from e ≡ c.args.p =
     (rw steps at c.loop-from_p.invariant.start_p) 0 0 (omega arith) in
     sym (runs-found m c.args.p c.args.q c.invariant.ensures.kept.proper.once e
-    (record { stands = stands; begins = start; ends = sym c.to.ensures ∙ c.if-to-q.true }))
+    (record { stands = stands; begins = start; ends = sym c.to.ensures.value ∙ c.if-to-q.true }))
 
-pub returns-then-third-p : goal.returns-then-third-p
-returns-then-third-p c =
+pub returns-then-third-p-clause-value : goal.returns-then-third-p-clause-value
+returns-then-third-p-clause-value c =
     let m : Net = net_at c.args.self.now in
     let steps = (c.in-Some-Some.ensures' {u = tt}).steps in
     let e : ℕ = c.in-Some-Some.from_q in
     let stands : Stands m e = (rw steps at c.loop-from_p.invariant.stand_q) 0 0 (omega arith) in
     let start : m.from e ≡ c.args.q =
     (rw steps at c.loop-from_p.invariant.start_q) 0 0 (omega arith) in
-    let is_third : third m e ≡ c.args.p = sym c.third.ensures ∙ c.if-third-p.true in
+    let is_third : third m e ≡ c.args.p = sym c.third.ensures.value ∙ c.if-third-p.true in
     let back : Runs m (prev e) c.args.p c.args.q =
     runs_last m e c.args.q (to m e) c.args.p
     (record { stands = stands; begins = start; ends = λ i. to m e }) is_third in
-    ap Some c.prev.ensures.value
+    ap Some c.prev_side.ensures.value
     ∙ sym (runs-found m c.args.p c.args.q c.invariant.ensures.kept.proper.once (prev e) back)
 
 pub loop-from_p-preserved : goal.loop-from_p-preserved
@@ -80,10 +81,10 @@ loop-from_p-preserved c =
     record {
       left_p = walk_on (λ e. eqb (to m e) c.args.q) (fan_at c.args.self.now c.args.p)
           c.loop-from_p.at_p e c.next.new.self c.loop-from_p.invariant.left_p steps_p
-          (ne_eqb (to m e) c.args.q (λ is. c.if-to-q.false (c.to.ensures ∙ is)));
+          (ne_eqb (to m e) c.args.q (λ is. c.if-to-q.false (c.to.ensures.value ∙ is)));
       left_q = walk_on (λ e. eqb (third m e) c.args.p) (fan_at c.args.self.now c.args.q)
           c.loop-from_p.at_q g c.next-in-loop-from_p.new.self c.loop-from_p.invariant.left_q steps_q
-          (ne_eqb (third m g) c.args.p (λ is. c.if-third-p.false (c.third.ensures ∙ is)));
+          (ne_eqb (third m g) c.args.p (λ is. c.if-third-p.false (c.third.ensures.value ∙ is)));
       stand_p = All-tail (Stands m) e c.next.new.self
           (rw steps_p at c.loop-from_p.invariant.stand_p);
       stand_q = All-tail (Stands m) g c.next-in-loop-from_p.new.self
@@ -95,8 +96,8 @@ loop-from_p-preserved c =
     }
 
 -- The corners at q have all been seen,
-pub returns-in_default : goal.returns-in_default
-returns-in_default c =
+pub returns-in_default-clause-value : goal.returns-in_default-clause-value
+returns-in_default-clause-value c =
     let m : Net = net_at c.args.self.now in
     let q = c.corners_at-at_q.ensures in
     let fan = fan_at c.args.self.now c.args.q in
@@ -110,8 +111,8 @@ returns-in_default c =
     (eq-eqb (third m (next e)) c.args.p (third_next m e ∙ r.begins)))))
 
 -- or those at p.
-pub returns-in_default-2 : goal.returns-in_default-2
-returns-in_default-2 c =
+pub returns-in_default-2-clause-value : goal.returns-in_default-2-clause-value
+returns-in_default-2-clause-value c =
     let m : Net = net_at c.args.self.now in
     let p = c.corners_at-at_p.ensures in
     let fan = fan_at c.args.self.now c.args.p in

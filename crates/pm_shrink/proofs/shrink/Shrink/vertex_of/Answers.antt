@@ -1,6 +1,6 @@
 use Rattle.std.proofs.Common.{◌≡◌, ◌↔◌, ℕ, true, Some, subst}
 use Rattle.pm_links.specs.Lists.{has}
-use Rattle.pm_shrink.specs.Shrinking.{Shrinking, net_at, fan_at}
+use Rattle.pm_shrink.specs.Shrinking.{Shrinking, net_at, fan_at, AreCornersAt}
 use Rattle.pm_shrink.proofs.BorderLaws.{held_at}
 use Rattle.pm_shrink.proofs.shrink.Shrink.vertex_of.Goals as goal
 
@@ -9,4 +9,5 @@ returns c =
     let heads = subst (λ (s : Shrinking). (v : ℕ) → (c.head_of.result ≡ Some v)
     ↔ (has (fan_at s v) c.args.corner.0 ≡ true)) c.self.view_is c.head_of.ensures.value in
     held_at (net_at c.args.self.now) (fan_at c.args.self.now) c.args.corner.0
-    c.invariant.ensures.kept.corners c.head_of.result heads
+    (subst (λ (s : Shrinking). (v : ℕ) → AreCornersAt (net_at s) v (fan_at s v)) c.self.view_is
+    c.self.invariant.kept.corners) c.head_of.result heads
