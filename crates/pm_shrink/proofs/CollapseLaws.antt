@@ -120,7 +120,11 @@ module _ {t : Tables} {c : Collapse} (kept : IsShrink t) (step : IsStep (surface
   can_drop_right {one} is = subst (λ (x : Tables). CanDrop x c.right) (sym is) can_drop_next
 
   -- The tables without the faces that go.
-  module _ {two : Tables} (gone : two ≡ without_gone (without_gone t c.left) c.right) where
+  module _ {one two : Tables} (left : one ≡ without_gone t c.left)
+      (right : two ≡ without_gone one c.right) where
+    gone : two ≡ without_gone (without_gone t c.left) c.right
+    gone = right ∙ ap (λ (x : Tables). without_gone x c.right) left
+
     pub gone_lists : (h : ℕ) → list_of two.corners h
         ≡ unlisted c.right (unlisted c.left (list_of t.corners h))
     gone_lists h =

@@ -1,6 +1,8 @@
 -- The lists of corners after a collapse.
-use Rattle.std.proofs.Common.{◌≡◌, ◌≢◌, ◌↔◌, ℕ, true, ◌||◌, [], ◌++◌, ◌⊎◌, inl, inr}
+use Rattle.std.proofs.Common.{◌≡◌, ◌≢◌, ◌↔◌, ℕ, Bool, true, ◌||◌, [], ◌++◌, ◌⊎◌, inl, inr}
 use Rattle.std.proofs.Common.{refl, sym, ap, ◌∙◌, subst}
+use Rattle.std.proofs.lemmas.Grind.{common_steps}
+use Rattle.std.proofs.Common.{arith}
 use Rattle.std.proofs.lemmas.Bool.{cases_eq, or_cases, or_left, or_right, false≢true}
 use Rattle.pm_base.specs.Sides.{Net, face_of, Stands, NoSideTwice}
 use Rattle.pm_links.specs.Lists.{Lists, list_of, has, IsSound}
@@ -32,6 +34,17 @@ pub record AreMerged (a b k : ℕ) (mid one last : Lists) : Type 0 where
   pub b_not : b ≢ k
   pub first : AfterMove mid one a k
   pub second : AfterMove one last b k
+
+-- Both ends become the new vertex.
+merge_ends : (a b k : ℕ) → (merge a b k a ≡ k) × (merge a b k b ≡ k)
+merge_ends a b k = merge-pair a b k a b (inl (refl, refl))
+
+one_or_none : (a b x : ℕ) → ((x ≡ a) ⊎ (x ≡ b)) ⊎ ((x ≢ a) × (x ≢ b))
+one_or_none a b x = grind (arith, common_steps, cases_eq x a, cases_eq x b)
+
+three_ways : (x y z : Bool) → (x || (y || z)) ≡ true
+    → (x ≡ true) ⊎ ((y ≡ true) ⊎ (z ≡ true))
+three_ways x y z h = grind (arith, common_steps, or_cases)
 
 module _ {m n : Net} {a b k : ℕ} {before mid : Lists} (w : AreDropped m n a b k before mid) where
   -- Between the drops and the renaming: the corners that stay, at their old vertices.
@@ -79,94 +92,65 @@ module _ {m n : Net} {a b k : ℕ} {before mid : Lists} (w : AreDropped m n a b 
     fresh_mid : (e : ℕ) → Stands n e → m.from e ≢ k
     fresh_mid e st = w.fresh e (w.drops.stood e st)
 
-    new_to : (e : ℕ) → has (list_of last k) e ≡ true
-        → Stands n e × (n.from e ≡ k)
-    new_to e h =
-        let split = has-append (list_of mid b) (list_of mid a ++ list_of mid k) e in
-        let split2 = has-append (list_of mid a) (list_of mid k) e in
-        let all : (has (list_of mid b) e ||
-        (has (list_of mid a) e || has (list_of mid k) e)) ≡ true =
-        ap (λ k. has (list_of mid b) e || k) (sym split2) ∙ sym split
-        ∙ ap (λ k. has k e) (sym last_new) ∙ h in
-        elim (or_cases (has (list_of mid b) e)
-        (has (list_of mid a) e || has (list_of mid k) e) all) [
-          | inl x ↦ (let (st, at) =
-              (mid_each b e).0 x in (
-                st,
-                w.drops.corners e st ∙ ap (merge a b k) at
-                    ∙ (merge-pair a b k a b (inl (refl, refl))).1,
-              ))
-          | inr y ↦
-              elim (or_cases (has (list_of mid a) e) (has (list_of mid k) e) y) [
-                | inl x ↦ (let (st, at) =
-                    (mid_each a e).0 x in (
-                      st,
-                      w.drops.corners e st ∙ ap (merge a b k) at
-                          ∙ (merge-pair a b k a b (inl (refl, refl))).0,
-                    ))
-                | inr x ↦ (let (st, at) =
-                    (mid_each k e).0 x in absurd (fresh_mid e st at))
-              ]
+    -- A corner of one of the two is at the new vertex,
+    lands : (e : ℕ) → Stands n e → (m.from e ≡ a) ⊎ (m.from e ≡ b) → n.from e ≡ k
+    lands e st (inl at) = w.drops.corners e st ∙ ap (merge a b k) at ∙ (merge_ends a b k).0
+    lands e st (inr at) = w.drops.corners e st ∙ ap (merge a b k) at ∙ (merge_ends a b k).1
+
+    -- and each other one stays where it was.
+    stays : (e : ℕ) → Stands n e → m.from e ≢ a → m.from e ≢ b → n.from e ≡ m.from e
+    stays e st na nb = w.drops.corners e st ∙ merge-other a b k (m.from e) na nb
+
+    was_one : (e : ℕ) → Stands n e → n.from e ≡ k → (m.from e ≡ a) ⊎ (m.from e ≡ b)
+    was_one e st at =
+        elim (one_or_none a b (m.from e)) [
+          | inl way ↦ way
+          | inr (na, nb) ↦ absurd (fresh_mid e st (sym (stays e st na nb) ∙ at))
         ]
 
-    new_from : (e : ℕ) → Stands n e → n.from e ≡ k
-        → has (list_of last k) e ≡ true
+    at_new : (e : ℕ) → has (list_of last k) e
+        ≡ (has (list_of mid b) e || (has (list_of mid a) e || has (list_of mid k) e))
+    at_new e = grind (arith, common_steps, last_new, has-append)
+
+    new_to : (e : ℕ) → has (list_of last k) e ≡ true → Stands n e × (n.from e ≡ k)
+    new_to e h =
+        elim (three_ways (has (list_of mid b) e) (has (list_of mid a) e) (has (list_of mid k) e)
+        (sym (at_new e) ∙ h)) [
+          | inl x ↦ (let (st, at) = (mid_each b e).0 x in (st, lands e st (inr at)))
+          | inr (inl x) ↦ (let (st, at) = (mid_each a e).0 x in (st, lands e st (inl at)))
+          | inr (inr x) ↦ (let (st, at) = (mid_each k e).0 x in absurd (fresh_mid e st at))
+        ]
+
+    new_from : (e : ℕ) → Stands n e → n.from e ≡ k → has (list_of last k) e ≡ true
     new_from e st at =
-        let split = has-append (list_of mid b) (list_of mid a ++ list_of mid k) e in
-        let split2 = has-append (list_of mid a) (list_of mid k) e in
-        ap (λ k. has k e) last_new ∙ split ∙ elim (cases_eq (m.from e) b) [
-          | inl is ↦ or_left (has (list_of mid b) e)
-              (has (list_of mid a ++ list_of mid k) e) ((mid_each b e).1 (st, is))
-          | inr nb ↦ or_right (has (list_of mid b) e)
-              (has (list_of mid a ++ list_of mid k) e)
-              (split2 ∙ elim (cases_eq (m.from e) a) [
-                | inl is ↦ or_left (has (list_of mid a) e) (has (list_of mid k) e)
-                    ((mid_each a e).1 (st, is))
-                | inr na ↦ absurd
-                    (fresh_mid e st (sym (merge-other a b k (m.from e) na nb)
-                    ∙ sym (w.drops.corners e st) ∙ at))
-              ])
+        at_new e ∙ elim (was_one e st at) [
+          | inl is ↦ or_right (has (list_of mid b) e) (has (list_of mid a) e || has (list_of mid k) e)
+              (or_left (has (list_of mid a) e) (has (list_of mid k) e) ((mid_each a e).1 (st, is)))
+          | inr is ↦ or_left (has (list_of mid b) e) (has (list_of mid a) e || has (list_of mid k) e)
+              ((mid_each b e).1 (st, is))
         ]
 
     -- A corner at a vertex that stays.
-    other_at : (v e : ℕ) → v ≢ a → v ≢ b → v ≢ k → Stands n e
-        → (n.from e ≡ v) ↔ (m.from e ≡ v)
-    other_at v e x y z st = (
-      λ at. elim (cases_eq (m.from e) a) [
-        | inl is ↦ absurd
-            (z (sym at ∙ w.drops.corners e st ∙ ap (merge a b k) is
-            ∙ (merge-pair a b k a b (inl (refl, refl))).0))
-        | inr na ↦ elim (cases_eq (m.from e) b) [
-          | inl is ↦ absurd
-              (z (sym at ∙ w.drops.corners e st ∙ ap (merge a b k) is
-              ∙ (merge-pair a b k a b (inl (refl, refl))).1))
-          | inr nb ↦ sym (merge-other a b k (m.from e) na nb)
-              ∙ sym (w.drops.corners e st) ∙ at
+    other_at : (v e : ℕ) → v ≢ a → v ≢ b → v ≢ k → Stands n e → (n.from e ≡ v) ↔ (m.from e ≡ v)
+    other_at v e x y z st =
+        elim (one_or_none a b (m.from e)) [
+          | inl way ↦ (
+            λ at. absurd (z (sym at ∙ lands e st way)),
+            λ at. absurd (elim way [ inl is ↦ x (sym at ∙ is) | inr is ↦ y (sym at ∙ is) ]),
+          )
+          | inr (na, nb) ↦ (λ at. sym (stays e st na nb) ∙ at, λ at. stays e st na nb ∙ at)
         ]
-      ],
-      λ at. w.drops.corners e st
-          ∙ merge-other a b k (m.from e) (λ is. x (sym at ∙ is))
-          (λ is. y (sym at ∙ is)) ∙ at,
-    )
 
     -- No corner is at one of the two any more.
     none_at : (v e : ℕ) → (v ≡ a) ⊎ (v ≡ b) → Stands n e → n.from e ≡ v → ⊥
     none_at v e which st at =
-        let v_not : v ≢ k =
-        λ is. elim which [ inl k ↦ put.a_not (sym k ∙ is) | inr k ↦ put.b_not (sym k ∙ is) ] in
-        elim (cases_eq (m.from e) a) [
-          | inl is ↦ v_not (sym at ∙ w.drops.corners e st ∙ ap (merge a b k) is
-              ∙ (merge-pair a b k a b (inl (refl, refl))).0)
-          | inr na ↦
-              elim (cases_eq (m.from e) b) [
-                | inl is ↦ v_not (sym at ∙ w.drops.corners e st ∙ ap (merge a b k) is
-                    ∙ (merge-pair a b k a b (inl (refl, refl))).1)
-                | inr nb ↦
-                    let same : m.from e ≡ v =
-                    sym (merge-other a b k (m.from e) na nb)
-                    ∙ sym (w.drops.corners e st) ∙ at in
-                    elim which [ inl k ↦ na (same ∙ k) | inr k ↦ nb (same ∙ k) ]
-              ]
+        elim (one_or_none a b (m.from e)) [
+          | inl way ↦
+              let new : v ≡ k = sym at ∙ lands e st way in
+              elim which [ inl is ↦ put.a_not (sym is ∙ new) | inr is ↦ put.b_not (sym is ∙ new) ]
+          | inr (na, nb) ↦
+              let same : m.from e ≡ v = sym (stays e st na nb) ∙ at in
+              elim which [ inl is ↦ na (same ∙ is) | inr is ↦ nb (same ∙ is) ]
         ]
 
     last_each : (v e : ℕ) → (has (list_of last v) e ≡ true) ↔ (Stands n e × (n.from e ≡ v))

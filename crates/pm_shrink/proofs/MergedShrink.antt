@@ -29,17 +29,18 @@ use Rattle.pm_shrink.proofs.MergedTables.{length-relinked, across-merged, places
 use Rattle.pm_shrink.proofs.MergedTables.{places-fresh}
 
 -- What each call of a collapse leaves of the tables t, from the two drops to the places.
-pub record AreWritten (t : Tables) (c : Collapse) (two three four last : Tables) : Type 0 where
+pub record AreWritten (t : Tables) (c : Collapse) (one two three four last : Tables) : Type 0 where
   pub kept : IsShrink t
   pub step : IsStep (surface_in t) c
-  pub gone : two ≡ without_gone (without_gone t c.left) c.right
+  pub left : one ≡ without_gone t c.left
+  pub right : two ≡ without_gone one c.right
   pub first : three ≡ with_merged two c.t c.s
   pub second : four ≡ with_merged three c.u c.s
   pub placed : last ≡ with_next four c.t c.u c.place
   pub sound : IsSound four.corners
 
-module _ {t : Tables} {c : Collapse} {two three four last : Tables}
-    (w : AreWritten t c two three four last) where
+module _ {t : Tables} {c : Collapse} {one two three four last : Tables}
+    (w : AreWritten t c one two three four last) where
   abbrev s : Surface
   s = surface_in t
 
@@ -61,7 +62,7 @@ module _ {t : Tables} {c : Collapse} {two three four last : Tables}
     fresh = surface-fresh s w.kept.kept.surface;
     fan = w.kept.kept.corners;
     lists = λ h. rw (← left_is w.kept w.step, ← right_is w.kept w.step)
-        (gone_lists w.kept w.step w.gone h);
+        (gone_lists w.kept w.step w.left w.right h);
   }
 
   merged : AreMerged c.t c.u (next_vertex (surface_in t)) two.corners three.corners four.corners
@@ -70,9 +71,12 @@ module _ {t : Tables} {c : Collapse} {two three four last : Tables}
         differ = differ w.kept w.step;
         a_not = λ is. absurd (omega (arith, is, first_low w.kept w.step));
         b_not = λ is. absurd (omega (arith, is, second_low w.kept w.step));
-        first = first_move w.kept w.step w.gone w.first;
-        second = second_move w.kept w.step w.gone w.first w.second;
+        first = first_move w.kept w.step w.left w.right w.first;
+        second = second_move w.kept w.step w.left w.right w.first w.second;
       })
+
+  gone_both : two ≡ without_gone (without_gone t c.left) c.right
+  gone_both = w.right ∙ ap (λ (x : Tables). without_gone x c.right) w.left
 
   faces_are : last.faces ≡ with_corners
       (with_corners (without_face (without_face t.faces c.left) c.right) (list_of two.corners c.t)
@@ -81,29 +85,29 @@ module _ {t : Tables} {c : Collapse} {two three four last : Tables}
       ap (λ (x : Tables). x.faces) w.placed ∙ ap (λ (x : Tables). x.faces) w.second
       ∙ ap (λ (x : Tables). with_corners x.faces (list_of three.corners c.u) c.s) w.first
       ∙ ap (λ (x : Tables). with_corners (with_corners x.faces (list_of two.corners c.t) c.s)
-      (list_of three.corners c.u) c.s) w.gone
+      (list_of three.corners c.u) c.s) gone_both
 
   across_is : last.across ≡ relinked (relinked t.across c.left) c.right
   across_is =
       ap (λ (x : Tables). x.across) w.placed ∙ ap (λ (x : Tables). x.across) w.second
-      ∙ ap (λ (x : Tables). x.across) w.first ∙ ap (λ (x : Tables). x.across) w.gone
+      ∙ ap (λ (x : Tables). x.across) w.first ∙ ap (λ (x : Tables). x.across) gone_both
 
   places_are : last.places ≡ set (set (set t.places c.t None) c.u None) t.next (Some c.place)
   places_are =
       ap (λ (x : Tables). x.places) w.placed
       ∙ ap (λ (n : ℕ). set (set (set four.places c.t None) c.u None) n (Some c.place))
-      (next_stays w.kept w.step w.gone w.first w.second)
+      (next_stays w.kept w.step w.left w.right w.first w.second)
       ∙ ap (λ (xs : List (Option Place)). set (set (set xs c.t None) c.u None) t.next
-      (Some c.place)) (places_stay w.kept w.step w.gone w.first w.second)
+      (Some c.place)) (places_stay w.kept w.step w.left w.right w.first w.second)
 
   next_after : last.next ≡ t.next + 1
   next_after = ap (λ (x : Tables). x.next) w.placed
-      ∙ ap (λ (n : ℕ). n + 1) (next_stays w.kept w.step w.gone w.first w.second)
+      ∙ ap (λ (n : ℕ). n + 1) (next_stays w.kept w.step w.left w.right w.first w.second)
 
   count_is : last.face_count ≡ t.face_count - one_if (is_some c.left) - one_if (is_some c.right)
   count_is =
       ap (λ (x : Tables). x.face_count) w.placed ∙ ap (λ (x : Tables). x.face_count) w.second
-      ∙ ap (λ (x : Tables). x.face_count) w.first ∙ ap (λ (x : Tables). x.face_count) w.gone
+      ∙ ap (λ (x : Tables). x.face_count) w.first ∙ ap (λ (x : Tables). x.face_count) gone_both
 
   same_faces : last.faces ≡ (surface_past t c).faces
   same_faces =
@@ -196,7 +200,7 @@ module _ {t : Tables} {c : Collapse} {two three four last : Tables}
     roomy = new_roomy;
     items = ap (λ (x : Tables). x.corners.items) w.placed ∙ merged.second.items
         ∙ merged.first.items
-        ∙ gone_items w.kept w.step w.gone ∙ w.kept.items ∙ ap (λ n. 3 * n) (sym length-faces);
+        ∙ gone_items w.kept w.step w.left w.right ∙ w.kept.items ∙ ap (λ n. 3 * n) (sym length-faces);
     heads = ap (λ (x : Tables). length x.corners.lists) w.placed ∙ merged.second.heads
-        ∙ merged.first.heads ∙ gone_heads w.kept w.step w.gone ∙ sym length-places;
+        ∙ merged.first.heads ∙ gone_heads w.kept w.step w.left w.right ∙ sym length-places;
   }
