@@ -1,7 +1,7 @@
 -- The corners at a vertex: what a walk over them sees of the faces there.
 use Rattle.std.proofs.Common.{◌≡◌, ◌↔◌, ℕ, ◌<◌, arith, Bool, true, false, ◌&&◌, ◌||◌, eqb, List, []}
 use Rattle.std.proofs.lemmas.Grind.{common_steps}
-use Rattle.std.proofs.Common.{◌∷◌, get_or, ◌⊎◌, inl, inr, refl, sym, ap, ◌∙◌, subst}
+use Rattle.std.proofs.Common.{None, ◌∷◌, get_or, ◌⊎◌, inl, inr, refl, sym, ap, ◌∙◌, subst}
 use Rattle.std.specs.Prelude.{is_none}
 use Rattle.std.specs.List.{All, list_any}
 use Rattle.std.proofs.lemmas.List.Elements.{Contains-get_or}
@@ -23,13 +23,15 @@ use borrow.Author.Differences.{ints}
 use Rattle.std.specs.Ordering.{int_eq}
 use Rattle.std.proofs.lemmas.Bool.Decides.{Decides-int_eq}
 use Rattle.pm_runs.specs.Surfaces.{Surface, net_of_surface, place_at}
+use Rattle.pm_runs.specs.Steps.{side_from_to}
+use Rattle.pm_runs.proofs.Found.{side-none}
 use Rattle.pm_runs.proofs.Legal.{third-common}
 use Rattle.pm_runs.proofs.Sides.{runs_last, third_next}
 use Rattle.pm_shrink.specs.Shrinking.{AreCornersAt}
 use Rattle.pm_shrink.specs.Walks.{holds_vertex, has_two, is_open_corner, HasStray, KeepsUpright}
 use Rattle.pm_shrink.specs.Walks.{StayUprightAt}
 
-module _ (m : Net) (v : ℕ) (xs : List ℕ) (are : AreCornersAt m v xs) where
+module _ {m : Net} {v : ℕ} {xs : List ℕ} (are : AreCornersAt m v xs) where
   pub all_stand : All (Stands m) xs
   all_stand = λ k d l.
       ((are.each (get_or xs k d)).0
@@ -47,32 +49,43 @@ module _ (m : Net) (v : ℕ) (xs : List ℕ) (are : AreCornersAt m v xs) where
 pub not_own_neighbour : (m : Net) (v : ℕ) → Joined m v v → ⊥
 not_own_neighbour m v j = grind (arith, common_steps)
 
--- A walk: what is left to see decides.
+-- A walk over all corners at a vertex: those left to see decide whether one of all passes.
+pub record AreLeft (p : ℕ → Bool) (all xs : List ℕ) : Type 0 where
+  pub same : list_any p all ≡ list_any p xs
 
-module _ (p : ℕ → Bool) (all xs : List ℕ) (x : ℕ) (rest : List ℕ)
-    (left : list_any p all ≡ list_any p xs) (steps : xs ≡ x ∷ rest) where
-  pub walk_on : p x ≡ false → list_any p all ≡ list_any p rest
-  walk_on no_match = left ∙ ap (list_any p) steps ∙ ap (λ b. b || list_any p rest) no_match
+module _ {p : ℕ → Bool} {all xs : List ℕ} {x : ℕ} {rest : List ℕ} (left : AreLeft p all xs)
+    (steps : xs ≡ x ∷ rest) where
+  pub walk_on : p x ≡ false → AreLeft p all rest
+  walk_on no_match = record {
+    same = left.same ∙ ap (list_any p) steps ∙ ap (λ b. b || list_any p rest) no_match;
+  }
 
   pub walk_found : p x ≡ true → list_any p all ≡ true
-  walk_found match = left ∙ ap (list_any p) steps ∙ ap (λ b. b || list_any p rest) match
+  walk_found match = left.same ∙ ap (list_any p) steps ∙ ap (λ b. b || list_any p rest) match
 
-pub walk_ended : (p : ℕ → Bool) (all xs : List ℕ) → list_any p all ≡ list_any p xs → xs ≡ []
+pub walk_ended : {p : ℕ → Bool} {all xs : List ℕ} → AreLeft p all xs → xs ≡ []
     → list_any p all ≡ false
-walk_ended p all xs left ends = left ∙ ap (list_any p) ends
+walk_ended {p} left ends = left.same ∙ ap (list_any p) ends
 
 -- A walk: each item is left to see, or has been found good.
-abbrev pub SoFar : (ℕ → Type 0) → List ℕ → List ℕ → Type 0
-SoFar good all xs = (e : ℕ) → has all e ≡ true → (has xs e ≡ true) ⊎ good e
+pub record SoFar (good : ℕ → Type 0) (all xs : List ℕ) : Type 0 where
+  pub each : (e : ℕ) → has all e ≡ true → (has xs e ≡ true) ⊎ good e
 
-pub so_far_more : (good : ℕ → Type 0) (all xs : List ℕ) (x : ℕ) (rest : List ℕ) → SoFar good all xs
-    → xs ≡ x ∷ rest → good x → SoFar good all rest
-so_far_more good all xs x rest passed steps here e h =
-    grind (arith, common_steps, eqb-true, or_cases)
+pub so_far_more : {good : ℕ → Type 0} {all xs : List ℕ} {x : ℕ} {rest : List ℕ}
+    → SoFar good all xs → xs ≡ x ∷ rest → good x → SoFar good all rest
+so_far_more {good} {all} {xs} {x} {rest} passed steps here =
+    record { each = λ e h. more good all xs x rest passed.each steps here e h }
+  where
+    more : (good : ℕ → Type 0) (all xs : List ℕ) (x : ℕ) (rest : List ℕ)
+        → ((e : ℕ) → has all e ≡ true → (has xs e ≡ true) ⊎ good e) → xs ≡ x ∷ rest → good x
+        → (e : ℕ) → has all e ≡ true → (has rest e ≡ true) ⊎ good e
+    more good all xs x rest passed steps here e h =
+        grind (arith, common_steps, eqb-true, or_cases)
 
-pub so_far_all : (good : ℕ → Type 0) (all xs : List ℕ) → SoFar good all xs → xs ≡ [] → (e : ℕ)
+pub so_far_all : {good : ℕ → Type 0} {all xs : List ℕ} → SoFar good all xs → xs ≡ [] → (e : ℕ)
     → has all e ≡ true → good e
-so_far_all good all xs passed ends e h = grind (arith, common_steps, false≢true)
+so_far_all {good} {all} {xs} passed ends e h =
+    let way = passed.each e h in grind (arith, common_steps, false≢true)
 
 any-has : (p : ℕ → Bool) (xs : List ℕ) → list_any p xs ≡ true → (e : ℕ) × (has xs e ≡ true)
     × (p e ≡ true)
@@ -84,7 +97,7 @@ has-any p [] e h is = absurd (false≢true h)
 has-any p (x ∷ xs) e h is =
     grind (arith, common_steps, eqb-true, or_cases, or_left, or_right, has-any p xs e)
 
-module _ (m : Net) (v : ℕ) (xs : List ℕ) (are : AreCornersAt m v xs) where
+module _ {m : Net} {v : ℕ} {xs : List ℕ} (are : AreCornersAt m v xs) where
   -- A corner that passes is seen, and one that is seen passes.
   pub any-corner : (p : ℕ → Bool) → list_any p xs ≡ true → (e : ℕ) × Stands m e × (m.from e ≡ v)
       × (p e ≡ true)
@@ -94,6 +107,19 @@ module _ (m : Net) (v : ℕ) (xs : List ℕ) (are : AreCornersAt m v xs) where
   pub corner-any : (p : ℕ → Bool) (e : ℕ) → Stands m e → m.from e ≡ v → p e ≡ true
       → list_any p xs ≡ true
   corner-any p e st at is = has-any p xs e ((are.each e).1 (st, at)) is
+
+  -- No corner at v has a side to q, or, where v is q, one before it from p.
+  pub no_side : (q : ℕ) → list_any (λ e. eqb (to m e) q) xs ≡ false → None ≡ side_from_to m v q
+  no_side q none =
+      sym (side-none m v q (λ (e, r). false≢true (sym none
+      ∙ corner-any (λ e. eqb (to m e) q) e r.stands r.begins (eq-eqb (to m e) q r.ends))))
+
+  pub no_side_back : (p : ℕ) → list_any (λ e. eqb (third m e) p) xs ≡ false
+      → None ≡ side_from_to m p v
+  no_side_back p none =
+      sym (side-none m p v (λ (e, r). false≢true (sym none
+      ∙ corner-any (λ e. eqb (third m e) p) (next e) (stands_next m e r.stands) r.ends
+      (eq-eqb (third m (next e)) p (third_next m e ∙ r.begins)))))
 
   pub seen_joined : (w : ℕ) → (list_any (holds_vertex m w) xs ≡ true) ↔ Joined m v w
   seen_joined w = (
@@ -154,11 +180,11 @@ test-border m e side = ap is_none (none-twin m e side.alone)
 pub border-side : (m : Net) (e : ℕ) → Stands m e → (is_none (twin_of m e) ≡ true) ↔ IsBorderSide m e
 border-side m e st = (border-test m e st, test-border m e)
 
-module _ (m : Net) (v : ℕ) (xs : List ℕ) (are : AreCornersAt m v xs) where
+module _ {m : Net} {v : ℕ} {xs : List ℕ} (are : AreCornersAt m v xs) where
   pub seen_border : (list_any (is_open_corner m) xs ≡ true) ↔ IsBorder m v
   seen_border = (
     λ t. (
-        let (e, st, at, is) = any-corner m v xs are (is_open_corner m) t in
+        let (e, st, at, is) = any-corner are (is_open_corner m) t in
         let before = stands_next m (next e) (stands_next m e st) in
         elim (or_cases (is_none (twin_of m e)) (is_none (twin_of m (prev e))) is) [
           | inl k ↦ (e, border-test m e st k, inl at)
@@ -169,10 +195,10 @@ module _ (m : Net) (v : ℕ) (xs : List ℕ) (are : AreCornersAt m v xs) where
           )
         ]),
     λ (e, side, way). elim way [
-      | inl at ↦ corner-any m v xs are (is_open_corner m) e side.stands at
+      | inl at ↦ corner-any are (is_open_corner m) e side.stands at
           (or_left (is_none (twin_of m e)) (is_none (twin_of m (prev e))) (test-border m e side))
       | inr at ↦
-          corner-any m v xs are (is_open_corner m) (next e) (stands_next m e side.stands) at
+          corner-any are (is_open_corner m) (next e) (stands_next m e side.stands) at
           (or_right (is_none (twin_of m (next e))) (is_none (twin_of m (prev (next e))))
           (ap (λ g. is_none (twin_of m g)) (next-next-next e) ∙ test-border m e side))
     ],
@@ -231,11 +257,17 @@ no_stray_common m a b xs are third? none w = (
 pub third_decided : (m : Net) (a b : ℕ) (xs : List ℕ) → AreCornersAt m a xs → (w : ℕ)
     → Decided (IsThird m a b w)
 third_decided m a b xs are w =
-    let seen = seen_face m a xs are b w in
+    let seen = seen_face are b w in
     elim (cases_Bool (list_any (has_two m b w) xs)) [
       | inl t ↦ inl (face-third m a b w (seen.0 t))
       | inr f ↦ inr (λ k. false≢true (sym f ∙ seen.1 (third-face m a b w k)))
     ]
+
+-- By the corners at a alone: without a stray every common neighbour is a third corner.
+pub no_stray : {m : Net} {a : ℕ} {xs : List ℕ} (b : ℕ) → AreCornersAt m a xs
+    → ((e : ℕ) → has xs e ≡ true → HasStray m a b e → ⊥) → HaveCommonThirds m a b
+no_stray {m} {a} {xs} b are none =
+    no_stray_common m a b xs are (third_decided m a b xs are) none
 
 -- That no face turns over is told of each end in turn.
 pub upright_from : (s : Surface) (a b : ℕ) (place : Place) → StayUprightAt s a b place
@@ -258,10 +290,10 @@ pub upright_at_second : (s : Surface) (a b : ℕ) (place : Place) → StayUprigh
 upright_at_second s a b place all e st at x y = all e b a (inr (refl, refl)) st at x y
 
 -- Where each corner at p keeps its face upright, no face at p turns over.
-pub all_upright : (s : Surface) (p q : ℕ) (place : Place) (xs : List ℕ)
+pub all_upright : (s : Surface) {p : ℕ} (q : ℕ) (place : Place) {xs : List ℕ}
     → AreCornersAt (net_of_surface s) p xs → ((e : ℕ) → has xs e ≡ true → KeepsUpright s q place e)
     → StayUprightAt s p q place
-all_upright s p q place xs are all e st at x y =
+all_upright s {p} q place {xs} are all e st at x y =
     let m : Net = net_of_surface s in
     subst (λ (v : ℕ). StaysUpright s place v (to m e) (third m e)) at
     (all e ((are.each e).1 (st, at)) x y)

@@ -24,7 +24,7 @@ impl Shrink {
     pub(crate) fn corners_at(&self, v: u32) -> Items<'_>
         requires { is_live_in self.now.surface v ≡ true }
         ensures corners { result ≡ fan_at self.now v }
-        ensures each { AreCornersAt (net_at self.now) v result }
+        ensures each { AreCornersAt (net_at self.now) v (fan_at self.now v) }
         ensures stand { All (Stands (net_at self.now)) result }
         ensures start { All (λ e. (net_at self.now).from e ≡ v) result }
         ensures within { All (λ e. e < side_count (net_at self.now)) result }

@@ -1,44 +1,31 @@
-use Rattle.std.proofs.Common.{◌∙◌, ℕ, List, true, sym, subst}
+use Rattle.std.proofs.Common.{◌∙◌, true, sym}
 use Rattle.std.proofs.lemmas.Bool.{false≢true}
 use Rattle.std.proofs.lemmas.List.Elements.{All-tail}
-use Rattle.pm_base.specs.Sides.{Net, Stands}
-use Rattle.pm_shrink.specs.Shrinking.{net_at, fan_at, AreCornersAt}
-use Rattle.pm_shrink.specs.Walks.{is_open_corner}
+use Rattle.pm_base.specs.Sides.{Stands}
+use Rattle.pm_shrink.specs.Shrinking.{net_at}
 use Rattle.pm_shrink.proofs.FanLaws.{walk_on, walk_found, walk_ended, seen_border}
 use Rattle.pm_shrink.proofs.shrink.Shrink.is_on_border.Goals as goal
 
 pub returns-then-is_border_corner : goal.returns-then-is_border_corner
-returns-then-is_border_corner c =
-    let m : Net = net_at c.args.self.now in
-    let fan : List ℕ = fan_at c.args.self.now c.args.v in
-    let items = c.corners_at-number-items.ensures in
-    let found = walk_found (is_open_corner m) fan c.loop-number.number-iterator c.in-Some.number
-    c.next.new.self c.loop-number.invariant.left (c.in-Some.ensures {u = tt}).steps
-    (sym c.is_border_corner.ensures ∙ c.if-is_border_corner.true) in
-    let seen = seen_border m c.args.v fan (subst (AreCornersAt m c.args.v) items.corners items.each)
-    in
-    (λ t. seen.0 found, λ k. λ i. true)
+returns-then-is_border_corner c = (
+  λ t. (seen_border c.corners_at-number-items.ensures.each).0
+      (walk_found c.loop-number.invariant.left (c.in-Some.ensures {u = tt}).steps
+      (sym c.is_border_corner.ensures ∙ c.if-is_border_corner.true)),
+  λ k. λ i. true,
+)
 
 pub loop-number-preserved : goal.loop-number-preserved
 loop-number-preserved c =
-    let m : Net = net_at c.args.self.now in
-    let fan : List ℕ = fan_at c.args.self.now c.args.v in
     let steps = (c.in-Some.ensures {u = tt}).steps in
     record {
-      left = walk_on (is_open_corner m) fan c.loop-number.number-iterator c.in-Some.number
-          c.next.new.self c.loop-number.invariant.left steps (sym c.is_border_corner.ensures
-          ∙ c.if-is_border_corner.false);
-      stand = All-tail (Stands m) c.in-Some.number c.next.new.self
+      left = walk_on c.loop-number.invariant.left steps (sym c.is_border_corner.ensures ∙ c.if-is_border_corner.false);
+      stand = All-tail (Stands (net_at c.args.self.now)) _ _
           (rw steps at c.loop-number.invariant.stand);
     }
 
 pub returns : goal.returns
-returns c =
-    let m : Net = net_at c.args.self.now in
-    let fan : List ℕ = fan_at c.args.self.now c.args.v in
-    let items = c.corners_at-number-items.ensures in
-    let none = walk_ended (is_open_corner m) fan c.loop-number.number-iterator
-    c.loop-number.invariant.left (c.in-None.ensures {u = tt}).steps.0 in
-    let seen = seen_border m c.args.v fan (subst (AreCornersAt m c.args.v) items.corners items.each)
-    in
-    (λ t. absurd (false≢true t), λ k. sym none ∙ seen.1 k)
+returns c = (
+  λ t. absurd (false≢true t),
+  λ k. sym (walk_ended c.loop-number.invariant.left (c.in-None.ensures {u = tt}).steps.0)
+      ∙ (seen_border c.corners_at-number-items.ensures.each).1 k,
+)
