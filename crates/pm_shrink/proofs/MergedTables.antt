@@ -53,15 +53,14 @@ write_right table (Some g) to e x l right way =
     number (Some k) = refl
 
 -- Both writes of one face that goes.
-face_right : (m : Net) (p q : ℕ) (table : List (Option ℕ)) (e : ℕ) (x : Option ℕ) → e < length table
-    →
+face_right : {m : Net} → NoSideTwice m → (p q : ℕ) (table : List (Option ℕ)) (e : ℕ)
+    (x : Option ℕ) → e < length table →
     ((y : ℕ) → Runs m y p q → (twin_of m (next y) ≡ Some e → twin_of m (prev y) ≡ x)
     × (twin_of m (prev y) ≡ Some e → twin_of m (next y) ≡ x)) →
     (get_or table e None ≡ x)
     ⊎ ((y : ℕ) × Runs m y p q × ((twin_of m (next y) ≡ Some e) ⊎ (twin_of m (prev y) ≡ Some e)))
-    → NoSideTwice m →
-    get_or (relinked table (gone_of m p q)) e None ≡ x
-face_right m p q table e x l right way once =
+    → get_or (relinked table (gone_of m p q)) e None ≡ x
+face_right {m} once p q table e x l right way =
     elim (option_cases (side_from_to m p q)) [
       | inl none ↦
           ap (λ o. get_or (relinked table (option_map (gone_at m) o)) e None) none
@@ -141,11 +140,11 @@ module _ {m n : Net} {a b : ℕ} (once : NoSideTwice m) (relinks : RelinksTwins 
       ((λ k. sym (relinks.first y e links k).1), (λ k. sym (relinks.second y e links k).1)) in
       let one = relinked table (gone_of m a b) in
       let len : length one ≡ length table = length-relinked table (gone_of m a b) in
-      face_right m b a one e (twin_of n e) (omega arith) (λ y r. right y (inr r))
+      face_right once b a one e (twin_of n e) (omega arith) (λ y r. right y (inr r))
       (elim (hits? m once b a e) [
         | inl hit ↦ inr hit
         | inr off_right ↦
-            inl (face_right m a b table e (twin_of n e) l (λ y r. right y (inl r))
+            inl (face_right once a b table e (twin_of n e) l (λ y r. right y (inl r))
             (elim (hits? m once a b e) [
               | inl hit ↦ inr hit
               | inr off_left ↦ inl (was ∙ sym (relinks.others e st (λ x links. (
@@ -160,8 +159,8 @@ module _ {m n : Net} {a b : ℕ} (once : NoSideTwice m) (relinks : RelinksTwins 
                       off_right (x, r, inr k)
                 ]),
               ))))
-            ]) once)
-      ]) once
+            ]))
+      ])
 
 -- ---- places
 

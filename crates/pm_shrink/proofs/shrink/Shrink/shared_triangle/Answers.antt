@@ -1,6 +1,5 @@
 use Rattle.std.proofs.Common.{◌∙◌, ap, sym}
 use Rattle.std.proofs.lemmas.Bool.{false≢true}
-use Rattle.pm_base.specs.Sides.{Net}
 use Rattle.pm_runs.proofs.Found.{found-runs, none-side}
 use Rattle.pm_shrink.specs.Shrinking.{net_at}
 use Rattle.pm_shrink.specs.Writes.{side_number}
@@ -29,19 +28,24 @@ third-w-requires c =
 
 pub returns-then-not-has_face : goal.returns-then-not-has_face
 returns-then-not-has_face c =
-    let m : Net = net_at c.args.self.now in
-    let found = rw (c.third-v.ensures.value, c.third-w.ensures.value) at c.has_face.ensures in
-    only_triangle m c.args.a c.args.b c.side_to.ensures.once c.in-Some-Some.left.0
-    c.in-Some-Some.right.0 (sym c.side_to.ensures.value ∙ ap side_number c.in-Some-Some.is-0)
-    (sym c.side_to-2.ensures.value ∙ ap side_number c.in-Some-Some.is-1)
-    (λ f k. false≢true (sym c.if-not-has_face.true ∙ found.1 k))
+    only_triangle (record {
+      left = c.in-Some-Some.left.0;
+      right = c.in-Some-Some.right.0;
+      once = c.side_to.ensures.once;
+      found_left = sym c.side_to.ensures.value ∙ ap side_number c.in-Some-Some.is-0;
+      found_right = sym c.side_to-2.ensures.value ∙ ap side_number c.in-Some-Some.is-1;
+      is_v = c.third-v.ensures.value;
+      is_w = c.third-w.ensures.value;
+    }) (λ f k. false≢true (sym c.if-not-has_face.true ∙ c.has_face.ensures.1 k))
 
 pub returns : goal.returns
 returns c =
-    let m : Net = net_at c.args.self.now in
-    let found = rw (c.third-v.ensures.value, c.third-w.ensures.value) at c.has_face.ensures in
-    let with = rw (c.third-v.ensures.value, c.third-w.ensures.value) at c.face_with.ensures in
-    triangle_told m c.args.a c.args.b c.side_to.ensures.once c.in-Some-Some.left.0
-    c.in-Some-Some.right.0 (sym c.side_to.ensures.value ∙ ap side_number c.in-Some-Some.is-0)
-    (sym c.side_to-2.ensures.value ∙ ap side_number c.in-Some-Some.is-1)
-    (found.0 c.if-not-has_face.false) c.face_with.result with
+    triangle_told (record {
+      left = c.in-Some-Some.left.0;
+      right = c.in-Some-Some.right.0;
+      once = c.side_to.ensures.once;
+      found_left = sym c.side_to.ensures.value ∙ ap side_number c.in-Some-Some.is-0;
+      found_right = sym c.side_to-2.ensures.value ∙ ap side_number c.in-Some-Some.is-1;
+      is_v = c.third-v.ensures.value;
+      is_w = c.third-w.ensures.value;
+    }) (c.has_face.ensures.0 c.if-not-has_face.false) c.face_with.result c.face_with.ensures

@@ -1,9 +1,8 @@
-use Rattle.std.proofs.Common.{◌∙◌, ℕ, inl, inr, sym, ap, subst}
+use Rattle.std.proofs.Common.{◌∙◌, inl, inr, sym, ap}
 use Rattle.std.specs.Prelude.{is_none}
 use Rattle.std.proofs.lemmas.Bool.{false≢true}
-use Rattle.pm_base.specs.Sides.{Net, Stands, twin_of}
+use Rattle.pm_base.specs.Sides.{Net, twin_of}
 use Rattle.pm_shrink.specs.Shrinking.{net_at}
-use Rattle.pm_shrink.specs.Obstacles.{Strays}
 use Rattle.pm_shrink.proofs.ObstacleLaws.{stray_first, stray_last}
 use Rattle.pm_shrink.proofs.shrink.Shrink.stray_at.Goals as goal
 use Rattle.pm_shrink.proofs.shrink.Shrink.stray_at.Goals.{else-is_border_side-via-then-is_border_side+else-is_stray-2}
@@ -11,18 +10,15 @@ use Rattle.pm_shrink.proofs.shrink.Shrink.stray_at.Goals.{else-is_border_side-vi
 
 pub returns-then-is_stray : goal.returns-then-is_stray
 returns-then-is_stray c =
-    let m : Net = net_at c.args.self.now in
-    subst (λ (e : ℕ). Stands m e × Strays m c.args.a c.args.b (m.from e))
-    (sym c.next_side.ensures.value)
-    (stray_first m c.args.a c.args.b c.args.corner.0 c.requires.corner c.requires.at
-    ((rw c.to.ensures.value at c.is_stray.ensures).0 c.if-is_stray.true))
+    rw c.next_side.ensures.value
+    (stray_first (net_at c.args.self.now) c.args.a c.args.b c.args.corner.0 c.requires.corner
+    c.requires.at ((rw c.to.ensures.value at c.is_stray.ensures).0 c.if-is_stray.true))
 
 pub returns-then-is_stray-2 : goal.returns-then-is_stray-2
 returns-then-is_stray-2 c =
-    let m : Net = net_at c.args.self.now in
-    subst (λ (e : ℕ). Stands m e × Strays m c.args.a c.args.b (m.from e))
-    (sym c.prev_side-before.ensures.value)
-    (stray_last m c.args.a c.args.b c.args.corner.0 c.requires.corner c.requires.at
+    rw c.prev_side-before.ensures.value
+    (stray_last (net_at c.args.self.now) c.args.a c.args.b c.args.corner.0 c.requires.corner
+    c.requires.at
     ((rw c.third.ensures.value at c.is_stray-then-is_border_side.ensures).0 c.if-is_stray-2.true))
 
 pub returns : goal.returns
