@@ -9,7 +9,7 @@ use Rattle.std.proofs.lemmas.Bool.{cases_eq}
 use Rattle.pm_base.specs.declared.mesh.Corners.{Corners}
 use Rattle.pm_base.specs.Sides.{face_of}
 use Rattle.pm_shrink.specs.declared.faces.Row.{Row}
-use Rattle.pm_shrink.specs.FaceRows.{across_in, no_row, face_row, row_corners, across_of}
+use Rattle.pm_shrink.specs.FaceRows.{Faces, across_in, no_row, face_row, row_corners, across_of}
 
 pub length-row_corners : (rows : List Row) → length (row_corners rows) ≡ length rows
 length-row_corners rows = length-map rows (λ r. r.corners)
@@ -19,6 +19,19 @@ unfolding across_of
 length-across_of rows =
     length-map-range_with_len (λ e. across_in (face_row rows (face_of e)) (e % 3)) 0
     (3 * length rows)
+
+-- A number in the lists that contracts see is one in the rows.
+pub row_in : (rows : List Row) {t : Faces} (f : ℕ)
+    → record { faces = row_corners rows; across = across_of rows } ≡ t → f < length t.faces
+    → f < length rows
+row_in rows f is low =
+    omega (arith, length-row_corners rows, ap (λ (x : Faces). length x.faces) is)
+
+pub side_in : (rows : List Row) {t : Faces} (e : ℕ)
+    → record { faces = row_corners rows; across = across_of rows } ≡ t → e < length t.across
+    → e < 3 * length rows
+side_in rows e is low =
+    omega (arith, length-across_of rows, ap (λ (x : Faces). length x.across) is)
 
 pub corners_at : (rows : List Row) (f : ℕ) → f < length rows
     → get_or (row_corners rows) f None ≡ (face_row rows f).corners

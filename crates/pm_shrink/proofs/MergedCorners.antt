@@ -124,9 +124,11 @@ module _ {m n : Net} {a b k : ℕ} {before mid : Lists} (w : AreDropped m n a b 
     new_from : (e : ℕ) → Stands n e → n.from e ≡ k → has (list_of last k) e ≡ true
     new_from e st at =
         at_new e ∙ elim (was_one e st at) [
-          | inl is ↦ or_right (has (list_of mid b) e) (has (list_of mid a) e || has (list_of mid k) e)
+          | inl is ↦ or_right (has (list_of mid b) e)
+              (has (list_of mid a) e || has (list_of mid k) e)
               (or_left (has (list_of mid a) e) (has (list_of mid k) e) ((mid_each a e).1 (st, is)))
-          | inr is ↦ or_left (has (list_of mid b) e) (has (list_of mid a) e || has (list_of mid k) e)
+          | inr is ↦ or_left (has (list_of mid b) e)
+              (has (list_of mid a) e || has (list_of mid k) e)
               ((mid_each b e).1 (st, is))
         ]
 

@@ -199,8 +199,8 @@ module _ {t : Tables} {c : Collapse} {one two three four last : Tables}
     twins = rw done-surface new_across;
     roomy = new_roomy;
     items = ap (λ (x : Tables). x.corners.items) w.placed ∙ merged.second.items
-        ∙ merged.first.items
-        ∙ gone_items w.kept w.step w.left w.right ∙ w.kept.items ∙ ap (λ n. 3 * n) (sym length-faces);
+        ∙ merged.first.items ∙ gone_items w.kept w.step w.left w.right ∙ w.kept.items
+        ∙ ap (λ n. 3 * n) (sym length-faces);
     heads = ap (λ (x : Tables). length x.corners.lists) w.placed ∙ merged.second.heads
         ∙ merged.first.heads ∙ gone_heads w.kept w.step w.left w.right ∙ sym length-places;
   }

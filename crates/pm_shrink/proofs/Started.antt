@@ -134,7 +134,8 @@ module _ (m : Mesh) (formed : IsWellFormed m) (manifold : IsOrientedManifold (ne
     corners = λ v. record {
       each = λ e. (
         λ h. (let at = (held.each v e).0 h in ((side_there m formed e at.0).0, at.1)),
-        λ (stands, at). (held.each v e).1 (omega (arith, stands.is_side, length-map m.faces Some), at),
+        λ (stands, at). (held.each v e).1
+            (omega (arith, stands.is_side, length-map m.faces Some), at),
       );
       once = held.sound.once v;
     };

@@ -1,33 +1,20 @@
 use Rattle.std.proofs.Common.{◌∙◌, ℕ, ◌*◌, ◌%◌, ◌<◌, List, None, length, get_or, sym, ap, arith}
 use Rattle.std.proofs.lemmas.List.{get_or_read}
 use Rattle.pm_shrink.specs.declared.faces.Row.{Row}
-use Rattle.pm_shrink.specs.FaceRows.{across_in, no_row}
-use Rattle.pm_shrink.specs.FaceRows.{Faces}
-use Rattle.pm_shrink.proofs.FaceTables.{length-across_of, across_at}
+use Rattle.pm_shrink.specs.FaceRows.{Faces, across_in, no_row}
+use Rattle.pm_shrink.proofs.FaceTables.{side_in, across_at}
 use Rattle.pm_shrink.proofs.faces.FaceTable.across.Goals as goal
 
 pub index-requires : goal.index-requires
 index-requires c =
-    omega (
-      arith,
-      c.requires,
-      c.face.ensures,
-      length-across_of c.self.inside.rows.items,
-      ap (λ (t : Faces). length t.across) c.self.view_is,
-    )
+    let low = side_in c.self.inside.rows.items c.args.side.0 c.self.view_is c.requires in
+    omega (arith, c.face.ensures, low)
 
 pub returns : goal.returns
 returns c =
     let rows : List Row = c.self.inside.rows.items in
     let e : ℕ = c.args.side.0 in
-    let low : e < 3 * length rows =
-    omega (
-      arith,
-      c.requires,
-      length-across_of rows,
-      ap (λ (t : Faces). length t.across)
-          c.self.view_is,
-    ) in
+    let low : e < 3 * length rows = side_in rows e c.self.view_is c.requires in
     c.across.ensures
     ∙ ap (λ (k : Row). across_in k (e % 3))
     (get_or_read rows c.face.result.0 c.index.result.now (omega (arith, c.face.ensures))

@@ -2,21 +2,15 @@ use Rattle.std.proofs.Common.{◌≡◌, ◌∙◌, ◌<◌, ◌*◌, ℕ, List,
 use Rattle.std.proofs.Math.Seq.{map-set_same}
 use Rattle.pm_base.specs.Sides.{face_of}
 use Rattle.pm_shrink.specs.declared.faces.Row.{Row}
-use Rattle.pm_shrink.specs.FaceRows.{across_of}
-use Rattle.pm_shrink.specs.FaceRows.{Faces}
+use Rattle.pm_shrink.specs.FaceRows.{Faces, across_of}
 use Rattle.pm_shrink.specs.Writes.{side_number}
-use Rattle.pm_shrink.proofs.FaceTables.{length-across_of, across_written}
+use Rattle.pm_shrink.proofs.FaceTables.{side_in, across_written}
 use Rattle.pm_shrink.proofs.faces.FaceTable.set_across.Goals as goal
 
 pub index_mut-requires : goal.index_mut-requires
 index_mut-requires c =
-    omega (
-      arith,
-      c.requires.there,
-      c.face.ensures,
-      length-across_of c.self.inside.rows.items,
-      ap (λ (t : Faces). length t.across) c.self.view_is,
-    )
+    let low = side_in c.self.inside.rows.items c.args.side.0 c.self.view_is c.requires.there in
+    omega (arith, c.face.ensures, low)
 
 pub returns-clause-faces : goal.returns-clause-faces
 returns-clause-faces c =
@@ -30,14 +24,7 @@ returns-clause-across c =
     let rows : List Row = c.self.inside.rows.items in
     let e : ℕ = c.args.side.0 in
     let old : Row = c.index_mut.result.now in
-    let low : e < 3 * length rows =
-    omega (
-      arith,
-      c.requires.there,
-      length-across_of rows,
-      ap (λ (t : Faces). length t.across)
-          c.self.view_is,
-    ) in
+    let low : e < 3 * length rows = side_in rows e c.self.view_is c.requires.there in
     let value : old ≡ get_or rows (face_of e) old =
     c.index_mut.ensures.value ∙ ap (λ (f : ℕ). get_or rows f old) c.face.ensures in
     ap (λ (f : ℕ). across_of (set rows f c.set_across.new.self)) c.face.ensures

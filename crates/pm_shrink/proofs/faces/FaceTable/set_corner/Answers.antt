@@ -1,11 +1,10 @@
-use Rattle.std.proofs.Common.{◌∙◌, ◌<◌, ◌%◌, ℕ, List, None, length, get_or, set, sym, ap, arith}
+use Rattle.std.proofs.Common.{◌∙◌, ◌%◌, ℕ, List, None, get_or, set, sym, ap, arith}
 use Rattle.std.specs.Prelude.{option_map}
 use Rattle.std.proofs.lemmas.List.{map-set, get_or_read}
 use Rattle.pm_shrink.specs.declared.faces.Row.{Row}
-use Rattle.pm_shrink.specs.FaceRows.{no_row, row_corners}
-use Rattle.pm_shrink.specs.FaceRows.{Faces}
+use Rattle.pm_shrink.specs.FaceRows.{Faces, no_row, row_corners}
 use Rattle.pm_shrink.specs.Writes.{with_vertex, with_corner}
-use Rattle.pm_shrink.proofs.FaceTables.{length-row_corners, corners_at, across_kept}
+use Rattle.pm_shrink.proofs.FaceTables.{row_in, corners_at, across_kept}
 use Rattle.pm_shrink.proofs.faces.FaceTable.set_corner.Goals as goal
 
 pub returns-clause-faces : goal.returns-clause-faces
@@ -13,14 +12,8 @@ returns-clause-faces c =
     let rows : List Row = c.self.inside.rows.items in
     let e : ℕ = c.args.corner.0 in
     let v : ℕ = c.args.vertex in
-    let low : c.face.result.0 < length rows =
-    omega (
-      arith,
-      c.face.ensures,
-      c.requires,
-      length-row_corners rows,
-      ap (λ (t : Faces). length t.faces) c.self.view_is,
-    ) in
+    let low = row_in rows c.face.result.0 c.self.view_is (omega (arith, c.face.ensures, c.requires))
+    in
     let read = get_or_read rows c.face.result.0 c.index_mut.result.now low c.index_mut.ensures.value
     no_row in
     map-set (λ (r : Row). r.corners) rows c.face.result.0 c.set_corner.new.self
@@ -35,15 +28,8 @@ returns-clause-faces c =
 
 pub returns-clause-across : goal.returns-clause-across
 returns-clause-across c =
-    let rows : List Row = c.self.inside.rows.items in
-    let low : c.face.result.0 < length rows =
-    omega (
-      arith,
-      c.face.ensures,
-      c.requires,
-      length-row_corners rows,
-      ap (λ (t : Faces). length t.faces) c.self.view_is,
-    ) in
-    across_kept rows c.face.result.0 c.index_mut.result.now c.set_corner.new.self low
+    across_kept c.self.inside.rows.items c.face.result.0 c.index_mut.result.now
+    c.set_corner.new.self
+    (row_in _ c.face.result.0 c.self.view_is (omega (arith, c.face.ensures, c.requires)))
     c.index_mut.ensures.value c.set_corner.ensures.across
     ∙ ap (λ (t : Faces). t.across) c.self.view_is

@@ -18,7 +18,8 @@ pub loop-number-preserved : goal.loop-number-preserved
 loop-number-preserved c =
     let steps = (c.in-Some.ensures {u = tt}).steps in
     record {
-      left = walk_on c.loop-number.invariant.left steps (sym c.is_border_corner.ensures ∙ c.if-is_border_corner.false);
+      left = walk_on c.loop-number.invariant.left steps
+          (sym c.is_border_corner.ensures ∙ c.if-is_border_corner.false);
       stand = All-tail (Stands (net_at c.args.self.now)) _ _
           (rw steps at c.loop-number.invariant.stand);
     }
