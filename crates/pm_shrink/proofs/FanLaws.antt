@@ -144,31 +144,9 @@ module _ {m : Net} {v : ℕ} {xs : List ℕ} (are : AreCornersAt m v xs) where
 
   pub seen_face : (b c : ℕ) → (list_any (has_two m b c) xs ≡ true) ↔ HasFace m v b c
   seen_face b c = (
-    λ t. (
-        let (e, st, at, is) = any-corner (has_two m b c) t in
-        let one = eqb (to m e) b && eqb (third m e) c in
-        let two = eqb (to m e) c && eqb (third m e) b in (
-          e,
-          st,
-          at,
-          elim (or_cases one two is) [
-            | inl k ↦ (let q = and_parts (eqb (to m e) b) (eqb (third m e) c) k in
-                inl (eqb-true (to m e) b q.0, eqb-true (third m e) c q.1))
-            | inr k ↦ (let q = and_parts (eqb (to m e) c) (eqb (third m e) b) k in
-                inr (eqb-true (to m e) c q.0, eqb-true (third m e) b q.1))
-          ],
-        )),
-    λ (e, st, at, way). corner-any (has_two m b c) e st at (
-        let one = eqb (to m e) b && eqb (third m e) c in
-        let two = eqb (to m e) c && eqb (third m e) b in
-        elim way [
-          | inl k ↦ or_left one two
-              (and_from (eqb (to m e) b) (eqb (third m e) c) (eq-eqb (to m e) b k.0)
-              (eq-eqb (third m e) c k.1))
-          | inr k ↦ or_right one two
-              (and_from (eqb (to m e) c) (eqb (third m e) b) (eq-eqb (to m e) c k.0)
-              (eq-eqb (third m e) b k.1))
-        ]),
+    λ t. grind (arith, common_steps, any-corner (has_two m b c) t, or_cases, and_parts, eqb-true),
+    λ (e, st, at, way). corner-any (has_two m b c) e st at
+        (grind (arith, common_steps, or_left, or_right, and_from, eq-eqb)),
   )
 
 pub border-test : (m : Net) (e : ℕ) → Stands m e → is_none (twin_of m e) ≡ true → IsBorderSide m e

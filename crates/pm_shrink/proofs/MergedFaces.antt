@@ -1,10 +1,11 @@
 -- The faces after a collapse.
-use Rattle.std.proofs.Common.{◌≡◌, ℕ, ◌+◌, ◌*◌, ◌%◌, ◌<◌, Bool, true, false, eqb, cond, List}
+use Rattle.std.proofs.Common.{◌≡◌, ℕ, ◌+◌, ◌*◌, ◌%◌, ◌<◌, Bool, true, eqb, cond, List}
 use Rattle.std.proofs.Common.{length, get_or, set, Option, Some, None, ◌⊎◌, inl, inr, refl, sym, ap}
 use Rattle.std.proofs.Common.{◌∙◌, subst, arith, get_or-set_other, get_or-set_same}
 use Rattle.std.specs.Prelude.{option_map}
+use Rattle.std.proofs.lemmas.Grind.{common_steps}
 use Rattle.std.proofs.lemmas.List.{length-set, length-map, get_or_past, ext_get_or}
-use Rattle.std.proofs.lemmas.Bool.{cases_eq, cases_lt, eq-eqb, ne_eqb, false≢true}
+use Rattle.std.proofs.lemmas.Bool.{cases_eq, cases_lt, eq-eqb, ne_eqb}
 use Rattle.pm_base.specs.Place.{Place}
 use Rattle.pm_base.specs.declared.log.Gone.{Gone}
 use Rattle.pm_base.specs.declared.mesh.Corners.{Corners}
@@ -33,16 +34,18 @@ length-without_face faces (Some g) = length-set faces g.face.0 None
 
 set_none : (faces : List (Option Corners)) (f : ℕ) → get_or (set faces f None) f None ≡ None
 set_none faces f =
-    elim (cases_lt f (length faces)) [
-      | inl l ↦ get_or-set_same faces f None None l
-      | inr past ↦ get_or_past (set faces f None) f None (omega (arith, length-set faces f None))
-    ]
+    grind (
+      arith,
+      common_steps,
+      cases_lt f (length faces),
+      get_or-set_same,
+      get_or_past,
+      length-set,
+    )
 
 without-same : (faces : List (Option Corners)) (o : Option Gone) (g : Gone) (f : ℕ) → o ≡ Some g
     → g.face.0 ≡ f → get_or (without_face faces o) f None ≡ None
-without-same faces o g f is at =
-    ap (λ (k : Option Gone). get_or (without_face faces k) f None) is
-    ∙ ap (λ (k : ℕ). get_or (set faces k None) f None) at ∙ set_none faces f
+without-same faces o g f is at = grind (arith, common_steps, set_none)
 
 without-spared : (faces : List (Option Corners)) (o : Option Gone) (f : ℕ) → IsSparedBy o f
     → get_or (without_face faces o) f None ≡ get_or faces f None
@@ -53,29 +56,19 @@ without-none : (faces : List (Option Corners)) (o : Option Gone) (f : ℕ)
     → get_or faces f None ≡ None → get_or (without_face faces o) f None ≡ None
 without-none faces None f none = none
 without-none faces (Some g) f none =
-    elim (cases_eq f g.face.0) [
-      | inl is ↦ ap (λ (k : ℕ). get_or (set faces k None) f None) (sym is) ∙ set_none faces f
-      | inr ne ↦ get_or-set_other faces g.face.0 f None None ne ∙ none
-    ]
+    grind (arith, common_steps, cases_eq f g.face.0, set_none, get_or-set_other)
 
 -- A face is spared, or is the one that goes.
 spared? : (m : Net) (p q f : ℕ) → IsSparedBy (gone_of m p q) f
     ⊎ ((e : ℕ) × Runs m e p q × (face_of e ≡ f) × (gone_of m p q ≡ Some (gone_at m e)))
 spared? m p q f =
     elim (option_cases (side_from_to m p q)) [
-      | inl none ↦
-          inl (subst (λ (o : Option ℕ). IsSparedBy (option_map (gone_at m) o) f) (sym none) tt)
-      | inr (e, is) ↦
-          elim (cases_eq f (face_of e)) [
-            | inl at ↦ inr (e, found-runs m p q e is, sym at, ap (option_map (gone_at m)) is)
-            | inr ne ↦ inl
-                (subst (λ (o : Option ℕ). IsSparedBy (option_map (gone_at m) o) f) (sym is) ne)
-          ]
+      | inl none ↦ grind (arith, common_steps)
+      | inr (e, is) ↦ grind (arith, common_steps, cases_eq f (face_of e), found-runs m p q e is)
     ]
 
 test_same : (x : Bool) (u v : ℕ) → (x ≡ true → u ≡ v) → (u ≡ v → x ≡ true) → x ≡ eqb u v
-test_same true u v to back = sym (eq-eqb u v (to refl))
-test_same false u v to back = sym (ne_eqb u v (λ is. absurd (false≢true (back is))))
+test_same x u v to back = grind (arith, common_steps, cases_eq u v, eq-eqb, ne_eqb)
 
 named_twice : (x y : Bool) (a b s v : ℕ) → x ≡ eqb v a → y ≡ eqb v b
     → cond y s (cond x s v) ≡ merge a b s v

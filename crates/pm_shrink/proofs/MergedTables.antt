@@ -1,8 +1,9 @@
 -- The other tables after a collapse: what stands across each side, and the places.
 use Rattle.std.proofs.Common.{◌≡◌, ℕ, ◌+◌, ◌<◌, ◌≤◌, List, [], ◌∷◌, ◌++◌, length, get_or, set, take}
-use Rattle.std.proofs.Common.{Option, Some, None, ◌⊎◌, inl, inr, refl, sym, ap, ◌∙◌, subst, arith}
+use Rattle.std.proofs.Common.{Option, Some, None, ◌⊎◌, inl, inr, refl, sym, ap, ◌∙◌, arith}
 use Rattle.std.proofs.Common.{get_or-set_other, get_or-set_same}
 use Rattle.std.specs.Prelude.{option_map}
+use Rattle.std.proofs.lemmas.Grind.{common_steps}
 use Rattle.std.proofs.lemmas.List.{length-set, take_more_set}
 use Rattle.std.proofs.Math.Seq.{take-set-lt}
 use Rattle.std.proofs.lemmas.Bool.{cases_eq}
@@ -34,23 +35,25 @@ length-relinked table (Some g) =
     length-with_across (with_across table g.first g.second) g.second g.first
     ∙ length-with_across table g.first g.second
 
+numbered : (t : Option ℕ) → side_number (option_map side_id t) ≡ t
+numbered None = refl
+numbered (Some k) = refl
+
 -- A write that is right where it is, of a table that is right or is written there.
 write_right : (table : List (Option ℕ)) (at to : Option ℕ) (e : ℕ) (x : Option ℕ) → e < length table
     → (at ≡ Some e → to ≡ x) → (get_or table e None ≡ x) ⊎ (at ≡ Some e) →
     get_or (with_across table (option_map side_id at) (option_map side_id to)) e None ≡ x
-write_right table None to e x l right way = elim way [ inl k ↦ k | inr k ↦ absurd (none-some e k) ]
+write_right table None to e x l right way = grind (arith, common_steps, none-some)
 write_right table (Some g) to e x l right way =
-    elim (cases_eq e g) [
-      | inl is ↦ ap (λ (i : ℕ). get_or (set table i (side_number (option_map side_id to))) e None)
-          (sym is) ∙ get_or-set_same table e (side_number (option_map side_id to)) None l
-          ∙ number to ∙ right (ap Some (sym is))
-      | inr ne ↦ get_or-set_other table g e (side_number (option_map side_id to)) None ne
-          ∙ elim way [ inl k ↦ k | inr k ↦ absurd (ne (sym (same_Some g e k))) ]
-    ]
-  where
-    number : (t : Option ℕ) → side_number (option_map side_id t) ≡ t
-    number None = refl
-    number (Some k) = refl
+    grind (
+      arith,
+      common_steps,
+      numbered to,
+      cases_eq e g,
+      get_or-set_same,
+      get_or-set_other,
+      same_Some,
+    )
 
 -- Both writes of one face that goes.
 face_right : {m : Net} → NoSideTwice m → (p q : ℕ) (table : List (Option ℕ)) (e : ℕ)
@@ -88,17 +91,7 @@ face_right {m} once p q table e x l right way =
         ⊎ ((y : ℕ) × Runs m y p q × ((twin_of m (next y) ≡ Some e) ⊎ (twin_of m (prev y) ≡ Some e)))
         → (y : ℕ) → Runs m y p q →
         ((get_or table e None ≡ x) ⊎ (twin_of m (next y) ≡ Some e)) ⊎ (twin_of m (prev y) ≡ Some e)
-    hit_second way y r =
-        elim way [
-          | inl k ↦ inl (inl k)
-          | inr (z, w, hit) ↦
-              let same : z ≡ y =
-              once z y w.stands r.stands (w.begins ∙ sym r.begins) (w.ends ∙ sym r.ends) in
-              elim hit [
-                | inl k ↦ inl (inr (subst (λ (i : ℕ). twin_of m (next i) ≡ Some e) same k))
-                | inr k ↦ inr (subst (λ (i : ℕ). twin_of m (prev i) ≡ Some e) same k)
-              ]
-        ]
+    hit_second way y r = grind (arith, common_steps, once)
 
 abbrev Hits : Net → ℕ → ℕ → ℕ → Type 0
 Hits m p q e =
@@ -110,21 +103,11 @@ hits? m once p q e =
       | inl none ↦ inr (λ (y, r, hit). none-some y (sym none ∙ runs-found m p q once y r))
       | inr (y, is) ↦
           let r = found-runs m p q y is in
-          elim (option_eq? (twin_of m (next y)) e) [
-            | inl k ↦ inl (y, r, inl k)
-            | inr n1 ↦
-                elim (option_eq? (twin_of m (prev y)) e) [
-                  | inl k ↦ inl (y, r, inr k)
-                  | inr n2 ↦ inr (λ (z, w, hit). (
-                      let same : z ≡ y =
-                      once z y w.stands r.stands (w.begins ∙ sym r.begins)
-                      (w.ends ∙ sym r.ends) in
-                      elim hit [
-                        | inl k ↦ n1 (subst (λ (i : ℕ). twin_of m (next i) ≡ Some e) same k)
-                        | inr k ↦ n2 (subst (λ (i : ℕ). twin_of m (prev i) ≡ Some e) same k)
-                      ]))
-                ]
-          ]
+          let only : (z : ℕ) → Runs m z p q → z ≡ y =
+          λ z w. once z y w.stands r.stands (w.begins ∙ sym r.begins) (w.ends ∙ sym r.ends) in
+          let first = option_eq? (twin_of m (next y)) e in
+          let second = option_eq? (twin_of m (prev y)) e in
+          grind (arith, common_steps)
     ]
 
 module _ {m n : Net} {a b : ℕ} (once : NoSideTwice m) (relinks : RelinksTwins m n a b) where
@@ -180,7 +163,4 @@ pub places-fresh : (places : List (Option Place)) (next a b v : ℕ) (place : Pl
     → b < next → next + 1 ≤ v → get_or places v None ≡ None →
     get_or (set (set (set places a None) b None) next (Some place)) v None ≡ None
 places-fresh places next a b v place la lb le fresh =
-    get_or-set_other (set (set places a None) b None) next v (Some place) None
-    (λ is. absurd (omega (arith, is)))
-    ∙ get_or-set_other (set places a None) b v None None (λ is. absurd (omega (arith, is)))
-    ∙ get_or-set_other places a v None None (λ is. absurd (omega (arith, is))) ∙ fresh
+    grind (arith, common_steps, get_or-set_other)

@@ -81,15 +81,16 @@ surface_there m corners across = grind (arith, common_steps, taken_places)
 
 fresh_places : (m : Mesh) (v : ℕ) → length m.points ≤ v → get_or (roomy_places m) v None ≡ None
 fresh_places m v le =
-    let n = 2 * length m.points - length m.points in
-    get_or-append_right (map Some m.points) (replicate n None) (length m.points) v None
-    (length-map m.points Some) le
-    ∙ elim (cases_lt (v - length m.points) n) [
-      | inl l ↦ get_or-replicate n (v - length m.points) None None l
-      | inr g ↦ get_or_past (replicate n None) (v - length m.points) None
-          (let len : length (replicate {A = Option Place} n None) ≡ n =
-          length-replicate n None in omega arith)
-    ]
+    grind (
+      arith,
+      common_steps,
+      get_or-append_right,
+      length-map,
+      cases_lt (v - length m.points) (2 * length m.points - length m.points),
+      get_or-replicate,
+      get_or_past,
+      length-replicate,
+    )
 
 -- The twins of a net, where they are asked for.
 record AreTwins (n : Net) (twins : List (Option ℕ)) : Type 0 where

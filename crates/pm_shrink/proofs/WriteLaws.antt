@@ -39,18 +39,14 @@ corners_same k l p q r = λ i. record { a = p i; b = q i; c = r i }
 renamed-other : (e : ℕ) (es : List ℕ) (v f : ℕ) (k : Corners) → f ≢ face_of e
     → renamed (e ∷ es) v f k ≡ renamed es v f k
 renamed-other e es v f k ne =
-    let off : (i : ℕ) → i < 3 → eqb e (3 * f + i) ≡ false =
-    λ i l. ne_eqb e (3 * f + i) (λ is. ne (omega (arith, is))) in
-    let at : (i : ℕ) (x : ℕ) → i < 3 → cond (eqb e (3 * f + i) || has es (3 * f + i)) v x
-    ≡ cond (has es (3 * f + i)) v x =
-    λ i x l. ap (λ b. cond (b || has es (3 * f + i)) v x) (off i l) in
-    corners_same (renamed (e ∷ es) v f k) (renamed es v f k)
-    (first e es v f k.a (ne_eqb e (3 * f) (λ is. ne (omega (arith, is)))))
-    (at 1 k.b (omega arith)) (at 2 k.c (omega arith))
-  where
-    first : (e : ℕ) (es : List ℕ) (v f x : ℕ) → eqb e (3 * f) ≡ false
-        → cond (eqb e (3 * f) || has es (3 * f)) v x ≡ cond (has es (3 * f)) v x
-    first e es v f x off = ap (λ b. cond (b || has es (3 * f)) v x) off
+    grind (
+      arith,
+      common_steps,
+      corners_same (renamed (e ∷ es) v f k) (renamed es v f k),
+      ne_eqb e (3 * f) (λ is. ne (omega (arith, is))),
+      ne_eqb e (3 * f + 1) (λ is. ne (omega (arith, is))),
+      ne_eqb e (3 * f + 2) (λ is. ne (omega (arith, is))),
+    )
 
 -- A corner of this face.
 pub cond_twice : (b c : Bool) (v x : ℕ) → cond b v (cond c v x) ≡ cond (c || b) v x
@@ -61,16 +57,8 @@ cond_twice false false v x = refl
 
 put_one : (h : Bool) (e n v x y : ℕ) → (e ≡ n → y ≡ v) → (e ≢ n → y ≡ x)
     → cond h v y ≡ cond (eqb e n || h) v x
-put_one h e n v x y on off =
-    elim (cases_eq e n) [
-      | inl is ↦ ap (λ z. cond h v z) (on is) ∙ both h v
-          ∙ sym (ap (λ b. cond (b || h) v x) (eq-eqb e n is))
-      | inr ne ↦ ap (λ z. cond h v z) (off ne) ∙ sym (ap (λ b. cond (b || h) v x) (ne_eqb e n ne))
-    ]
-  where
-    both : (h : Bool) (v : ℕ) → cond h v v ≡ v
-    both true v = refl
-    both false v = refl
+put_one true e n v x y on off = grind (arith, common_steps, cases_eq e n, eq-eqb, ne_eqb)
+put_one false e n v x y on off = grind (arith, common_steps, cases_eq e n, eq-eqb, ne_eqb)
 
 vertex-a : (k : Corners) (i v : ℕ) → (i ≡ 0 → (with_vertex k i v).a ≡ v)
     × (i ≢ 0 → (with_vertex k i v).a ≡ k.a)
@@ -105,12 +93,17 @@ read_corner : (faces : List (Option Corners)) (e v f : ℕ) → face_of e < leng
     ≡ cond (eqb f (face_of e)) (option_map (λ k. with_vertex k (e % 3) v) (get_or faces f None))
     (get_or faces f None)
 read_corner faces e v f l =
-    let new = option_map (λ k. with_vertex k (e % 3) v) (get_or faces (face_of e) None) in
-    elim (cases_eq f (face_of e)) [
-      | inl is ↦ grind (arith, common_steps, cond-true, eq-eqb, get_or, get_or-set_same)
-      | inr ne ↦ get_or-set_other faces (face_of e) f new None ne
-          ∙ sym (cond-false _ _ _ (ne_eqb f (face_of e) ne))
-    ]
+    grind (
+      arith,
+      common_steps,
+      cases_eq f (face_of e),
+      cond-true,
+      cond-false,
+      eq-eqb,
+      ne_eqb,
+      get_or-set_same,
+      get_or-set_other,
+    )
 
 -- All writes, read at a face.
 pub read_corners : (es : List ℕ) (faces : List (Option Corners)) (v f : ℕ)
