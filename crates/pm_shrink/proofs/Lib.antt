@@ -4,6 +4,7 @@ mod FaceTables
 mod CornerTables
 mod Started
 mod FanLaws
+mod UprightLaws
 pub mod ObstacleLaws
 mod BesideLaws
 mod BorderLaws

@@ -17,7 +17,8 @@ use Rattle.pm_runs.specs.Pairs.{StayUpright}
 use Rattle.pm_runs.specs.Steps.{side_from_to}
 use Rattle.pm_runs.proofs.Found.{found-runs, runs-found}
 use Rattle.pm_runs.proofs.Sides.{runs_last}
-use Rattle.pm_shrink.proofs.FanLaws.{upright_from, border-side}
+use Rattle.pm_shrink.proofs.FanLaws.{border-side}
+use Rattle.pm_shrink.proofs.UprightLaws.{upright_from}
 use Rattle.pm_shrink.specs.Walks.{has_two, IsStray, IsAloneAlong, StayUprightAt, TurnsAt}
 use Rattle.pm_shrink.specs.Obstacles.{Strays, TellsTriangle, IsAlone, TurnsOver}
 

@@ -1,6 +1,6 @@
 use Rattle.std.proofs.Common.{◌∙◌, sym}
 use Rattle.std.proofs.lemmas.Bool.{false≢true}
-use Rattle.pm_shrink.proofs.FanLaws.{upright_from, upright_at_first, upright_at_second}
+use Rattle.pm_shrink.proofs.UprightLaws.{upright_from, upright_at_first, upright_at_second}
 use Rattle.pm_shrink.proofs.shrink.Shrink.stay_upright.Goals as goal
 
 pub returns-then-stay_upright_at : goal.returns-then-stay_upright_at

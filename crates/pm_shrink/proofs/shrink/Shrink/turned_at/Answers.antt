@@ -2,7 +2,8 @@ use Rattle.std.proofs.Common.{◌≡◌, ◌∙◌, sym, arith}
 use Rattle.std.proofs.lemmas.List.Elements.{All-tail}
 use Rattle.pm_base.specs.Sides.{Stands}
 use Rattle.pm_shrink.specs.Shrinking.{net_at}
-use Rattle.pm_shrink.proofs.FanLaws.{so_far_more, so_far_all, all_upright, own_upright, same_place}
+use Rattle.pm_shrink.proofs.FanLaws.{so_far_more, so_far_all}
+use Rattle.pm_shrink.proofs.UprightLaws.{all_upright, own_upright, same_place}
 use Rattle.pm_shrink.proofs.shrink.Shrink.turned_at.Goals as goal
 
 pub returns-then-turns_over : goal.returns-then-turns_over
