@@ -32,4 +32,4 @@ pub turns_found : (s : Surface) (a b p q : ℕ) (place : Place) → IsPair a b p
     IfSome r (λ e. TurnsOver s a b place e.0)
 turns_found s a b p q place pair None found = tt
 turns_found s a b p q place pair (Some e) found =
-    turns_here s a b p q place pair e.0 found.0 found.1 found.2
+    turns_here s a b p q place pair e.0 found

@@ -66,7 +66,7 @@ pub record SoFar (good : ℕ → Type 0) (all xs : List ℕ) : Type 0 where
 pub so_far_more : {good : ℕ → Type 0} {all xs : List ℕ} {x : ℕ} {rest : List ℕ}
     → SoFar good all xs → xs ≡ x ∷ rest → good x → SoFar good all rest
 so_far_more {good} {all} {xs} {x} {rest} passed steps here =
-    record { each = λ e h. more good all xs x rest passed.each steps here e h }
+    record { each = more good all xs x rest passed.each steps here }
   where
     more : (good : ℕ → Type 0) (all xs : List ℕ) (x : ℕ) (rest : List ℕ)
         → ((e : ℕ) → has all e ≡ true → (has xs e ≡ true) ⊎ good e) → xs ≡ x ∷ rest → good x

@@ -186,10 +186,10 @@ module _ {t : Tables} {c : Collapse} {one two three four last : Tables}
         room = omega (arith, length-places, w.kept.roomy.room, live, one_less, next_after);
         most = omega (arith, length-places, w.kept.roomy.most);
         fresh = λ v l. ap (λ xs. get_or xs v None) places_are
-            ∙ places-fresh t.places t.next c.t c.u v c.place
-            (omega (arith, first_low w.kept w.step, next_is w.kept w.step))
-            (omega (arith, second_low w.kept w.step, next_is w.kept w.step))
-            (omega (arith, next_after))
+            ∙ places-fresh t.places t.next c.t c.u v c.place (
+              omega (arith, first_low w.kept w.step, next_is w.kept w.step),
+              omega (arith, second_low w.kept w.step, next_is w.kept w.step),
+            ) (omega (arith, next_after))
             (w.kept.roomy.fresh v (omega (arith, next_after)));
       }
 

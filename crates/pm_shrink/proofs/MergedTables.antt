@@ -159,8 +159,8 @@ places-merged places next a b place la lb ln =
     ∙ ap (λ k. k ++ Some place ∷ []) (take-set-lt next (set places a None) b None lb
     ∙ ap (λ k. set k b None) (take-set-lt next places a None la))
 
-pub places-fresh : (places : List (Option Place)) (next a b v : ℕ) (place : Place) → a < next
-    → b < next → next + 1 ≤ v → get_or places v None ≡ None →
+pub places-fresh : (places : List (Option Place)) (next a b v : ℕ) (place : Place)
+    → (a < next) × (b < next) → next + 1 ≤ v → get_or places v None ≡ None →
     get_or (set (set (set places a None) b None) next (Some place)) v None ≡ None
-places-fresh places next a b v place la lb le fresh =
+places-fresh places next a b v place (la, lb) le fresh =
     grind (arith, common_steps, get_or-set_other)

@@ -148,9 +148,9 @@ alone_back m p q (Some e) P h = (
 
 -- A face at one of the two that turns over.
 pub turns_here : (s : Surface) (a b p q : ℕ) (place : Place) → IsPair a b p q → (e : ℕ)
-    → Stands (net_of_surface s) e → (net_of_surface s).from e ≡ p → TurnsAt s q place e
+    → Stands (net_of_surface s) e × ((net_of_surface s).from e ≡ p) × TurnsAt s q place e
     → TurnsOver s a b place e
-turns_here s a b p q place pair e st at x = grind (arith, common_steps)
+turns_here s a b p q place pair e (st, at, x) = grind (arith, common_steps)
 
 pub turned_second : (s : Surface) (a b : ℕ) (place : Place) → StayUprightAt s a b place
     → (r : Option Side) →
@@ -159,4 +159,4 @@ pub turned_second : (s : Surface) (a b : ℕ) (place : Place) → StayUprightAt 
     MatchOption r (StayUpright s a b place) (λ e. TurnsOver s a b place e.0)
 turned_second s a b place first None second = upright_from s a b place first second
 turned_second s a b place first (Some e) found =
-    turns_here s a b b a place (inr (refl, refl)) e.0 found.0 found.1 found.2
+    turns_here s a b b a place (inr (refl, refl)) e.0 found

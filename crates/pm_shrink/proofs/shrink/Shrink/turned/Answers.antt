@@ -6,7 +6,7 @@ pub returns-in-Some-turned_at : goal.returns-in-Some-turned_at
 returns-in-Some-turned_at c =
     let found = c.in-Some-turned_at.ensures {u = tt} in
     turns_here c.args.self.now.surface c.args.a c.args.b c.args.a c.args.b c.args.place
-    (inl (refl, refl)) c.in-Some-turned_at.corner.0 found.0 found.1 found.2
+    (inl (refl, refl)) c.in-Some-turned_at.corner.0 found
 
 pub returns : goal.returns
 returns c = turned_second c.args.self.now.surface c.args.a c.args.b c.args.place

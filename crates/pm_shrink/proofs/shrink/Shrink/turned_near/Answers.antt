@@ -7,7 +7,7 @@ pub returns-in-Some : goal.returns-in-Some
 returns-in-Some c =
     let found = c.in-Some.ensures {u = tt} in
     turns_here c.args.self.now.surface c.args.a c.args.b c.args.a c.args.b c.args.place
-    (inl (refl, refl)) c.in-Some.corner.0 found.0 found.1 found.2
+    (inl (refl, refl)) c.in-Some.corner.0 found
 
 pub returns : goal.returns
 returns c = turns_found c.args.self.now.surface c.args.a c.args.b c.args.b c.args.a c.args.place
