@@ -2,7 +2,7 @@
 use Rattle.std.proofs.Common.{suc, ◌≡◌, ℕ, ◌+◌, ◌-◌, ◌<◌, ◌≤◌, List, length, get_or, Option, None}
 use Rattle.std.proofs.Common.{Some, is_some, is_none, inl, inr, refl, sym, ap, ◌∙◌, subst, arith}
 use Rattle.std.proofs.lemmas.Bool.{cases_lt, false≢true}
-use Rattle.std.proofs.lemmas.List.{length-set}
+use Rattle.std.proofs.lemmas.List.{length-set, get_or_read}
 use Rattle.pm_base.proofs.Search.{option_cases}
 use Rattle.pm_base.specs.Counts.{one_if}
 use Rattle.pm_base.specs.declared.log.Gone.{Gone}
@@ -12,7 +12,7 @@ use Rattle.pm_forest.proofs.FaceNumbers.{first_face-mono}
 use Rattle.pm_number.specs.Stages.{Run, steps, entry_at, IsMerging}
 use Rattle.pm_number.specs.Numbering.{dropped_by, place_in, base_faces, step_of, faces_before}
 use Rattle.pm_number.specs.Numbering.{face_number, hierarchy_of}
-use Rattle.pm_number.specs.Tables.{HasNumbers, RootsHave, GoneHas, with_gone}
+use Rattle.pm_number.specs.Tables.{IsSmallRun, HasNumbers, RootsHave, GoneHas, with_gone}
 use Rattle.pm_number.proofs.Positions.{at_place, picked-at}
 use Rattle.pm_number.proofs.NodeNumbers.{count}
 use Rattle.pm_number.proofs.NumberedFaces.{none-number, is_base, is_left_of, is_right_of, face_is}
@@ -119,25 +119,50 @@ pub faces_start : (r : Run) → faces_before r 0 ≡ length (base_faces r)
 unfolding faces_before
 faces_start r = refl
 
-pub dropped_more : (r : Run) → IsMerging r → (table : List ℕ) (d n : ℕ) (c : Collapse)
-    → c ≡ entry_at r (steps r - 1 - d) → d < steps r → length table ≡ r.net.faces
-    → n ≡ faces_before r d →
-    ((j : ℕ) → j < length (base_faces r) → RootsHave table (face_number r) (base_faces r) j)
-    → RecordsHave r table d →
-    let after = with_gone (with_gone table c.left n) c.right (n + one_if (is_some c.left)) in
-    (length after ≡ r.net.faces)
-    × (n + one_if (is_some c.left) + one_if (is_some c.right) ≡ faces_before r (d + 1))
-    × ((j : ℕ) → j < length (base_faces r) → RootsHave after (face_number r) (base_faces r) j)
-    × RecordsHave r after (d + 1)
-dropped_more r run table d n c is l len n_is bases records =
-    let same : steps r - 1 - d ≡ steps r - suc d = omega arith in
-    let c_is : c ≡ step_of r d = is ∙ ap (entry_at r) same in
+pub few_bases : {r : Run} {bases : List ℕ} → IsSmallRun r → bases ≡ base_faces r
+    → length bases ≤ 1048576
+few_bases {r} {bases} small is =
+    let most = faces_before-le r small.merging 0 (omega arith) in
+    let start = faces_start r in
+    let few = small.few_faces in
+    let len = ap length is in
+    omega arith
+
+-- what is read of the list of base faces
+pub base_read : {r : Run} {bases : List ℕ} {i f : ℕ} → IsMerging r → bases ≡ base_faces r
+    → i < length bases → f ≡ get_or bases i f → f < r.net.faces
+base_read {r} {bases} {i} {f} run is l read =
+    rw (get_or_read bases i f l read 0 ∙ ap (λ xs. get_or xs i 0) is)
+    (bases_inside r run i (rw is at l)).0
+
+-- A table of faces once the base faces and those of d records are numbered, and the next number.
+pub record HasDropped (r : Run) (table : List ℕ) (n d : ℕ) : Type 0 where
+  pub len : length table ≡ r.net.faces
+  pub next : n ≡ faces_before r d
+  pub bases : (j : ℕ) → j < length (base_faces r)
+      → RootsHave table (face_number r) (base_faces r) j
+  pub records : RecordsHave r table d
+
+pub next_small : {r : Run} {table : List ℕ} {next d : ℕ} → IsSmallRun r
+    → HasDropped r table next d → d ≤ steps r → next ≤ 1048576
+next_small {r} {table} {next} {d} small has l =
+    let most = faces_before-le r small.merging d l in
+    let few = small.few_faces in
+    let is = has.next in
+    omega arith
+
+pub dropped_more : {r : Run} {table : List ℕ} {n d : ℕ} {c : Collapse} → IsMerging r
+    → HasDropped r table n d → c ≡ step_of r d → d < steps r
+    → HasDropped r (with_gone (with_gone table c.left n) c.right (n + one_if (is_some c.left)))
+    (n + one_if (is_some c.left) + one_if (is_some c.right)) (d + 1)
+dropped_more {r} {table} {n} {d} {c} run was c_is l =
+    let len = was.len in
     let m = n + one_if (is_some c.left) in
     let fits : GoneFits (face_number r) c.left n r.net.faces
     × GoneFits (face_number r) c.right (n + one_if (is_some c.left)) r.net.faces =
     subst (λ (x : Collapse). GoneFits (face_number r) x.left n r.net.faces
     × GoneFits (face_number r) x.right (n + one_if (is_some x.left)) r.net.faces) (sym c_is)
-    (dropped_fit r run d l n n_is) in
+    (dropped_fit r run d l n was.next) in
     let middle = with_gone table c.left n in
     let middle_len = with_gone-len table c.left n in
     let first : GoneFits (face_number r) c.left n (length table) = rw len fits.0 in
@@ -156,14 +181,15 @@ dropped_more r run table d n c is l len n_is bases records =
           (gone_has table (face_number r) c.left n first),
       gone_has middle (face_number r) c.right m
           second,
-    ) in (
-      with_gone-len middle c.right m ∙ middle_len ∙ len,
-      rw c_is (ap (λ k. k + one_if (is_some (step_of r d).left) + one_if
-          (is_some (step_of r d).right)) n_is ∙ sym (faces_next r d)),
-      λ j b. keeps (get_or (base_faces r) j 0) (bases j b),
-      λ j j_lt. elim (cases_lt j d) [
+    ) in
+    record {
+      len = with_gone-len middle c.right m ∙ middle_len ∙ len;
+      next = rw c_is (ap (λ k. k + one_if (is_some (step_of r d).left) + one_if
+          (is_some (step_of r d).right)) was.next ∙ sym (faces_next r d));
+      bases = λ j b. keeps (get_or (base_faces r) j 0) (was.bases j b);
+      records = λ j j_lt. elim (cases_lt j d) [
         | inl a ↦ (let old =
-            records j a in (stays (step_of r j).left old.0, stays (step_of r j).right old.1))
+            was.records j a in (stays (step_of r j).left old.0, stays (step_of r j).right old.1))
         | inr a ↦
             let j_is : j ≡ d = omega arith in
             subst (λ k. GoneHas (with_gone middle c.right m) (face_number r) (step_of r k).left
@@ -171,30 +197,29 @@ dropped_more r run table d n c is l len n_is bases records =
             (sym j_is)
             (subst (λ (x : Collapse). GoneHas (with_gone middle c.right m) (face_number r) x.left
             × GoneHas (with_gone middle c.right m) (face_number r) x.right) c_is own)
-      ],
-    )
+      ];
+    }
 
 gone_read : (table : List ℕ) (number : ℕ → ℕ) (g : Option Gone) (x : Gone) → g ≡ Some x
     → GoneHas table number g → get_or table x.face.0 0 ≡ number x.face.0
 gone_read table number g x is has = subst (GoneHas table number) is has
 
-pub faces_all : (r : Run) → IsMerging r → (table : List ℕ) → length table ≡ r.net.faces →
-    ((j : ℕ) → j < length (base_faces r) → RootsHave table (face_number r) (base_faces r) j)
-    → RecordsHave r table (steps r) → HasNumbers table (face_number r) r.net.faces
-faces_all r run table len bases records = record {
-  len = len;
+pub faces_all : {r : Run} {table : List ℕ} {n : ℕ} → IsMerging r → HasDropped r table n (steps r)
+    → HasNumbers table (face_number r) r.net.faces
+faces_all {r} {table} run has = record {
+  len = has.len;
   each = λ f l. elim (face_is r run f l) [
     | is_base place is ↦
         subst (λ w. get_or table w 0 ≡ face_number r w) (at_place f 0 (base_faces r) place)
-        (bases (place_in f (base_faces r)) place)
+        (has.bases (place_in f (base_faces r)) place)
     | is_left_of i g i_lt g_is on is ↦
         let back : steps r - suc (steps r - suc i) ≡ i = omega arith in
         rw (← on) (gone_read table (face_number r) (step_of r (steps r - suc i)).left g
-        (ap (λ k. (entry_at r k).left) back ∙ g_is) (records (steps r - suc i) (omega arith)).0)
+        (ap (λ k. (entry_at r k).left) back ∙ g_is) (has.records (steps r - suc i) (omega arith)).0)
     | is_right_of i g i_lt g_is on is ↦
         let back : steps r - suc (steps r - suc i) ≡ i = omega arith in
         rw (← on) (gone_read table (face_number r) (step_of r (steps r - suc i)).right g
         (ap (λ k. (entry_at r k).right) back ∙ g_is)
-        (records (steps r - suc i) (omega arith)).1)
+        (has.records (steps r - suc i) (omega arith)).1)
   ];
 }

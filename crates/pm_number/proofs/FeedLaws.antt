@@ -1,16 +1,16 @@
 -- What a shaper has taken in of the hierarchy of a run, one unit more at a time.
-use Rattle.std.proofs.Common.{◌≡◌, ℕ, ◌+◌, ◌*◌, ◌<◌, ◌⊎◌, eqb, true, false, cond, not, List}
+use Rattle.std.proofs.Common.{◌≡◌, ℕ, ◌+◌, ◌*◌, ◌-◌, suc, ◌<◌, ◌⊎◌, eqb, Bool, true, false, not}
+use Rattle.std.proofs.Common.{[], ◌∷◌, ◌++◌}
+use Rattle.std.proofs.Common.{length, get_or, Option, None, Some, is_some, inl, inr, refl, sym}
+use Rattle.std.proofs.Common.{ap, ◌∙◌, arith}
 use Rattle.std.proofs.lemmas.Grind.{common_steps}
-use Rattle.std.proofs.Common.{[], ◌∷◌, ◌++◌, length, get_or, take, Option, None, Some, Ok, Err}
-use Rattle.std.proofs.Common.{Result, is_some, inl, inr, refl, sym, ap, ◌∙◌, arith}
-use Rattle.std.specs.Prelude.{ℤ, IfErr, OnOk, IfSome}
 use Rattle.std.proofs.lemmas.Bool.{lt-ltb, le-ltb}
 use Rattle.std.proofs.lemmas.Option.{none-some}
-use Rattle.std.proofs.lemmas.List.{length-take-le, take_more}
+use Rattle.std.proofs.lemmas.List.{length-map, length-take-le, take_more}
+use Rattle.std.specs.Prelude.{IfSome, if◌then◌else◌}
 use Rattle.pm_base.specs.Counts.{one_if}
-use Rattle.pm_base.specs.Sides.{Net, next}
+use Rattle.pm_base.specs.Place.{is_place}
 use Rattle.pm_base.specs.declared.log.Gone.{Gone}
-use Rattle.pm_forest.specs.declared.parts.Counts.{Counts}
 use Rattle.pm_forest.specs.declared.parts.Root.{Root}
 use Rattle.pm_forest.specs.declared.parts.Face.{Face}
 use Rattle.pm_forest.specs.declared.parts.Head.{Head}
@@ -23,65 +23,82 @@ use Rattle.pm_forest.specs.Faces.{no_face_corners}
 use Rattle.pm_forest.specs.Places.{no_root}
 use Rattle.pm_forest.specs.Rules.{root_fault, base_fault, head_of, head_fault, presence_is_bad}
 use Rattle.pm_forest.specs.Rules.{new_face_fault, bare, left_only, with_record, word_of, counts_of}
-use Rattle.pm_forest.specs.Shaping.{Shaping, expects, so_far, next_root, next_face, started}
-use Rattle.pm_forest.specs.Shaping.{settled, with_face}
+use Rattle.pm_forest.specs.Shaping.{Shaping, expects, so_far, next_face, started, settled}
+use Rattle.pm_forest.specs.Shaping.{with_face}
 use Rattle.pm_forest.proofs.Prefix.{cut, cut-more}
 use Rattle.pm_forest.proofs.FacesTaken.{side_of-word}
+use Rattle.pm_number.specs.declared.tables.Numbers.{Numbers}
 use Rattle.pm_number.specs.Stages.{Run, steps, net_of_run_after, IsGone, IsMerging}
-use Rattle.pm_number.specs.Numbering.{step_of, place_number, width_number, input_number}
-use Rattle.pm_number.specs.Numbering.{numbered_root, numbered_face, numbered_side, numbered_gone}
-use Rattle.pm_number.specs.Numbering.{hierarchy_of}
-use Rattle.pm_number.proofs.NodeNumbers.{record-at}
+use Rattle.pm_base.specs.Sides.{Net}
+use Rattle.pm_number.specs.Numbering.{step_of, numbered_gone, hierarchy_of, left_over, base_faces}
+use Rattle.pm_number.specs.Numbering.{place_number, numbered_face}
+use Rattle.pm_number.specs.Tables.{run_by, hierarchy_by, AreNumbers, IsSmallRun, took_roots}
+use Rattle.pm_number.specs.Tables.{took_bases, first_records, took_records, IsAmong, IsDue}
+use Rattle.pm_number.specs.Tables.{with_due}
+use Rattle.pm_number.proofs.NodeNumbers.{root-count, record-at, count}
 use Rattle.pm_number.proofs.FacePositions.{gone-lt}
-use Rattle.pm_number.specs.Tables.{coordinates, took_roots, took_bases, took_records}
-use Rattle.pm_number.specs.Tables.{with_head_taken, took_left}
-use Rattle.pm_beyond.specs.Walks.{number_of}
-
--- where there is no fault, the answer is what comes with no fault
-ok_only : (P : Type 0) (result : Result (Unit {0}) Shape) (fault : Option Shape) → fault ≡ None
-    → IfErr result (λ e. fault ≡ Some e) → OnOk result P → P
-ok_only P (Ok x) fault none err ok = ok
-ok_only P (Err e) fault none err ok = absurd (none-some e (sym none ∙ err))
+use Rattle.pm_number.proofs.FaceFitting.{base_fits, left_fits, right_fits}
+use Rattle.pm_number.proofs.Fitting.{presence_fits, root_fits, head_fits}
 
 -- Roots
 
-pub expects_root : (h : Hierarchy) (s : Shaping) (i : ℕ) → s ≡ took_roots h i → i < length h.roots
-    → expects s ≡ kinds.Root
-expects_root h s i is l =
-    let len = length-take-le i h.roots (omega arith) in
-    rw (is, lt-ltb (length (take i h.roots)) (length h.roots) (omega arith)) refl
+pub root_len : {n : Numbers} → AreNumbers n → length n.left.items ≡ length (hierarchy_by n).roots
+root_len {n} own = ap length own.left_is ∙ sym (root-count (run_by n))
 
-pub root_taken : (h : Hierarchy) (s new : Shaping) (i : ℕ) (x : Root)
-    (result : Result (Unit {0}) Shape) → s ≡ took_roots h i → i < length h.roots →
-    x ≡ get_or h.roots i no_root
-    → root_fault (counts_of h) (take i h.roots) (get_or h.roots i no_root) ≡ None →
-    IfErr result (λ e. root_fault s.counts s.h.roots x ≡ Some e) →
-    OnOk result (new ≡ record s { h = record s.h { roots = s.h.roots ++ x ∷ [] } })
-    → new ≡ took_roots h (i + 1)
-root_taken h s new i x result is l x_is fits err ok =
-    grind (arith, common_steps, ok_only, take_more)
+pub expects_root : (h : Hierarchy) (i : ℕ) {s : Shaping} → s ≡ took_roots h i → i < length h.roots
+    → expects s ≡ kinds.Root
+expects_root h i {s} is l = grind (arith, common_steps, length-take-le, lt-ltb)
+
+pub root_passes : (r : Run) (i : ℕ) {s : Shaping} {x : Root} {e : Shape} → IsMerging r
+    → i < length (hierarchy_of r).roots
+    → is_place (place_number r (get_or (left_over r) i 0)) ≡ true
+    → s ≡ took_roots (hierarchy_of r) i → x ≡ get_or (hierarchy_of r).roots i no_root
+    → root_fault s.counts s.h.roots x ≡ Some e → ⊥
+root_passes r i {s} {x} {e} run l place is x_is fault =
+    let fits = root_fits r run i (omega (arith, root-count r)) place in
+    none-some e (sym (rw (is, x_is) fits) ∙ fault)
+
+pub root_taken : (h : Hierarchy) (i : ℕ) {s : Shaping} {x : Root} → s ≡ took_roots h i
+    → i < length h.roots → x ≡ get_or h.roots i no_root
+    → record s { h = record s.h { roots = s.h.roots ++ x ∷ [] } } ≡ took_roots h (i + 1)
+root_taken h i {s} {x} is l x_is = grind (arith, common_steps, take_more)
 
 -- Base faces
 
-pub expects_base : (h : Hierarchy) (s : Shaping) (i : ℕ) → s ≡ took_bases h i → i < length h.bases
+pub base_len : {n : Numbers} → AreNumbers n → length n.bases.items ≡ length (hierarchy_by n).bases
+base_len {n} own =
+    ap length own.bases_are ∙ sym (length-map (base_faces (run_by n)) (numbered_face (run_by n)))
+
+pub expects_base : (h : Hierarchy) (i : ℕ) {s : Shaping} → s ≡ took_bases h i → i < length h.bases
     → expects s ≡ kinds.Base
-expects_base h s i is l = grind (arith, common_steps, le-ltb, length-take-le, lt-ltb)
+expects_base h i {s} is l = grind (arith, common_steps, le-ltb, length-take-le, lt-ltb)
 
-pub base_taken : (h : Hierarchy) (s new : Shaping) (i : ℕ) (x : Face)
-    (result : Result (Unit {0}) Shape) → s ≡ took_bases h i → i < length h.bases →
-    x ≡ get_or h.bases i no_face_corners
-    → base_fault h.roots (take i h.bases) (get_or h.bases i no_face_corners) ≡ None →
-    IfErr result (λ e. base_fault s.h.roots s.h.bases x ≡ Some e) →
-    OnOk result (new ≡ record s { h = record s.h { bases = s.h.bases ++ x ∷ [] } })
-    → new ≡ took_bases h (i + 1)
-base_taken h s new i x result is l x_is fits err ok =
-    grind (arith, common_steps, ok_only, take_more)
+pub base_passes : (r : Run) (i : ℕ) {s : Shaping} {x : Face} {e : Shape} → IsSmallRun r
+    → i < length (hierarchy_of r).bases → s ≡ took_bases (hierarchy_of r) i
+    → x ≡ get_or (hierarchy_of r).bases i no_face_corners
+    → base_fault s.h.roots s.h.bases x ≡ Some e → ⊥
+base_passes r i {s} {x} {e} small l is x_is fault =
+    let fits = base_fits r small.merging small.few_faces i l in
+    none-some e (sym (rw (is, x_is) fits) ∙ fault)
 
--- Heads
+pub base_taken : (h : Hierarchy) (i : ℕ) {s : Shaping} {x : Face} → s ≡ took_bases h i
+    → i < length h.bases → x ≡ get_or h.bases i no_face_corners
+    → record s { h = record s.h { bases = s.h.bases ++ x ∷ [] } } ≡ took_bases h (i + 1)
+base_taken h i {s} {x} is l x_is = grind (arith, common_steps, take_more)
 
-pub expects_head : (h : Hierarchy) (s : Shaping) (k : ℕ) → s ≡ took_records h k → k < record_count h
-    → expects s ≡ kinds.Head
-expects_head h s k is l = grind (arith, common_steps, le-ltb, length-take-le, lt-ltb)
+-- Records
+
+-- A shaper that has the first k records, and the head of record k.
+abbrev pub with_head : Hierarchy → ℕ → Shaping
+with_head h k = let x = record_at h k in record {
+  counts = counts_of h;
+  h = first_records h k;
+  coming = Some (record {
+    split = bare x;
+    left_due = is_some x.left;
+    right_due = is_some x.right;
+  });
+}
 
 due_is : (l r : Option NewFace) → presence_is_bad (one_if (is_some l) + 2 * one_if (is_some r))
     ≡ false →
@@ -101,144 +118,147 @@ started_is : (x : Record) → presence_is_bad (head_of x).presence ≡ false
     }
 started_is x fits = let due = due_is x.left x.right fits in rw (due.0, due.1) refl
 
-pub head_taken : (h : Hierarchy) (s new : Shaping) (k : ℕ) (d : Head)
-    (result : Result (Unit {0}) Shape) → s ≡ took_records h k
-    → presence_is_bad (head_of (record_at h k)).presence ≡ false →
-    d ≡ head_of (record_at h k) → head_fault (cut h k) (head_of (record_at h k)) ≡ None →
-    IfErr result (λ e. head_fault s.h d ≡ Some e)
-    → OnOk result (new ≡ record s { coming = Some (started d) }) → new ≡ with_head_taken h k
-head_taken h s new k d result is some d_is fits err ok =
-    let none : head_fault s.h d ≡ None = rw (is, d_is) fits in
-    ok_only (new ≡ record s { coming = Some (started d) }) result (head_fault s.h d) none err ok
-    ∙ rw (is, d_is, started_is (record_at h k) some) refl
-
 -- New faces
 
--- the left face of a record, as it was sent
-pub expects_left : (h : Hierarchy) (s : Shaping) (k : ℕ) (n : NewFace) → s ≡ with_head_taken h k
-    → (record_at h k).left ≡ Some n → (expects s ≡ kinds.LeftFace) ⊎ (expects s ≡ kinds.RightFace)
-expects_left h s k n is left = inl (rw (is, left) refl)
+-- a shaper that waits for a face expects one
+pub expects_due : {s : Shaping} {n : NewFace} → IsDue s n
+    → (expects s ≡ kinds.LeftFace) ⊎ (expects s ≡ kinds.RightFace)
+expects_due {s} {n} due = rw due.is (expects_side due.coming.left_due)
+  where
+    expects_side : (left : Bool) →
+        ((if left then kinds.LeftFace else kinds.RightFace) ≡ kinds.LeftFace)
+        ⊎ ((if left then kinds.LeftFace else kinds.RightFace) ≡ kinds.RightFace)
+    expects_side true = inl refl
+    expects_side false = inr refl
 
-left_settled : (c : Counts) (g whole : Hierarchy) (x : Record) (n : NewFace) (o : Option NewFace)
-    → x.left ≡ Some n → x.right ≡ o → with_record g x ≡ whole →
-    settled c g (with_face (record { split = bare x; left_due = true; right_due = is_some o }) n)
-    ≡ cond (is_some o)
-    (record {
-      counts = c;
-      h = g;
-      coming = Some (record { split = left_only x; left_due = false; right_due = true });
-    })
-    (record { counts = c; h = whole; coming = None })
-left_settled c g whole x n None left right all = grind (arith, common_steps)
-left_settled c g whole x n (Some m) left right all = rw left refl
+pub due_passes : {s : Shaping} {n : NewFace} (e : Shape) → IsDue s n
+    → IfSome s.coming
+    (λ p. new_face_fault (so_far s.h s.coming) p.left_due n.face (word_of n.first)
+    (word_of n.second) ≡ Some e) → ⊥
+due_passes {s} {n} e due fault =
+    none-some e (sym (rw due.is at due.fits) ∙ rw due.is at fault)
 
-pub left_taken : (h : Hierarchy) (s new : Shaping) (k : ℕ) (f : Face) (first second : ℕ)
-    (n : NewFace) (result : Result (Unit {0}) Shape) → s ≡ with_head_taken h k → k < record_count h
-    →
-    (record_at h k).left ≡ Some n → next_face f first second ≡ n →
-    f ≡ n.face → first ≡ word_of n.first → second ≡ word_of n.second →
-    new_face_fault (with_record (cut h k) (bare (record_at h k))) true n.face (word_of n.first)
-    (word_of n.second) ≡ None →
-    IfSome s.coming
-    (λ p. IfErr result (λ e. new_face_fault (so_far s.h s.coming) p.left_due f first second
-    ≡ Some e)) →
-    IfSome s.coming
-    (λ p. OnOk result (new ≡ settled s.counts s.h (with_face p (next_face f first second))))
-    → new ≡ took_left h k
-left_taken h s new k f first second n result is l left next f_is first_is second_is fits err ok =
-    grind (arith, common_steps, cut, cut-more, is_some, left_settled, ok_only)
+pub due_taken : {s new : Shaping} (n : NewFace) → IsDue s n
+    → IfSome s.coming
+    (λ p. new ≡ settled s.counts s.h
+    (with_face p (next_face n.face (word_of n.first) (word_of n.second))))
+    → new ≡ with_due s (Some n)
+due_taken {s} {new} n due taken =
+    rw due.is (rw (due.is, side_of-word n.first, side_of-word n.second) at taken)
 
--- a record without a left face has its right one still to come
-pub no_left : (h : Hierarchy) (k : ℕ) (o : Option NewFace) → (record_at h k).right ≡ o
-    → presence_is_bad (head_of (record_at h k)).presence ≡ false → (record_at h k).left ≡ None →
-    with_head_taken h k ≡ took_left h k
-no_left h k None right fits none =
-    let bad : presence_is_bad 0 ≡ false = rw (none, right) at fits in
-    absurd cc
-no_left h k (Some m) right fits none = rw (none, right) refl
+-- the faces of a record are due once its head is there, and then the record is there
+module _ (h : Hierarchy) (k : ℕ) where
+  abbrev x : Record
+  x = record_at h k
 
--- the right face
-pub expects_right : (h : Hierarchy) (s : Shaping) (k : ℕ) (n : NewFace) → s ≡ took_left h k
-    → (record_at h k).right ≡ Some n → (expects s ≡ kinds.LeftFace) ⊎ (expects s ≡ kinds.RightFace)
-expects_right h s k n is right = inr (rw (is, right) refl)
+  due_left : (o : Option NewFace) → x.left ≡ o
+      → ((n : NewFace) → x.left ≡ Some n →
+      new_face_fault (with_record (cut h k) (bare x)) true n.face (word_of n.first)
+      (word_of n.second) ≡ None) →
+      IfSome o (IsDue (with_head h k))
+  due_left None is fits = tt
+  due_left (Some n) is fits = record {
+    coming = record { split = bare x; left_due = is_some x.left; right_due = is_some x.right };
+    is = refl;
+    fits = rw is (fits n is);
+  }
 
-pub right_taken : (h : Hierarchy) (s new : Shaping) (k : ℕ) (f : Face) (first second : ℕ)
-    (n : NewFace) (result : Result (Unit {0}) Shape) → s ≡ took_left h k → k < record_count h →
-    (record_at h k).right ≡ Some n → next_face f first second ≡ n →
-    f ≡ n.face → first ≡ word_of n.first → second ≡ word_of n.second →
-    new_face_fault (with_record (cut h k) (left_only (record_at h k))) false n.face
-    (word_of n.first) (word_of n.second) ≡ None →
-    IfSome s.coming
-    (λ p. IfErr result (λ e. new_face_fault (so_far s.h s.coming) p.left_due f first second
-    ≡ Some e)) →
-    IfSome s.coming
-    (λ p. OnOk result (new ≡ settled s.counts s.h (with_face p (next_face f first second))))
-    → new ≡ took_records h (k + 1)
-right_taken h s new k f first second n result is l right next f_is first_is second_is fits err ok =
-    grind (arith, common_steps, cut, cut-more, is_some, ok_only)
+  due_right : (l r : Option NewFace) → x.left ≡ l → x.right ≡ r
+      → ((n : NewFace) → x.right ≡ Some n →
+      new_face_fault (with_record (cut h k) (left_only x)) false n.face (word_of n.first)
+      (word_of n.second) ≡ None) →
+      IfSome r (IsDue (with_due (with_head h k) l))
+  due_right l None left right fits = tt
+  due_right None (Some n) left right fits = record {
+    coming = record { split = bare x; left_due = is_some x.left; right_due = is_some x.right };
+    is = refl;
+    fits = rw left (rw left at (fits n right));
+  }
+  due_right (Some m) (Some n) left right fits = record {
+    coming = record { split = left_only x; left_due = false; right_due = true };
+    is = rw (left, right) refl;
+    fits = rw (left, right) (rw left at (fits n right));
+  }
 
-pub no_right : (h : Hierarchy) (k : ℕ) → (record_at h k).right ≡ None
-    → took_left h k ≡ took_records h (k + 1)
-no_right h k none = rw none refl
+  both_taken : (l r : Option NewFace) → x.left ≡ l → x.right ≡ r → k < record_count h
+      → presence_is_bad (head_of x).presence ≡ false
+      → with_due (with_due (with_head h k) l) r ≡ took_records h (k + 1)
+  both_taken None None left right inside fits = absurd (let bad = rw (left, right) at fits in cc)
+  both_taken None (Some n) left right inside fits =
+      grind (arith, common_steps, cut, cut-more, is_some)
+  both_taken (Some m) None left right inside fits =
+      grind (arith, common_steps, cut, cut-more, is_some)
+  both_taken (Some m) (Some n) left right inside fits =
+      grind (arith, common_steps, cut, cut-more, is_some)
 
--- the sides that the log names are sides of the mesh
-pub sides_inside : (m : Net) (p q : ℕ) (o : Option Gone) (g : Gone) → o ≡ Some g → IsGone m p q o
-    → (e : ℕ) → ((number_of g.first ≡ Some e) → e < 3 * m.faces)
-    × ((number_of g.second ≡ Some e) → e < 3 * m.faces)
-sides_inside m p q o g is gone e = grind (arith, common_steps)
-
--- What is sent of a dropped face.
-pub record Sent (r : Run) (o : Option Gone) (g : Gone) : Type 0 where
-  pub face : g.face.0 < r.net.faces
-  pub first : (e : ℕ) → number_of g.first ≡ Some e → e < 3 * r.net.faces
-  pub second : (e : ℕ) → number_of g.second ≡ Some e → e < 3 * r.net.faces
-  pub taken : NewFace
-  pub is : numbered_gone r o ≡ Some taken
-  pub face_is : numbered_face r g.face.0 ≡ taken.face
-  pub first_is : numbered_side r g.first ≡ taken.first
-  pub second_is : numbered_side r g.second ≡ taken.second
-
-pub sent : (r : Run) (i p q : ℕ) (o : Option Gone) (g : Gone) → IsMerging r → o ≡ Some g
-    → IsGone (net_of_run_after r i) p q o → Sent r o g
-sent r i p q o g run is gone = record {
-  face = gone-lt r run i p q o g gone is;
-  first = λ e. (sides_inside (net_of_run_after r i) p q o g is gone e).0;
-  second = λ e. (sides_inside (net_of_run_after r i) p q o g is gone e).1;
-  taken = record {
-    face = numbered_face r g.face.0;
-    first = numbered_side r g.first;
-    second = numbered_side r g.second;
-  };
-  is = ap (numbered_gone r) is;
-  face_is = refl;
-  first_is = refl;
-  second_is = refl;
+-- what the log keeps of a dropped face is of the mesh
+among : (m : Net) (p q : ℕ) (o : Option Gone) → IsGone m p q o
+    → ((g : Gone) → o ≡ Some g → g.face.0 < m.faces) → IfSome o (IsAmong m.faces)
+among m p q None gone inside = tt
+among m p q (Some g) (e, runs, on, first, second) inside = record {
+  face = inside g refl;
+  first = λ a is. grind (arith, common_steps);
+  second = λ a is. grind (arith, common_steps);
 }
 
-pub next_is : (n : NewFace) (f : Face) (first second : ℕ) → f ≡ n.face → first ≡ word_of n.first
-    → second ≡ word_of n.second → next_face f first second ≡ n
-next_is n f first second f_is first_is second_is =
-    rw (f_is, first_is, second_is, side_of-word n.first, side_of-word n.second) refl
+-- the faces of the collapse that becomes record k
+module _ (r : Run) (small : IsSmallRun r) (k : ℕ) (l : k < steps r) where
+  left_is : (record_at (hierarchy_of r) k).left ≡ numbered_gone r (step_of r k).left
+  left_is = ap (λ (y : Record). y.left) (record-at r k l)
 
--- Records and what is sent of them: the left face of record k is the numbered one of its collapse.
+  right_is : (record_at (hierarchy_of r) k).right ≡ numbered_gone r (step_of r k).right
+  right_is = ap (λ (y : Record). y.right) (record-at r k l)
 
-pub left_is : (r : Run) (k : ℕ) (n : NewFace) → k < steps r → numbered_gone r (step_of r k).left
-    ≡ Some n → (record_at (hierarchy_of r) k).left ≡ Some n
-left_is r k n l is = ap (λ (x : Record). x.left) (record-at r k l) ∙ is
+  here : k < record_count (hierarchy_of r)
+  here = omega (arith, count r)
 
-pub right_is : (r : Run) (k : ℕ) (n : NewFace) → k < steps r → numbered_gone r (step_of r k).right
-    ≡ Some n → (record_at (hierarchy_of r) k).right ≡ Some n
-right_is r k n l is = ap (λ (x : Record). x.right) (record-at r k l) ∙ is
+  pub expects_head : {s : Shaping} → s ≡ took_records (hierarchy_of r) k → expects s ≡ kinds.Head
+  expects_head {s} is =
+      let inside = here in
+      grind (arith, common_steps, le-ltb, length-take-le, lt-ltb)
 
-pub left_none : (r : Run) (k : ℕ) → k < steps r → (step_of r k).left ≡ None
-    → (record_at (hierarchy_of r) k).left ≡ None
-left_none r k l is = ap (λ (x : Record). x.left) (record-at r k l) ∙ ap (numbered_gone r) is
+  pub head_passes : {s : Shaping} {d : Head} {e : Shape} → s ≡ took_records (hierarchy_of r) k
+      → d ≡ head_of (record_at (hierarchy_of r) k)
+      → is_place (place_number r (step_of r k).t) ≡ true
+      → is_place (place_number r (step_of r k).u) ≡ true → head_fault s.h d ≡ Some e → ⊥
+  head_passes {s} {d} {e} is d_is first second fault =
+      let fits = head_fits r small.merging k l first second in
+      none-some e (sym (rw (is, d_is) fits) ∙ fault)
 
-pub right_none : (r : Run) (k : ℕ) → k < steps r → (step_of r k).right ≡ None
-    → (record_at (hierarchy_of r) k).right ≡ None
-right_none r k l is = ap (λ (x : Record). x.right) (record-at r k l) ∙ ap (numbered_gone r) is
+  pub head_taken : {s : Shaping} {d : Head} → s ≡ took_records (hierarchy_of r) k
+      → d ≡ head_of (record_at (hierarchy_of r) k)
+      → record s { coming = Some (started d) } ≡ with_head (hierarchy_of r) k
+  head_taken {s} {d} is d_is =
+      let some = presence_fits r small.merging k l in
+      rw (is, d_is, started_is (record_at (hierarchy_of r) k) some) refl
 
--- a root as it is sent
-pub root_is : (r : Run) (t : List ℤ) (w n v : ℕ) → t ≡ coordinates (place_number r v)
-    → w ≡ width_number r v → n ≡ input_number r v → next_root t w n ≡ numbered_root r v
-root_is r t w n v t_is w_is n_is = rw (t_is, w_is, n_is) refl
+  pub left_among : IfSome (step_of r k).left (IsAmong r.net.faces)
+  left_among =
+      let i = steps r - suc k in
+      let gone = (small.merging.logged i (omega arith)).left in
+      among (net_of_run_after r i) _ _ (step_of r k).left gone
+      (λ g is. gone-lt r small.merging i _ _ (step_of r k).left g gone is)
+
+  pub right_among : IfSome (step_of r k).right (IsAmong r.net.faces)
+  right_among =
+      let i = steps r - suc k in
+      let gone = (small.merging.logged i (omega arith)).right in
+      among (net_of_run_after r i) _ _ (step_of r k).right gone
+      (λ g is. gone-lt r small.merging i _ _ (step_of r k).right g gone is)
+
+  pub left_due : IfSome (numbered_gone r (step_of r k).left) (IsDue (with_head (hierarchy_of r) k))
+  left_due =
+      due_left (hierarchy_of r) k _ left_is (left_fits r small.merging small.few_faces k here)
+
+  pub right_due : IfSome (numbered_gone r (step_of r k).right)
+      (IsDue (with_due (with_head (hierarchy_of r) k) (numbered_gone r (step_of r k).left)))
+  right_due =
+      due_right (hierarchy_of r) k _ _ left_is right_is
+      (right_fits r small.merging small.few_faces k here)
+
+  pub record_taken : with_due (with_due (with_head (hierarchy_of r) k)
+      (numbered_gone r (step_of r k).left)) (numbered_gone r (step_of r k).right)
+      ≡ took_records (hierarchy_of r) (k + 1)
+  record_taken =
+      both_taken (hierarchy_of r) k _ _ left_is right_is here
+      (presence_fits r small.merging k l)

@@ -65,41 +65,25 @@ gone_inside r i run l f = (
   gone_some r i (entry_at r i).u (entry_at r i).t (entry_at r i).right run (run.logged i l).right f,
 )
 
--- what a read of the log gives
-pub entry_read : (r : Run) (i : ℕ) (c : Collapse) → i < steps r → c ≡ get_or r.log i c
-    → c ≡ entry_at r i
-unfolding entry_at
-entry_read r i c l is = is ∙ get_or_default r.log i c no_collapse l
-
 -- flags after one more collapse
-pub taken_more : (r : Run) (flags : List Bool) (i n : ℕ) (c : Collapse) → c ≡ entry_at r i
-    → length flags ≡ n → c.t < n → c.u < n →
-    ((v : ℕ) → v < n → get_or flags v false ≡ is_some (find_below (takes r v) i)) →
-    (v : ℕ) → v < n → get_or (set (set flags c.t true) c.u true) v false
-    ≡ is_some (find_below (takes r v) (i + 1))
-taken_more r flags i n c is len t u before v l =
+pub taken_more : (r : Run) (i : ℕ) {c : Collapse} (flags : List Bool) → c ≡ entry_at r i
+    → c.t < length flags → c.u < length flags → (v : ℕ)
+    → get_or flags v false ≡ is_some (find_below (takes r v) i)
+    → get_or (set (set flags c.t true) c.u true) v false ≡ is_some (find_below (takes r v) (i + 1))
+taken_more r i {c} flags is t u v before =
     let flags' = set flags c.t true in
     let second : c.u < length flags' = omega (arith, length-set flags c.t true) in
-    let first : c.t < length flags = omega arith in
     let both : (eqb c.u v || (eqb c.t v || get_or flags v false))
     ≡ (eqb c.t v || eqb c.u v || get_or flags v false) =
     or_turned (eqb c.u v) (eqb c.t v) (get_or flags v false) in
-    flag_set flags' c.u v second ∙ ap (λ b. eqb c.u v || b) (flag_set flags c.t v first) ∙ both
-    ∙ rw (is, before v l) (sym (is_some-next (takes r v) i))
+    flag_set flags' c.u v second ∙ ap (λ b. eqb c.u v || b) (flag_set flags c.t v t) ∙ both
+    ∙ rw (is, before) (sym (is_some-next (takes r v) i))
 
-pub dropped_more : (r : Run) (before middle after : List Bool) (i n : ℕ) (c : Collapse)
-    → c ≡ entry_at r i → length before ≡ n → length middle ≡ length before →
-    ((f : ℕ) → f < length before
-    → get_or middle f false ≡ (is_gone f c.left || get_or before f false)) →
-    ((f : ℕ) → f < length middle
-    → get_or after f false ≡ (is_gone f c.right || get_or middle f false)) →
-    ((f : ℕ) → f < n → get_or before f false ≡ is_some (find_below (drops r f) i)) →
-    (f : ℕ) → f < n → get_or after f false ≡ is_some (find_below (drops r f) (i + 1))
-dropped_more r before middle after i n c is len same left right was f l =
-    right f (omega arith)
-    ∙ ap (λ b. is_gone f c.right || b) (left f (omega arith)
-    ∙ ap (λ b. is_gone f c.left || b) (was f l))
-    ∙ or_turned (is_gone f c.right) (is_gone f c.left) (is_some (find_below (drops r f) i))
+pub dropped_more : (r : Run) (i : ℕ) {c : Collapse} → c ≡ entry_at r i → (f : ℕ)
+    → (is_gone f c.right || (is_gone f c.left || is_some (find_below (drops r f) i)))
+    ≡ is_some (find_below (drops r f) (i + 1))
+dropped_more r i {c} is f =
+    or_turned (is_gone f c.right) (is_gone f c.left) (is_some (find_below (drops r f) i))
     ∙ rw is (sym (is_some-next (drops r f) i))
 
 -- what is left
@@ -121,6 +105,7 @@ bases_are r flags len each =
 
 -- What holds of a collapse of a run.
 pub record EntryFits (r : Run) (i : ℕ) (c : Collapse) : Type 0 where
+  pub value : c ≡ entry_at r i
   pub made : c.s ≡ r.vertices + i
   pub first : c.t < r.vertices + i
   pub second : c.u < r.vertices + i
@@ -128,10 +113,25 @@ pub record EntryFits (r : Run) (i : ℕ) (c : Collapse) : Type 0 where
   pub left : (f : ℕ) → is_gone f c.left ≡ true → f < r.net.faces
   pub right : (f : ℕ) → is_gone f c.right ≡ true → f < r.net.faces
 
-pub entry_fits : (r : Run) (i : ℕ) (c : Collapse) → IsMerging r → i < steps r → c ≡ entry_at r i
-    → EntryFits r i c
-entry_fits r i c run l is =
-    grind (arith, common_steps, ends_given r run i l, gone_inside r i run l, t_differs r run i l)
+-- and so of what is read of the log
+pub entry_fits : {r : Run} {i : ℕ} (d : Collapse) → IsMerging r → i < steps r
+    → EntryFits r i (get_or r.log i d)
+unfolding entry_at
+entry_fits {r} {i} d run l =
+    let is : get_or r.log i d ≡ entry_at r i = get_or_default r.log i d no_collapse l in
+    let named = run.named i l in
+    let ends = ends_given r run i l in
+    let differ = t_differs r run i l in
+    let inside = gone_inside r i run l in
+    rw is (record {
+      value = refl;
+      made = named;
+      first = ends.0;
+      second = ends.1;
+      differ = differ;
+      left = λ f. (inside f).0;
+      right = λ f. (inside f).1;
+    })
 
 -- one number more is picked where it passes
 pub picked_more : (p : ℕ → Bool) (k : ℕ) → picked p 0 (k + 1) ≡ picked p 0 k

@@ -28,6 +28,7 @@ pub mod MovedManifolds
 pub mod FirmRuns
 pub mod LeftLaws
 pub mod NumberLaws
+pub mod StartLaws
 pub mod FaceTables
 pub mod UnitNumbers
 pub mod FeedLaws

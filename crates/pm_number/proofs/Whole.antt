@@ -1,5 +1,5 @@
 -- The hierarchy of a run numbers it.
-use Rattle.std.proofs.Common.{◌-◌, arith}
+use Rattle.std.proofs.Common.{arith}
 use Rattle.std.proofs.lemmas.Grind.{common_steps}
 use Rattle.pm_number.proofs.LeafNumbers.{forest, held, leaf-there, leaf-back}
 use Rattle.pm_number.proofs.NodeNumbers.{node-t, node-u, node-once, node-there, root-count, count}

@@ -1,118 +1,108 @@
 //! Hands the units of the hierarchy of a run to a shaper. It refuses none of them, as each passes
 //! the rules of shape.
-ghost use Rattle.std.specs.Prelude.{◌≡◌, ◌+◌, ◌*◌, ◌<◌, ℕ, Some, length};
-ghost use Rattle.pm_base.specs.Meshes.{mesh_of};
-ghost use Rattle.pm_base.specs.declared.log.Gone.{Gone};
+ghost use Rattle.std.specs.Prelude.{◌≡◌, ◌+◌, ◌*◌, ◌<◌, ℕ, IfOk, IfSome, length};
 ghost use Rattle.pm_forest.specs.Shaping.{nothing_in};
-ghost use Rattle.pm_forest.specs.Rules.{counts_of};
-ghost use Rattle.pm_number.specs.Stages.{run_of};
-ghost use Rattle.pm_number.specs.Numbering.{step_of, hierarchy_of};
-ghost use Rattle.pm_number.specs.Tables.{IsSmallRun, AreNumbersOf, took_roots, took_bases};
-ghost use Rattle.pm_number.specs.Tables.{took_records, with_head_taken, took_left};
+ghost use Rattle.pm_forest.specs.Rules.{counts_of, HasShape};
+ghost use Rattle.pm_number.specs.Numbering.{numbered_gone};
+ghost use Rattle.pm_number.specs.Tables.{AreNumbers, run_by, hierarchy_by, took_roots};
+ghost use Rattle.pm_number.specs.Tables.{took_bases, took_records, IsAmong, IsDue, with_due};
 
-use crate::left::entry;
+use crate::OutOfMemory;
 use crate::tables::Numbers;
-use crate::units::{face, head, input, place, word};
-use pm_base::{Collapse, FaceId, Gone, Mesh};
-use pm_forest::Shaper;
+use pm_base::Gone;
+use pm_forest::{Hierarchy, Shape, Shaper};
+use std::alloc::Global;
 
-/// All roots.
-pub fn add_roots(shaper: &mut Shaper, mesh: &Mesh, log: &[Collapse], numbers: &Numbers)
-    requires run { IsSmallRun (run_of (mesh_of mesh.now) log.now) }
-    requires numbers { AreNumbersOf (run_of (mesh_of mesh.now) log.now) numbers.now }
-    requires before { shaper.old
-        ≡ nothing_in (counts_of (hierarchy_of (run_of (mesh_of mesh.now) log.now))) }
-    ensures { let h = hierarchy_of (run_of (mesh_of mesh.now) log.now) in
-        shaper.new ≡ took_roots h (length h.roots) }
+/// The hierarchy of a run, from its numbers.
+pub fn hierarchy(alloc: Global, numbers: &Numbers) -> Result<Hierarchy, OutOfMemory>
+    requires { AreNumbers numbers.now }
+    ensures value { IfOk result (λ h. h ≡ hierarchy_by numbers.now) }
+    ensures shape { IfOk result HasShape }
+{
+    let mut shaper = shaper(alloc, numbers)?;
+    add_roots(&mut shaper, numbers);
+    add_bases(&mut shaper, numbers);
+    add_records(&mut shaper, numbers);
+    let Ok(hierarchy) = shaper.done() else {
+        unreachable!()
+    };
+    hierarchy.invariant();
+    Ok(hierarchy)
+}
+
+// A shaper that has the counts of the hierarchy, which pass their rule.
+fn shaper(alloc: Global, numbers: &Numbers) -> Result<Shaper, OutOfMemory>
+    requires { AreNumbers numbers.now }
+    ensures { IfOk result (λ s. s ≡ nothing_in (counts_of (hierarchy_by numbers.now))) }
+{
+    let leaves = numbers.run.mesh.points.len() as u32;
+    let roots = numbers.left.len() as u32;
+    let bases = numbers.bases.len() as u32;
+    let records = numbers.run.log.len() as u32;
+    match Shaper::new(alloc, leaves, roots, bases, records) {
+        Ok(shaper) => Ok(shaper),
+        Err(Shape::BadCount) => unreachable!(),
+        Err(_) => Err(std::alloc::AllocError),
+    }
+}
+
+// All roots.
+fn add_roots(shaper: &mut Shaper, numbers: &Numbers)
+    requires numbers { AreNumbers numbers.now }
+    requires before { shaper.old ≡ nothing_in (counts_of (hierarchy_by numbers.now)) }
+    ensures { let h = hierarchy_by numbers.now in shaper.new ≡ took_roots h (length h.roots) }
 {
     for i in 0..numbers.left.len() {
-        let root = numbers.left[i];
-        let _ = shaper.add_root(
-            place(mesh, log, root),
-            numbers.widths[root as usize],
-            input(mesh, root),
-        );
+        let (place, width, input) = numbers.root(i);
+        let Ok(()) = shaper.add_root(place, width, input) else {
+            unreachable!()
+        };
     }
 }
 
-/// All base faces.
-pub fn add_bases(shaper: &mut Shaper, mesh: &Mesh, log: &[Collapse], numbers: &Numbers)
-    requires run { IsSmallRun (run_of (mesh_of mesh.now) log.now) }
-    requires numbers { AreNumbersOf (run_of (mesh_of mesh.now) log.now) numbers.now }
-    requires before { shaper.old ≡ took_bases (hierarchy_of (run_of (mesh_of mesh.now) log.now)) 0 }
-    ensures { let h = hierarchy_of (run_of (mesh_of mesh.now) log.now) in
-        shaper.new ≡ took_bases h (length h.bases) }
+// All base faces.
+fn add_bases(shaper: &mut Shaper, numbers: &Numbers)
+    requires numbers { AreNumbers numbers.now }
+    requires before { shaper.old ≡ took_bases (hierarchy_by numbers.now) 0 }
+    ensures { let h = hierarchy_by numbers.now in shaper.new ≡ took_bases h (length h.bases) }
 {
     for i in 0..numbers.bases.len() {
-        let base = FaceId(numbers.bases[i]);
-        let _ = shaper.add_base(face(mesh, log, numbers, base));
+        let Ok(()) = shaper.add_base(numbers.base(i)) else {
+            unreachable!()
+        };
     }
 }
 
-// The left face of record `k`, where it has one.
-fn add_left(
-    shaper: &mut Shaper,
-    mesh: &Mesh,
-    log: &[Collapse],
-    numbers: &Numbers,
-    gone: &Option<Gone>,
-    k: usize,
-)
-    requires run { IsSmallRun (run_of (mesh_of mesh.now) log.now) }
-    requires numbers { AreNumbersOf (run_of (mesh_of mesh.now) log.now) numbers.now }
-    requires inside { k < length log.now }
-    requires gone { gone.now ≡ (step_of (run_of (mesh_of mesh.now) log.now) k).left }
-    requires before { shaper.old
-        ≡ with_head_taken (hierarchy_of (run_of (mesh_of mesh.now) log.now)) k }
-    ensures { shaper.new ≡ took_left (hierarchy_of (run_of (mesh_of mesh.now) log.now)) k }
+// All records: the collapses in reverse order.
+fn add_records(shaper: &mut Shaper, numbers: &Numbers)
+    requires numbers { AreNumbers numbers.now }
+    requires before { shaper.old ≡ took_records (hierarchy_by numbers.now) 0 }
+    ensures { shaper.new
+        ≡ took_records (hierarchy_by numbers.now) (length numbers.now.run.log.now) }
+{
+    for k in 0..numbers.run.log.len() {
+        let collapse = numbers.run.step(k);
+        let Ok(()) = shaper.add_head(numbers.head(k)) else {
+            unreachable!()
+        };
+        add_gone(shaper, numbers, &collapse.left);
+        add_gone(shaper, numbers, &collapse.right);
+    }
+}
+
+// A face that a collapse drops, where it does.
+fn add_gone(shaper: &mut Shaper, numbers: &Numbers, gone: &Option<Gone>)
+    requires numbers { AreNumbers numbers.now }
+    requires inside { IfSome gone.now (IsAmong (run_by numbers.now).net.faces) }
+    requires due { IfSome (numbered_gone (run_by numbers.now) gone.now) (IsDue shaper.old) }
+    ensures { shaper.new ≡ with_due shaper.old (numbered_gone (run_by numbers.now) gone.now) }
 {
     if let Some(gone) = gone {
-        let _ = shaper.add_face(
-            face(mesh, log, numbers, gone.face),
-            word(mesh, log, numbers, gone.first),
-            word(mesh, log, numbers, gone.second),
-        );
-    }
-}
-
-// The right face of record `k`, where it has one.
-fn add_right(
-    shaper: &mut Shaper,
-    mesh: &Mesh,
-    log: &[Collapse],
-    numbers: &Numbers,
-    gone: &Option<Gone>,
-    k: usize,
-)
-    requires run { IsSmallRun (run_of (mesh_of mesh.now) log.now) }
-    requires numbers { AreNumbersOf (run_of (mesh_of mesh.now) log.now) numbers.now }
-    requires inside { k < length log.now }
-    requires gone { gone.now ≡ (step_of (run_of (mesh_of mesh.now) log.now) k).right }
-    requires before { shaper.old ≡ took_left (hierarchy_of (run_of (mesh_of mesh.now) log.now)) k }
-    ensures { shaper.new ≡ took_records (hierarchy_of (run_of (mesh_of mesh.now) log.now)) (k + 1) }
-{
-    if let Some(gone) = gone {
-        let _ = shaper.add_face(
-            face(mesh, log, numbers, gone.face),
-            word(mesh, log, numbers, gone.first),
-            word(mesh, log, numbers, gone.second),
-        );
-    }
-}
-
-/// All records: the collapses in reverse order.
-pub fn add_records(shaper: &mut Shaper, mesh: &Mesh, log: &[Collapse], numbers: &Numbers)
-    requires run { IsSmallRun (run_of (mesh_of mesh.now) log.now) }
-    requires numbers { AreNumbersOf (run_of (mesh_of mesh.now) log.now) numbers.now }
-    requires before { shaper.old ≡ took_records (hierarchy_of (run_of (mesh_of mesh.now) log.now))
-        0 }
-    ensures { shaper.new ≡ took_records (hierarchy_of (run_of (mesh_of mesh.now) log.now))
-        (length log.now) }
-{
-    for k in 0..log.len() {
-        let collapse = entry(mesh, log, log.len() - 1 - k);
-        let _ = shaper.add_head(head(mesh, log, numbers, k));
-        add_left(shaper, mesh, log, numbers, &collapse.left, k);
-        add_right(shaper, mesh, log, numbers, &collapse.right, k);
+        let face = numbers.face(gone.face);
+        let first = numbers.word(gone.first);
+        let second = numbers.word(gone.second);
+        let Ok(()) = shaper.add_face(face, first, second) else {
+            unreachable!()
+        };
     }
 }

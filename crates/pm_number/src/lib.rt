@@ -4,6 +4,7 @@
 mod feed;
 mod left;
 mod number;
+mod run;
 mod tables;
 mod theory;
 mod units;

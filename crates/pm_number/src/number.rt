@@ -8,10 +8,10 @@ ghost use Rattle.pm_firm.specs.Firm.{IsFirm};
 ghost use Rattle.pm_number.specs.Numbering.{hierarchy_of_run};
 
 use crate::OutOfMemory;
-use crate::feed::{add_bases, add_records, add_roots};
-use crate::tables::number_run;
+use crate::feed::hierarchy;
+use crate::run::Run;
 use pm_base::{Log, Mesh};
-use pm_forest::{Hierarchy, Shape, Shaper};
+use pm_forest::Hierarchy;
 use std::alloc::Global;
 
 /// The hierarchy of the run that the log tells of the mesh. It is valid, and its input mesh is the
@@ -24,24 +24,10 @@ pub fn from_log(alloc: Global, mesh: &Mesh, log: &Log) -> Result<Hierarchy, OutO
     ensures firm { IfOk result IsFirm }
     ensures mesh { IfOk result (λ h. input_mesh_of h ≡ mesh_of mesh.now) }
 {
-    let log = log.as_slice();
-    let numbers = number_run(alloc, mesh, log)?;
-    let leaves = mesh.points.len() as u32;
-    let roots = numbers.left.len() as u32;
-    let bases = numbers.bases.len() as u32;
-    // The counts, the units and the input numbers are those of a hierarchy of the right shape, so
-    // no call is refused but for want of memory.
-    let mut shaper = match Shaper::new(alloc, leaves, roots, bases, log.len() as u32) {
-        Ok(shaper) => shaper,
-        Err(Shape::BadCount) => unreachable!(),
-        Err(_) => return Err(std::alloc::AllocError),
+    let run = Run {
+        mesh,
+        log: log.as_slice(),
     };
-    add_roots(&mut shaper, mesh, log, &numbers);
-    add_bases(&mut shaper, mesh, log, &numbers);
-    add_records(&mut shaper, mesh, log, &numbers);
-    let Ok(hierarchy) = shaper.done() else {
-        unreachable!()
-    };
-    hierarchy.invariant();
-    Ok(hierarchy)
+    let numbers = run.numbers(alloc)?;
+    hierarchy(alloc, &numbers)
 }

@@ -1,55 +1,65 @@
-use Rattle.std.proofs.Common.{◌≡◌, ℕ, length, ap, subst, arith}
-use Rattle.pm_base.specs.Meshes.{mesh_of}
-use Rattle.pm_number.specs.Stages.{run_of}
-use Rattle.pm_number.specs.Numbering.{hierarchy_of}
-use Rattle.pm_base.specs.declared.log.Collapse.{Collapse}
-use Rattle.pm_number.specs.Tables.{took_records}
-use Rattle.pm_number.proofs.NodeNumbers.{count}
-use Rattle.pm_number.proofs.Fitting.{presence_fits, head_fits}
-use Rattle.pm_number.proofs.UnitNumbers.{step_is}
-use Rattle.pm_number.proofs.FeedLaws.{expects_head, head_taken}
+use Rattle.std.proofs.Common.{◌≡◌, length, arith}
+use Rattle.pm_number.specs.Tables.{run_by}
+use Rattle.pm_number.proofs.FeedLaws.{expects_head, head_passes, head_taken, left_among}
+use Rattle.pm_number.proofs.FeedLaws.{right_among, left_due, right_due, record_taken}
 use Rattle.pm_number.proofs.feed.add_records.Goals as goal
-
-pub loop-k-preserved : goal.loop-k-preserved
-loop-k-preserved c = c.add_right.ensures
-
-pub returns : goal.returns
-returns c =
-    let r = run_of (mesh_of c.args.mesh.now) c.args.log.now in
-    let h = hierarchy_of r in
-    let end : c.loop-k.k ≡ length c.args.log.now = omega arith in
-    subst (λ (n : ℕ). c.loop-k.shaper ≡ took_records h n) end c.loop-k.invariant
 
 pub add_head-requires : goal.add_head-requires
 add_head-requires c =
-    let r = run_of (mesh_of c.args.mesh.now) c.args.log.now in
-    let h = hierarchy_of r in
-    let all = count r in
-    expects_head h c.loop-k.shaper c.loop-k.k c.loop-k.invariant (omega arith)
+    expects_head (run_by c.args.numbers.now) c.requires.numbers.run c.loop-k.k c.loop-k-test.true
+    c.loop-k.invariant
 
-pub add_left-requires-clause-gone : goal.add_left-requires-clause-gone
-add_left-requires-clause-gone c =
-    let r = run_of (mesh_of c.args.mesh.now) c.args.log.now in
-    let h = hierarchy_of r in
-    ap (λ (x : Collapse). x.left)
-    (step_is r c.loop-k.k c.entry-collapse.result.now c.loop-k-test.true
-    c.entry-collapse.ensures.value)
+pub unreachable-requires : goal.unreachable-requires
+unreachable-requires c =
+    head_passes (run_by c.args.numbers.now) c.requires.numbers.run c.loop-k.k c.loop-k-test.true
+    c.loop-k.invariant c.head.ensures.value c.head.ensures.first c.head.ensures.second
+    c.in_default.ensures.fault
 
-pub add_right-requires-clause-gone : goal.add_right-requires-clause-gone
-add_right-requires-clause-gone c =
-    let r = run_of (mesh_of c.args.mesh.now) c.args.log.now in
-    let h = hierarchy_of r in
-    ap (λ (x : Collapse). x.right)
-    (step_is r c.loop-k.k c.entry-collapse.result.now c.loop-k-test.true
-    c.entry-collapse.ensures.value)
+pub add_gone-requires-clause-inside : goal.add_gone-requires-clause-inside
+add_gone-requires-clause-inside c =
+    rw c.step-collapse.ensures.value
+    (left_among (run_by c.args.numbers.now) c.requires.numbers.run c.loop-k.k c.loop-k-test.true)
 
-pub add_left-requires-clause-before : goal.add_left-requires-clause-before
-add_left-requires-clause-before c =
-    let r = run_of (mesh_of c.args.mesh.now) c.args.log.now in
-    let h = hierarchy_of r in
-    let k = c.loop-k.k in
-    let run = c.requires.run.merging in
-    head_taken h c.loop-k.shaper c.add_head.new.self k c.head.result c.add_head.result
-    c.loop-k.invariant (presence_fits r run k c.loop-k-test.true) c.head.ensures.value
-    (head_fits r run k c.loop-k-test.true c.head.ensures.first c.head.ensures.second)
-    c.add_head.ensures.fault c.add_head.ensures.taken
+pub add_gone-requires-clause-due : goal.add_gone-requires-clause-due
+add_gone-requires-clause-due c =
+    rw (
+      c.step-collapse.ensures.value,
+      c.in-Ok.ensures.taken,
+      head_taken (run_by c.args.numbers.now) c.requires.numbers.run c.loop-k.k c.loop-k-test.true
+          c.loop-k.invariant c.head.ensures.value,
+    )
+    (left_due (run_by c.args.numbers.now) c.requires.numbers.run c.loop-k.k c.loop-k-test.true)
+
+pub add_gone-requires-in-loop-k-clause-inside : goal.add_gone-requires-in-loop-k-clause-inside
+add_gone-requires-in-loop-k-clause-inside c =
+    rw c.step-collapse.ensures.value
+    (right_among (run_by c.args.numbers.now) c.requires.numbers.run c.loop-k.k c.loop-k-test.true)
+
+pub add_gone-requires-in-loop-k-clause-due : goal.add_gone-requires-in-loop-k-clause-due
+add_gone-requires-in-loop-k-clause-due c =
+    rw (
+      c.add_gone.ensures,
+      c.step-collapse.ensures.value,
+      c.in-Ok.ensures.taken,
+      head_taken (run_by c.args.numbers.now) c.requires.numbers.run c.loop-k.k c.loop-k-test.true
+          c.loop-k.invariant c.head.ensures.value,
+    )
+    (right_due (run_by c.args.numbers.now) c.requires.numbers.run c.loop-k.k c.loop-k-test.true)
+
+pub loop-k-preserved : goal.loop-k-preserved
+loop-k-preserved c =
+    rw (
+      c.add_gone-in-loop-k.ensures,
+      c.add_gone.ensures,
+      c.step-collapse.ensures.value,
+      c.in-Ok.ensures.taken,
+      head_taken (run_by c.args.numbers.now) c.requires.numbers.run c.loop-k.k c.loop-k-test.true
+          c.loop-k.invariant c.head.ensures.value,
+    )
+    (record_taken (run_by c.args.numbers.now) c.requires.numbers.run c.loop-k.k
+    c.loop-k-test.true)
+
+pub returns : goal.returns
+returns c =
+    let end : c.loop-k.k ≡ length c.args.numbers.now.run.log.now = omega arith in
+    rw end at c.loop-k.invariant

@@ -8,7 +8,7 @@ use Rattle.pm_number.proofs.NumberLaws.{set_keeps, set_makes}
 use Rattle.pm_number.proofs.tables.number_left.Goals as goal
 
 pub index_mut-requires : goal.index_mut-requires
-index_mut-requires c = let inside = c.requires.inside c.loop-j.j c.loop-j-test.true in omega arith
+index_mut-requires c = omega (arith, c.requires.inside c.loop-j.j c.loop-j-test.true)
 
 pub loop-j-preserved : goal.loop-j-preserved
 loop-j-preserved c =
