@@ -37,7 +37,8 @@ use Rattle.pm_number.specs.Tables.{took_bases, first_records, took_records, IsAm
 use Rattle.pm_number.specs.Tables.{with_due}
 use Rattle.pm_number.proofs.NodeNumbers.{root-count, record-at, count}
 use Rattle.pm_number.proofs.FacePositions.{gone-lt}
-use Rattle.pm_number.proofs.FaceFitting.{base_fits, left_fits, right_fits}
+use Rattle.pm_number.proofs.FaceFitting.{base_fits}
+use Rattle.pm_number.proofs.NewFaceFitting.{left_fits, right_fits}
 use Rattle.pm_number.proofs.Fitting.{presence_fits, root_fits, head_fits}
 
 -- Roots

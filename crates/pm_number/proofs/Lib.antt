@@ -20,6 +20,7 @@ pub mod InputMesh
 pub mod UnitsPass
 pub mod Fitting
 pub mod FaceFitting
+pub mod NewFaceFitting
 pub mod Shaped
 pub mod ShownLaws
 pub mod LawsProved

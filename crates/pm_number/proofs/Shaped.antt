@@ -23,7 +23,8 @@ use Rattle.pm_number.proofs.RunLaws.{ends_given}
 use Rattle.pm_number.proofs.NodeNumbers.{root-count, count}
 use Rattle.pm_number.proofs.UnitsPass.{AllFit-from}
 use Rattle.pm_number.proofs.Fitting.{counts_fit, root_vertex, root_fits, head_fits}
-use Rattle.pm_number.proofs.FaceFitting.{base_fits, left_fits, right_fits, past_fits}
+use Rattle.pm_number.proofs.FaceFitting.{base_fits, past_fits}
+use Rattle.pm_number.proofs.NewFaceFitting.{left_fits, right_fits}
 
 pub place-true : (p : Place) → IsPlace p → is_place p ≡ true
 place-true p is = and_from _ _ (and_from _ _ (le-leb _ _ is.0) (le-leb _ _ is.1)) (le-leb _ _ is.2)

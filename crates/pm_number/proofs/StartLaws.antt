@@ -52,24 +52,6 @@ pub width_sum-le : (r : Run) → IsMerging r → (j : ℕ) → width_sum r j ≤
 width_sum-le r run j =
     grind (arith, common_steps, sum_by-take-le, leaf-number-count r run, widths-are r run)
 
-pub roots_more : (r : Run) → IsMerging r → (table : List ℕ) (j start : ℕ) → j < length (left_over r)
-    → length table ≡ all_vertices r → start ≡ width_sum r j →
-    ((k : ℕ) → k < j → RootsHave table (start_after r 0) (left_over r) k)
-    → let v = get_or (left_over r) j 0 in
-    (k : ℕ) → k < j + 1 → RootsHave (set table v start) (start_after r 0) (left_over r) k
-roots_more r run table j start l len is has k m =
-    let v = get_or (left_over r) j 0 in
-    let value : start ≡ start_after r 0 v = is ∙ sym (start_root r run j l) in
-    let inside : v < length table = (let a = left_inside r run j l in omega arith) in
-    elim (cases_lt k j) [
-      | inl a ↦ set_keeps table (start_after r 0) v start (get_or (left_over r) k 0) value (has k a)
-          inside
-      | inr a ↦ (let k_is : k ≡ j =
-          omega arith in
-          subst (λ n. RootsHave (set table v start) (start_after r 0) (left_over r) n) (sym k_is)
-          (set_makes table (start_after r 0) v start value inside))
-    ]
-
 -- A table of first leaves once those of the first j roots are there, and the next leaf.
 pub record HasRoots (r : Run) (table : List ℕ) (start j : ℕ) : Type 0 where
   pub len : length table ≡ all_vertices r
@@ -101,12 +83,25 @@ pub roots_next : {r : Run} {xs table widths : List ℕ} {start j : ℕ} → IsSm
 roots_next {r} {xs} {table} {widths} {start} {j} small is wide l has =
     let inside = rw is at l in
     let v = get_or (left_over r) j 0 in
-    let width = wide.each v (left_inside r small.merging j inside) in
+    let low = left_inside r small.merging j inside in
+    let len = has.len in
+    let width = wide.each v low in
+    let there : v < length table = omega arith in
+    let value : start ≡ start_after r 0 v =
+    has.sum ∙ sym (start_root r small.merging j inside) in
     let next : HasRoots r (set table v start) (start + get_or widths v 0) (j + 1) = record {
       len = length-set table v start ∙ has.len;
       sum = ap (λ n. n + get_or widths v 0) has.sum ∙ ap (λ n. width_sum r j + n) width
           ∙ sym (width_sum-next r j inside);
-      each = roots_more r small.merging table j start inside has.len has.sum has.each;
+      each = λ k m. elim (cases_lt k j) [
+        | inl a ↦
+            set_keeps table (start_after r 0) v start (get_or (left_over r) k 0) value (has.each k a)
+            there
+        | inr a ↦
+            let k_is : k ≡ j = omega arith in
+            subst (λ n. RootsHave (set table v start) (start_after r 0) (left_over r) n) (sym k_is)
+            (set_makes table (start_after r 0) v start value there)
+      ];
     } in
     rw is next
 
