@@ -72,16 +72,7 @@ module _ (r : Run) (run : IsMerging r) where
 
   pub face-there : (f : ℕ) → f < r.net.faces → face_number r f < face_count (hierarchy_of r)
   face-there f l =
-      let h = hierarchy_of r in
-      let c = count r in
-      elim (lies f l) [
-        | base_at a b d ↦ (let m = first_face-mono h 0 (record_count h) (omega arith) in
-            omega arith)
-        | left_at k g k_lt is on n top ↦
-            (let m = first_face-mono h (suc k) (record_count h) (omega arith) in omega arith)
-        | right_at k g k_lt is on n top ↦
-            (let m = first_face-mono h (suc k) (record_count h) (omega arith) in omega arith)
-      ]
+      grind (arith, common_steps, base_at, count, first_face-mono, left_at, lies, right_at)
 
   same-record : (j k n : ℕ) → first_face (hierarchy_of r) j ≤ n
       → n < first_face (hierarchy_of r) (suc j) → first_face (hierarchy_of r) k ≤ n
@@ -91,55 +82,18 @@ module _ (r : Run) (run : IsMerging r) where
   pub face-once : (f g : ℕ) → f < r.net.faces → g < r.net.faces → face_number r f ≡ face_number r g
       → f ≡ g
   face-once f g l m e =
-      let h = hierarchy_of r in
-      elim (lies f l) [
-        | base_at a b d ↦
-            elim (lies g m) [
-              | base_at a' b' d' ↦ place-once f g (base_faces r) d d' (sym b ∙ e ∙ b')
-              | left_at k x k_lt is on n top ↦ (let u = first_face-mono h 0 k (omega arith) in
-                  absurd (omega arith))
-              | right_at k x k_lt is on n top ↦ (let u = first_face-mono h 0 k (omega arith) in
-                  absurd (omega arith))
-            ]
-        | left_at j y j_lt is on n top ↦
-            elim (lies g m) [
-              | base_at a' b' d' ↦ (let u = first_face-mono h 0 j (omega arith) in
-                  absurd (omega arith))
-              | left_at k x k_lt is' on' n' top' ↦
-                  let same = same-record j k (face_number r f) (omega arith) (omega arith)
-                  (omega arith) (omega arith) in
-                  let gone_same =
-                  same_Some y x (sym is ∙ ap (λ n. (step_of r n).left) same ∙ is') in
-                  sym on ∙ ap (λ z. z.face.0) gone_same ∙ on'
-              | right_at k x k_lt is' on' n' top' ↦
-                  let same = same-record j k (face_number r f) (omega arith) (omega arith)
-                  (omega arith) (omega arith) in
-                  let one : one_if (is_some (step_of r k).left) ≡ 1 =
-                  ap (λ n. one_if (is_some (step_of r n).left)) (sym same)
-                  ∙ ap (λ z. one_if (is_some z)) is in
-                  let first_same = ap (first_face h) same in
-                  absurd (omega arith)
-            ]
-        | right_at j y j_lt is on n top ↦
-            elim (lies g m) [
-              | base_at a' b' d' ↦ (let u = first_face-mono h 0 j (omega arith) in
-                  absurd (omega arith))
-              | left_at k x k_lt is' on' n' top' ↦
-                  let same = same-record j k (face_number r f) (omega arith) (omega arith)
-                  (omega arith) (omega arith) in
-                  let one : one_if (is_some (step_of r j).left) ≡ 1 =
-                  ap (λ n. one_if (is_some (step_of r n).left)) same
-                  ∙ ap (λ z. one_if (is_some z)) is' in
-                  let first_same = ap (first_face h) same in
-                  absurd (omega arith)
-              | right_at k x k_lt is' on' n' top' ↦
-                  let same = same-record j k (face_number r f) (omega arith) (omega arith)
-                  (omega arith) (omega arith) in
-                  let gone_same =
-                  same_Some y x (sym is ∙ ap (λ n. (step_of r n).right) same ∙ is') in
-                  sym on ∙ ap (λ z. z.face.0) gone_same ∙ on'
-            ]
-      ]
+      grind (
+        arith,
+        common_steps,
+        base_at,
+        first_face-mono,
+        left_at,
+        lies,
+        place-once,
+        right_at,
+        same-record,
+        same_Some,
+      )
 
   pub gone-lt : (k : ℕ) (p q : ℕ) (g : Option Gone) (x : Gone) → IsGone (net_of_run_after r k) p q g
       → g ≡ Some x → x.face.0 < r.net.faces

@@ -1,6 +1,7 @@
 -- The table of a run's face numbers, one record more at a time.
+use Rattle.std.proofs.lemmas.Grind.{common_steps}
 use Rattle.std.proofs.Common.{suc, ◌≡◌, ℕ, ◌+◌, ◌-◌, ◌<◌, ◌≤◌, List, length, get_or, Option, None}
-use Rattle.std.proofs.Common.{Some, is_some, is_none, inl, inr, refl, sym, ap, ◌∙◌, subst, arith}
+use Rattle.std.proofs.Common.{Some, is_some, inl, inr, refl, sym, ap, ◌∙◌, subst, arith}
 use Rattle.std.proofs.lemmas.Bool.{cases_lt, false≢true}
 use Rattle.std.proofs.lemmas.List.{length-set, get_or_read}
 use Rattle.pm_base.proofs.Search.{option_cases}
@@ -10,7 +11,7 @@ use Rattle.pm_base.specs.declared.log.Collapse.{Collapse}
 use Rattle.pm_forest.specs.Forest.{record_count}
 use Rattle.pm_forest.proofs.FaceNumbers.{first_face-mono}
 use Rattle.pm_number.specs.Stages.{Run, steps, entry_at, IsMerging}
-use Rattle.pm_number.specs.Numbering.{dropped_by, place_in, base_faces, step_of, faces_before}
+use Rattle.pm_number.specs.Numbering.{place_in, base_faces, step_of, faces_before}
 use Rattle.pm_number.specs.Numbering.{face_number, hierarchy_of}
 use Rattle.pm_number.specs.Tables.{IsSmallRun, HasNumbers, RootsHave, GoneHas, with_gone}
 use Rattle.pm_number.proofs.Positions.{at_place, picked-at}
@@ -25,15 +26,7 @@ pub bases_inside : (r : Run) → IsMerging r → (j : ℕ) → j < length (base_
     → (get_or (base_faces r) j 0 < r.net.faces) × (face_number r (get_or (base_faces r) j 0) ≡ j)
 unfolding base_faces
 bases_inside r run j l =
-    let f = get_or (base_faces r) j 0 in
-    let (passes, low, high, place) = picked-at (λ f. is_none (dropped_by r f)) 0 r.net.faces j l in
-    let free : dropped_by r f ≡ None =
-    elim (option_cases (dropped_by r f)) [
-      | inl z ↦ z
-      | inr (i, z) ↦
-          absurd (false≢true (sym (ap is_none z) ∙ passes))
-    ] in
-    (omega arith, none-number r run f free ∙ place)
+    grind (arith, common_steps, false≢true, none-number, option_cases, picked-at)
 
 pub with_gone-len : (table : List ℕ) (g : Option Gone) (number : ℕ)
     → length (with_gone table g number) ≡ length table
@@ -146,10 +139,7 @@ pub record HasDropped (r : Run) (table : List ℕ) (n d : ℕ) : Type 0 where
 pub next_small : {r : Run} {table : List ℕ} {next d : ℕ} → IsSmallRun r
     → HasDropped r table next d → d ≤ steps r → next ≤ 1048576
 next_small {r} {table} {next} {d} small has l =
-    let most = faces_before-le r small.merging d l in
-    let few = small.few_faces in
-    let is = has.next in
-    omega arith
+    grind (arith, common_steps, faces_before-le)
 
 pub dropped_more : {r : Run} {table : List ℕ} {n d : ℕ} {c : Collapse} → IsMerging r
     → HasDropped r table n d → c ≡ step_of r d → d < steps r

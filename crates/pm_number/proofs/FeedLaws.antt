@@ -1,5 +1,5 @@
 -- What a shaper has taken in of the hierarchy of a run, one unit more at a time.
-use Rattle.std.proofs.Common.{◌≡◌, ℕ, ◌+◌, ◌*◌, ◌-◌, suc, ◌<◌, ◌⊎◌, eqb, Bool, true, false, not}
+use Rattle.std.proofs.Common.{◌≡◌, ℕ, ◌+◌, ◌*◌, ◌<◌, ◌⊎◌, eqb, Bool, true, false, not}
 use Rattle.std.proofs.Common.{[], ◌∷◌, ◌++◌}
 use Rattle.std.proofs.Common.{length, get_or, Option, None, Some, is_some, inl, inr, refl, sym}
 use Rattle.std.proofs.Common.{ap, ◌∙◌, arith}
@@ -28,7 +28,7 @@ use Rattle.pm_forest.specs.Shaping.{with_face}
 use Rattle.pm_forest.proofs.Prefix.{cut, cut-more}
 use Rattle.pm_forest.proofs.FacesTaken.{side_of-word}
 use Rattle.pm_number.specs.declared.tables.Numbers.{Numbers}
-use Rattle.pm_number.specs.Stages.{Run, steps, net_of_run_after, IsGone, IsMerging}
+use Rattle.pm_number.specs.Stages.{Run, steps, IsGone, IsMerging}
 use Rattle.pm_base.specs.Sides.{Net}
 use Rattle.pm_number.specs.Numbering.{step_of, numbered_gone, hierarchy_of, left_over, base_faces}
 use Rattle.pm_number.specs.Numbering.{place_number, numbered_face}
@@ -235,17 +235,11 @@ module _ (r : Run) (small : IsSmallRun r) (k : ℕ) (l : k < steps r) where
 
   pub left_among : IfSome (step_of r k).left (IsAmong r.net.faces)
   left_among =
-      let i = steps r - suc k in
-      let gone = (small.merging.logged i (omega arith)).left in
-      among (net_of_run_after r i) _ _ (step_of r k).left gone
-      (λ g is. gone-lt r small.merging i _ _ (step_of r k).left g gone is)
+      grind (arith, common_steps, among, gone-lt)
 
   pub right_among : IfSome (step_of r k).right (IsAmong r.net.faces)
   right_among =
-      let i = steps r - suc k in
-      let gone = (small.merging.logged i (omega arith)).right in
-      among (net_of_run_after r i) _ _ (step_of r k).right gone
-      (λ g is. gone-lt r small.merging i _ _ (step_of r k).right g gone is)
+      grind (arith, common_steps, among, gone-lt)
 
   pub left_due : IfSome (numbered_gone r (step_of r k).left) (IsDue (with_head (hierarchy_of r) k))
   left_due =

@@ -57,12 +57,17 @@ module _ (r : Run) (run : IsMerging r) where
   pub counts_fit : r.vertices ≤ 1048576 → r.net.faces ≤ 1048576
       → counts_are_bad (counts_of (hierarchy_of r)) ≡ false
   counts_fit few few_faces =
-      let leaves = leaf-number-count r run in
-      let nodes = node-count r run in
-      let roots = root-count r in
-      let records = count r in
-      let bases = base_count-le in
-      counts_pass (counts_of h) (omega arith) (omega arith) (omega arith) no_leaves (omega arith)
+      grind (
+        arith,
+        common_steps,
+        base_count-le,
+        count,
+        counts_pass,
+        leaf-number-count,
+        no_leaves,
+        node-count,
+        root-count,
+      )
 
   -- Input numbers
 

@@ -1,6 +1,6 @@
 -- The hierarchy of a log, whole.
 use Rattle.std.proofs.Common.{◌≡◌, ℕ, ◌∙◌, true, Some, Result, Ok, Err, List, length, refl, sym}
-use Rattle.std.proofs.Common.{ap, subst, arith}
+use Rattle.std.proofs.Common.{ap, arith}
 use Rattle.std.proofs.lemmas.Grind.{common_steps}
 use Rattle.std.proofs.lemmas.Bool.{le-ltb, false≢true}
 use Rattle.std.proofs.lemmas.List.{length-take-le, take_all}
@@ -100,13 +100,7 @@ is_made m log (Err e) start run is shape = record {
   mesh = tt;
 }
 is_made m log (Ok h) start run is shape =
-    let has = subst HasShape is shape in
-    record {
-      hierarchy = is;
-      valid = subst IsValid (sym is) (are_valid m start log run has);
-      firm = subst IsFirm (sym is) (are_firm m start log run has);
-      mesh = ap input_mesh_of is ∙ (keep_meshes m start log run).mesh;
-    }
+    grind (arith, common_steps, are_firm, are_valid, keep_meshes)
 
 -- the slice of a log is the log
 pub of_slice : {E : Type 0} (m : Mesh) {log slice : List Collapse} {r : Run}

@@ -13,12 +13,12 @@ use Rattle.pm_base.proofs.NetLaws.{first_side, second_side, third_side}
 use Rattle.pm_base.specs.declared.log.Collapse.{Collapse}
 use Rattle.pm_forest.specs.declared.parts.Face.{Face}
 use Rattle.pm_forest.specs.Forest.{Hierarchy, leaf_count}
-use Rattle.pm_forest.specs.Faces.{face_count, corners_of}
+use Rattle.pm_forest.specs.Faces.{face_count}
 use Rattle.pm_forest.specs.Meshes.{leaf_place, leaf_input, face_input, leaf_of_input, face_of_input}
-use Rattle.pm_forest.specs.Meshes.{input_place, input_face, input_corners, input_mesh_of}
+use Rattle.pm_forest.specs.Meshes.{input_place, input_face, input_mesh_of}
 use Rattle.pm_forest.proofs.MeshLaws.{numbered_so, numbered_so-found}
 use Rattle.pm_number.specs.Stages.{Run, run_of, IsMerging}
-use Rattle.pm_number.specs.Numbering.{leaf_number, face_number, numbered_face, hierarchy_of}
+use Rattle.pm_number.specs.Numbering.{leaf_number, face_number, hierarchy_of}
 use Rattle.pm_number.specs.Numbering.{hierarchy_of_run}
 use Rattle.pm_number.proofs.LeafNumbers.{leaf-there, leaf-back}
 use Rattle.pm_number.proofs.FacePositions.{face-there, face-back, corners}
@@ -70,17 +70,7 @@ module _ (r : Run) (run : IsMerging r) where
         c = r.net.from (3 * f + 2);
       }
   input-corners f l =
-      let vertex : (e : ℕ) → e < 3 * r.net.faces → leaf_input h (leaf_number r (r.net.from e)) - 1
-      ≡ r.net.from e = λ e m.
-      (let number = leaf-input r run (r.net.from e) (run.vertex e m) in omega arith) in
-      let is : input_face h f ≡ input_corners h (numbered_face r f) =
-      ap (λ g. input_corners h (corners_of h g)) (face_of_input-is f l)
-      ∙ ap (input_corners h) (corners r run f l) in
-      is ∙ rw (
-        vertex (3 * f) (omega arith),
-        vertex (3 * f + 1) (omega arith),
-        vertex (3 * f + 2) (omega arith),
-      ) refl
+      grind (arith, common_steps, corners, face_of_input-is, leaf-input)
 
 -- The points and the faces of the input mesh are those of the mesh.
 module _ (m : Mesh) (log : List Collapse) (run : IsMerging (run_of m log)) where

@@ -1,4 +1,5 @@
 -- The vertices that are alive at a stage of a run are the active nodes of the front there.
+use Rattle.std.proofs.lemmas.Grind.{common_steps}
 use Rattle.std.proofs.Common.{suc, ◌≡◌, ◌≢◌, ℕ, ◌+◌, ◌-◌, ◌*◌, ◌<◌, ◌≤◌, true, false, length, inl}
 use Rattle.std.proofs.Common.{inr, sym, ap, ◌∙◌, subst, arith}
 use Rattle.std.proofs.lemmas.Bool.{cases_lt, lt-ltb, ltb-true, both_ways, false_from_ne_true}
@@ -18,10 +19,7 @@ module _ (r : Run) (run : IsMerging r) (i k : ℕ) (is : i + k ≡ steps r) wher
   unsplit : (v : ℕ) → v < r.vertices + i → (j : ℕ) → j < k
       → s_of (hierarchy_of r) j ≢ node_number r v
   unsplit v l j m z =
-      let n = run.named (steps r - suc j) (omega arith) in
-      let same = node-once r run (step_of r j).s v (omega arith) (omega arith)
-      (sym (s-of r j (omega arith)) ∙ z) in
-      omega arith
+      grind (arith, common_steps, node-once, s-of)
 
   pub live-active : (v : ℕ) → IsThereAfter r i v
       → IsActive (hierarchy_of r) (below k) (node_number r v)
@@ -51,11 +49,7 @@ module _ (r : Run) (run : IsMerging r) (i k : ℕ) (is : i + k ≡ steps r) wher
   too_high : (v n j : ℕ) → j < i → n < length (left_over r) + 2 * k → node_number r v ≡ n
       → takes r v j ≡ true → ⊥
   too_high v n j l low v_is e =
-      let j_lt : j < steps r = omega arith in
-      elim (takes-parts r v j e) [
-        | inl z ↦ (let t = node-t r run j j_lt in let q = ap (node_number r) z in omega arith)
-        | inr z ↦ (let u = node-u r run j j_lt in let q = ap (node_number r) z in omega arith)
-      ]
+      grind (arith, common_steps, node-t, node-u, takes-parts)
 
   pub active-live : (n : ℕ) → IsActive (hierarchy_of r) (below k) n → (v : ℕ) × IsThereAfter r i v
       × (node_number r v ≡ n)

@@ -1,5 +1,6 @@
 -- The faces of the records of a run's hierarchy pass the rules of shape.
-use Rattle.std.proofs.Common.{suc, ◌≡◌, ℕ, ◌+◌, ◌-◌, ◌*◌, ◌<◌, ◌≤◌, Bool, true, false, cond}
+use Rattle.std.proofs.lemmas.Grind.{common_steps}
+use Rattle.std.proofs.Common.{suc, ◌≡◌, ℕ, ◌+◌, ◌*◌, ◌<◌, ◌≤◌, Bool, true, false, cond}
 use Rattle.std.proofs.Common.{not, ◌&&◌, [], ◌∷◌, ◌++◌, length, take, drop, Option}
 use Rattle.std.proofs.Common.{None, Some, is_some, inl, inr, refl, sym, ap, ◌∙◌, subst, arith}
 use Rattle.std.proofs.Common.{append_assoc}
@@ -13,7 +14,6 @@ use Rattle.pm_base.specs.Counts.{one_if}
 use Rattle.pm_base.specs.Sides.{face_of, next}
 use Rattle.pm_base.specs.declared.ids.Side.{Side}
 use Rattle.pm_forest.specs.declared.parts.NewFace.{NewFace}
-use Rattle.pm_forest.specs.declared.parts.Record.{Record}
 use Rattle.pm_forest.specs.Forest.{Hierarchy, record_at, record_count, no_record, leaf_count, s_of}
 use Rattle.pm_forest.specs.Forest.{t_of, u_of, holds, interval_of, HasForestShape}
 use Rattle.pm_forest.specs.Faces.{face_in, faces_in, faces_of, first_face}
@@ -57,35 +57,18 @@ new_face_pass : {h : Hierarchy} {k : ℕ} {left : Bool} {n : NewFace} (a b : Opt
     new_face_fault (with_faces h k a b) left n.face (word_of n.first) (word_of n.second) ≡ None
 unfolding new_face_fault new_face_is_bad s_of
 new_face_pass {h} {k} {left} {n} a b nodes l new few input =
-    let f = n.face in
-    let q : Record = record (record_at h k) { left = a; right = b } in
-    let g = with_record (cut h k) q in
-    let number : record_count g - 1 ≡ k = omega (arith, coming_count h nodes k l q refl refl) in
-    let is_s : interval_of g (s_of g k) ≡ interval_of h (s_of h k) =
-    ap (interval_of g) (coming_s h nodes k l q refl refl)
-    ∙ coming_interval h nodes k l q refl refl (s_of h k) (omega (arith, nodes.older k l)) in
-    let is_t : interval_of g (t_of g k) ≡ interval_of h (t_of h k) =
-    coming_interval h nodes k l q refl refl (t_of h k) (omega arith) in
-    let is_u : interval_of g (u_of g k) ≡ interval_of h (u_of h k) =
-    coming_interval h nodes k l q refl refl (u_of h k) (omega arith) in
-    let faces = coming_first_face h nodes k l q refl refl in
-    let way : cond left
-    (runs (interval_of g (t_of g k)) (interval_of g (u_of g k)) (interval_of g (s_of g k)) f)
-    (runs (interval_of g (u_of g k)) (interval_of g (t_of g k)) (interval_of g (s_of g k)) f)
-    ≡ true =
-    rw (is_s, is_t, is_u)
-    (runs_as left (interval_of h) (t_of h k) (u_of h k) (interval_of h (s_of h k)) f ∙ new.run) in
-    rw (number) (rw (
-      lt-leb (leaf_count h) f.a new.corners.0,
-      lt-leb (leaf_count h) f.b new.corners.1,
-      lt-leb (leaf_count h) f.c new.corners.2,
-      way,
-      faces,
-      le-ltb (3 * first_face h k) (word_of n.first) new.first,
-      le-ltb (3 * first_face h k) (word_of n.second) new.second,
-      lt-leb 1048576 (face_count g) few,
-      input,
-    ) refl)
+    grind (
+      arith,
+      common_steps,
+      coming_count,
+      coming_first_face,
+      coming_interval,
+      coming_s,
+      cut,
+      le-ltb,
+      lt-leb,
+      runs_as,
+    )
 
 -- a face that has a side along is one that runs so
 runs_from_side : (h : Hierarchy) (p q s f i : ℕ) → face_of i ≡ f
@@ -142,10 +125,10 @@ module _ (r : Run) (run : IsMerging r) (few : r.net.faces ≤ 1048576) where
   -- the face of record k that has number f is new
   is_new : {k f : ℕ} {n : NewFace} (left : Bool) → k < record_count (hierarchy_of r)
       → f < face_count (hierarchy_of r) → corners_of (hierarchy_of r) f ≡ n.face →
-      runs (interval_of (hierarchy_of r) (cond left (t_of (hierarchy_of r) k) (u_of (hierarchy_of r) k)))
-      (interval_of (hierarchy_of r) (cond left (u_of (hierarchy_of r) k) (t_of (hierarchy_of r) k)))
-      (interval_of (hierarchy_of r) (s_of (hierarchy_of r) k)) (corners_of (hierarchy_of r) f) ≡ true
-      →
+      (let g = hierarchy_of r in
+      runs (interval_of g (cond left (t_of g k) (u_of g k)))
+      (interval_of g (cond left (u_of g k) (t_of g k))) (interval_of g (s_of g k)) (corners_of g f)
+      ≡ true) →
       ((b : ℕ) → In b (side_in n.first ++ side_in n.second)
       → In b (neighbours_of (record_at (hierarchy_of r) k))) →
       IsNewFace (hierarchy_of r) k left n

@@ -1,4 +1,6 @@
 -- A face that goes in a legal collapse has a twin at one of its two other sides.
+use Rattle.std.proofs.Common.{arith}
+use Rattle.std.proofs.lemmas.Grind.{common_steps}
 use Rattle.std.proofs.Common.{◌≡◌, ℕ, inl, inr, refl, ◌∙◌}
 use Rattle.pm_base.specs.Sides.{Net, next, third, HasNoTwin, IsBorder, twin_of}
 use Rattle.pm_base.proofs.Search.{option_cases}
@@ -12,25 +14,7 @@ module _ (m : Net) (t u : ℕ) (link : IsLinkable m t u) where
   both_alone : (e p q : ℕ) → Runs m e p q → HasNoTwin m (next e) → HasNoTwin m (next (next e))
       → IsBorder m p → IsBorder m q → ((p ≡ t) × (q ≡ u)) → ⊥
   both_alone e p q r a b bp bq (pt, qu) =
-      elim (option_cases (twin_of m e)) [
-        | inl none ↦
-            link.single e
-            (inl (record { stands = r.stands; begins = r.begins ∙ pt; ends = r.ends ∙ qu }))
-            (twin-none m e none) a b
-        | inr (g, is) ↦
-            let w = twin-is m e g is in
-            link.border (bp.0, bp.1, elim bp.2 [ inl i ↦ inl (i ∙ pt) | inr i ↦ inr (i ∙ pt) ])
-            (bq.0, bq.1, elim bq.2 [ inl i ↦ inl (i ∙ qu) | inr i ↦ inr (i ∙ qu) ])
-            (e, record { stands = r.stands; begins = r.begins ∙ pt; ends = r.ends ∙ qu }) (
-              g,
-              record {
-                stands = w.stands;
-                begins = w.begins ∙ r.ends ∙ qu;
-                ends =
-                    w.ends ∙ r.begins ∙ pt;
-              },
-            )
-      ]
+      grind (arith, common_steps, option_cases, twin-is, twin-none)
 
   pub not_alone : (e p q : ℕ) → IsPair t u p q → Runs m e p q → HasNoTwin m (next e)
       → HasNoTwin m (next (next e)) → ⊥

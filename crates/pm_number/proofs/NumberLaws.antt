@@ -123,10 +123,7 @@ pub record HasEnds (r : Run) (table : List ℕ) (i : ℕ) : Type 0 where
 pub few_left : {r : Run} {left : List ℕ} → IsSmallRun r → left ≡ left_over r
     → length left ≤ 1048576
 few_left {r} {left} small is =
-    let all = node-count r small.merging in
-    let few = small.few_vertices in
-    let len = ap length is in
-    omega arith
+    grind (arith, common_steps, node-count)
 
 pub node-small : (r : Run) → IsSmallRun r → (i : ℕ) → i < steps r
     → length (left_over r) + 2 * (steps r - 1 - i) ≤ 2097152

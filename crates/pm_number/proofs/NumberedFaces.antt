@@ -1,4 +1,5 @@
 -- The numbers of a run's faces.
+use Rattle.std.proofs.lemmas.Grind.{common_steps}
 use Rattle.std.proofs.Common.{suc, zero, ◌≡◌, ◌≢◌, ℕ, ◌+◌, ◌-◌, ◌<◌, ◌≤◌, true, false, cond}
 use Rattle.std.proofs.Common.{is_none, is_some, Option, Some, None, length, inl, inr, refl, sym, ap}
 use Rattle.std.proofs.Common.{◌∙◌, subst, arith}
@@ -8,7 +9,7 @@ use Rattle.std.proofs.lemmas.Option.{none-some, same_Some}
 use Rattle.std.proofs.lemmas.List.{length-map}
 use Rattle.pm_base.proofs.Search.{find_below-some, find_below-has, option_cases}
 use Rattle.pm_base.specs.Counts.{one_if}
-use Rattle.pm_base.specs.Sides.{face_of, Net, to, Stands}
+use Rattle.pm_base.specs.Sides.{face_of, Net, Stands}
 use Rattle.pm_base.specs.declared.ids.Side.{Side}
 use Rattle.pm_base.specs.declared.log.Gone.{Gone}
 use Rattle.pm_beyond.specs.Walks.{number_of}
@@ -111,18 +112,7 @@ module _ (r : Run) (run : IsMerging r) where
   two_faces : (i : ℕ) (g g' : Gone) → i < steps r → (entry_at r i).left ≡ Some g
       → (entry_at r i).right ≡ Some g' → g.face.0 ≢ g'.face.0
   two_faces i g g' l a b z =
-      let m = net_of_run_after r i in
-      let logged = run.logged i l in
-      let (x, w, on) = gone-side m _ _ (entry_at r i).left g logged.left a in
-      let (y, w', on') = gone-side m _ _ (entry_at r i).right g' logged.right b in
-      elim (three_sides y x (on' ∙ sym z ∙ sym on)) [
-        | inl q ↦ w.stands.first (w.begins ∙ sym w'.ends ∙ ap (to m) q)
-        | inr which ↦
-            elim which [
-              | inl q ↦ w.stands.last (ap (to m) (sym q) ∙ w'.ends ∙ sym w.begins)
-              | inr q ↦ w.stands.second (w.ends ∙ sym w'.begins ∙ ap m.from q)
-            ]
-      ]
+      grind (arith, common_steps, gone-side, three_sides)
 
   -- Numbers of faces, read
 
@@ -212,15 +202,7 @@ module _ (r : Run) (run : IsMerging r) where
       (is_some (step_of r k).right)
   unfolding first_face
   first-next k l =
-      let h = hierarchy_of r in
-      let c = step_of r k in
-      let a : is_some (record_at h k).left ≡ is_some c.left =
-      ap (λ x. is_some x.left) (record-at r k l) ∙ numbered-some r c.left in
-      let b : is_some (record_at h k).right ≡ is_some c.right =
-      ap (λ x. is_some x.right) (record-at r k l) ∙ numbered-some r c.right in
-      let a' = ap one_if a in
-      let b' = ap one_if b in
-      omega arith
+      grind (arith, common_steps, numbered-some, record-at)
 
   same-side : (e : Option Side)
       → number_of (numbered_side r e) ≡ side_moved (λ e. side_by (face_number r) e) (number_of e)

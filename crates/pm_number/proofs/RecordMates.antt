@@ -1,4 +1,5 @@
 -- What is told of the sides of a record is what stands across them in the run, stage by stage.
+use Rattle.std.proofs.lemmas.Grind.{common_steps}
 use Rattle.std.proofs.Common.{suc, ◌≡◌, ◌≢◌, ℕ, ◌+◌, ◌*◌, ◌<◌, true, false, cond, ◌&&◌, Option}
 use Rattle.std.proofs.Common.{Some, None, is_some, inl, inr, refl, sym, ap, ◌∙◌, subst, arith}
 use Rattle.std.proofs.lemmas.Bool.{cases_Bool, and_left, cond-true, cond-false, both_ways}
@@ -194,10 +195,7 @@ module _ (r : Run) (h : Hierarchy) (node leaf face : ℕ → ℕ) (run : IsMergi
         → is_some (record_at h k).right ≡ true
     unfolding is_left
     right_there f l own left =
-        elim (which_face h f k l own) [
-          | inl p ↦ absurd (both_ways _ left (and_from _ _ p.0 (eq-eqb f (first_face h k) p.1)))
-          | inr p ↦ p.0
-        ]
+        grind (arith, common_steps, and_from, both_ways, eq-eqb, which_face)
 
     -- What is expected at each side of a face of record k stands across it
     outer-recorded : (e a b : ℕ) → e < 3 * face_count h → record_of h e ≡ Some k

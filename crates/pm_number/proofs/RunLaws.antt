@@ -4,7 +4,7 @@ use Rattle.std.proofs.lemmas.Grind.{common_steps}
 use Rattle.std.proofs.Common.{ap, ◌∙◌, subst, arith}
 use Rattle.std.proofs.lemmas.Bool.{cases_eq, cases_lt}
 use Rattle.pm_base.proofs.Sides.{stands_next}
-use Rattle.pm_base.specs.Sides.{next, face_of, Net, Stands}
+use Rattle.pm_base.specs.Sides.{face_of, Net, Stands}
 use Rattle.pm_forest.proofs.Sides.{three_sides}
 use Rattle.pm_number.specs.Stages.{BeginsSide, Run, steps, entry_at, from_after, net_of_run_after}
 use Rattle.pm_number.specs.Stages.{IsMerging}
@@ -22,12 +22,7 @@ merge_cases t u s v =
 
 pub joined_used : (m : Net) (p q : ℕ) → Joined m p q → BeginsSide m p × BeginsSide m q
 joined_used m p q j =
-    elim j [
-      | inl (e, w) ↦
-          ((e, w.stands.is_side, w.begins), (next e, (stands_next m e w.stands).is_side, w.ends))
-      | inr (e, w) ↦
-          ((next e, (stands_next m e w.stands).is_side, w.ends), (e, w.stands.is_side, w.begins))
-    ]
+    grind (arith, common_steps, stands_next)
 
 module _ (r : Run) (run : IsMerging r) where
   -- each vertex in use has a number that has been given

@@ -1,8 +1,8 @@
 -- Stage by stage the surface of a run is what a front of its hierarchy shows.
+use Rattle.std.proofs.lemmas.Grind.{common_steps}
 use Rattle.std.proofs.Common.{zero, suc, ◌≡◌, ◌≢◌, ℕ, ◌+◌, ◌-◌, ◌<◌, ◌≤◌, eqb, ltb, true, List, []}
-use Rattle.std.proofs.Common.{length, get_or, take, drop, Some, None, inl, inr, sym, ap, ◌∙◌, subst}
+use Rattle.std.proofs.Common.{length, get_or, take, drop, inl, inr, sym, ap, ◌∙◌, subst}
 use Rattle.std.proofs.Common.{arith}
-use Rattle.std.specs.Prelude.{unwrap_or}
 use Rattle.std.proofs.lemmas.Bool.{cases_eq, both_ways, eqb-false, ne_eqb, or_from, or_parts}
 use Rattle.std.proofs.lemmas.Bool.{lt-ltb, le-ltb, cond-true, cond-false}
 use Rattle.std.proofs.lemmas.List.{get_or-take, get_or_default, get_or-map, length-take-le}
@@ -92,12 +92,7 @@ module _ (m : Mesh) (start : IsStartOfRun m) (log : List Collapse) (run : IsRun 
       → place_number (run_of m log) v ≡ place_at (surface_after m (take i log)) v
   unfolding place_number
   place-live zero v l live =
-      let p = live-there zero v l live in
-      let low : v < length m.points = (let a = p.0 in omega arith) in
-      cond-true (ltb v (length m.points)) (get_or m.points v (place_of []))
-      (entry_at r (v - length m.points)).place (lt-ltb v (length m.points) low)
-      ∙ sym (ap (λ (s : Surface). place_at s v) (surface_after-nil m)
-      ∙ ap (λ p. unwrap_or p (place_of [])) (get_or-map Some m.points v (place_of []) None low))
+      grind (arith, common_steps, cond-true, get_or-map, live-there, lt-ltb, surface_after-nil)
   place-live (suc i) v l live =
       let c = entry_at r i in
       let s = surface i in

@@ -81,29 +81,18 @@ pub roots_next : {r : Run} {xs table widths : List ℕ} {start j : ℕ} → IsSm
     → HasRoots r table start j
     → HasRoots r (set table (get_or xs j 0) start) (start + get_or widths (get_or xs j 0) 0) (j + 1)
 roots_next {r} {xs} {table} {widths} {start} {j} small is wide l has =
-    let inside = rw is at l in
-    let v = get_or (left_over r) j 0 in
-    let low = left_inside r small.merging j inside in
-    let len = has.len in
-    let width = wide.each v low in
-    let there : v < length table = omega arith in
-    let value : start ≡ start_after r 0 v =
-    has.sum ∙ sym (start_root r small.merging j inside) in
-    let next : HasRoots r (set table v start) (start + get_or widths v 0) (j + 1) = record {
-      len = length-set table v start ∙ has.len;
-      sum = ap (λ n. n + get_or widths v 0) has.sum ∙ ap (λ n. width_sum r j + n) width
-          ∙ sym (width_sum-next r j inside);
-      each = λ k m. elim (cases_lt k j) [
-        | inl a ↦
-            set_keeps table (start_after r 0) v start (get_or (left_over r) k 0) value (has.each k a)
-            there
-        | inr a ↦
-            let k_is : k ≡ j = omega arith in
-            subst (λ n. RootsHave (set table v start) (start_after r 0) (left_over r) n) (sym k_is)
-            (set_makes table (start_after r 0) v start value there)
-      ];
-    } in
-    rw is next
+    grind (
+      arith,
+      common_steps,
+      cases_lt,
+      left_inside,
+      length-set,
+      set,
+      set_keeps,
+      set_makes,
+      start_root,
+      width_sum-next,
+    )
 
 -- once all roots have theirs
 pub roots_all : {r : Run} {table : List ℕ} {start : ℕ} → IsMerging r

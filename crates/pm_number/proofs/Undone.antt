@@ -69,10 +69,7 @@ module _ (h : Hierarchy) (un : UndoesCollapses h) where
 
   all_shown : (e : ℕ) → e < 3 * face_count h → is_shown h (below (record_count h)) e ≡ true
   all_shown e l =
-      elim (option_cases (record_of h e)) [
-        | inl n ↦ shown_base h _ e n
-        | inr (k, r) ↦ shown_record h _ e k r ∙ lt-ltb k (record_count h) (record-lt h e k l r)
-      ]
+      grind (arith, common_steps, lt-ltb, option_cases, record-lt, shown_base, shown_record)
 
   leaf : (e : ℕ) → e < 3 * face_count h → from_leaf h e < leaf_count h
   leaf e l = un.shape.faces.leaves e l
@@ -137,13 +134,17 @@ module _ (h : Hierarchy) (un : UndoesCollapses h) where
     upper_shown : (a : ℕ) → is_shown h (below k) a ≡ true → (is_shown h (below (suc k)) a ≡ true)
         × (record_of h a ≢ Some k)
     upper_shown a s =
-        let s' : is_shown h (without (below (suc k)) k) a ≡ true =
-        subst (λ T. is_shown h T a ≡ true) (sym (without-below k)) s in
-        elim (shown-parts h (without (below (suc k)) k) a s') [
-          | inl n ↦ (shown_base h _ a n, λ r. none-some k (sym n ∙ r))
-          | inr (j, r, e) ↦ (let p = without-parts (below (suc k)) k j e in
-              (shown_record h _ a j r ∙ p.1, λ q. p.0 (same_Some j k (sym r ∙ q))))
-        ]
+        grind (
+          arith,
+          common_steps,
+          none-some,
+          same_Some,
+          shown-parts,
+          shown_base,
+          shown_record,
+          without-below,
+          without-parts,
+        )
 
     lower_shown : (c : ℕ) → is_shown h (below (suc k)) c ≡ true → record_of h c ≢ Some k
         → is_shown h (below k) c ≡ true

@@ -1,11 +1,12 @@
 -- The parts of units, read from the tables of a run's numbers.
-use Rattle.std.proofs.Common.{◌≡◌, ℕ, ◌+◌, ◌-◌, ◌*◌, ◌/◌, ◌%◌, ◌<◌, ◌≤◌, ltb, List, [], ◌∷◌}
+use Rattle.std.proofs.lemmas.Grind.{common_steps}
+use Rattle.std.proofs.Common.{◌≡◌, ℕ, ◌+◌, ◌-◌, ◌*◌, ◌/◌, ◌%◌, ◌<◌, ◌≤◌, List, [], ◌∷◌}
 use Rattle.std.proofs.Common.{length, get_or, Option, Some, is_some, refl, sym, ap, ◌∙◌, arith}
 use Rattle.std.proofs.Common.{w32, to_z, of_z}
 use Rattle.std.specs.Prelude.{ℤ}
 use Rattle.std.proofs.lemmas.Bool.{lt-ltb, le-ltb, cond-true, cond-false}
 use Rattle.std.proofs.lemmas.List.{get_or_read, get_or_default}
-use Rattle.pm_base.specs.Place.{Place, IsPlace, place_of}
+use Rattle.pm_base.specs.Place.{Place, IsPlace}
 use Rattle.pm_base.specs.Sides.{no_corners}
 use Rattle.pm_base.specs.declared.mesh.Corners.{Corners}
 use Rattle.pm_base.specs.declared.ids.Side.{Side}
@@ -20,7 +21,7 @@ use Rattle.pm_forest.specs.Places.{no_root}
 use Rattle.pm_forest.specs.Shaping.{next_root}
 use Rattle.pm_forest.specs.Rules.{word_of, head_of}
 use Rattle.pm_number.specs.declared.run.Run.{Run as HeldRun}
-use Rattle.pm_number.specs.Stages.{Run, no_collapse, steps, entry_at, side_by, IsMerging}
+use Rattle.pm_number.specs.Stages.{Run, steps, entry_at, side_by, IsMerging}
 use Rattle.pm_number.specs.Numbering.{left_over, step_of, node_number, width_number}
 use Rattle.pm_number.specs.Numbering.{leaf_number, face_number}
 use Rattle.pm_number.specs.Numbering.{place_number, input_number, numbered_face, numbered_side}
@@ -39,34 +40,20 @@ use Rattle.pm_number.proofs.Fitting.{root_vertex}
 pub place_same : (p : Place) (x y z : ℤ) → IsPlace p → x ≡ p.x → y ≡ p.y → z ≡ p.z →
     to_z w32 (of_z w32 x) ∷ to_z w32 (of_z w32 y) ∷ to_z w32 (of_z w32 z) ∷ [] ≡ coordinates p
 place_same p x y z on x_is y_is z_is =
-    rw (
-      x_is,
-      y_is,
-      z_is,
-      coordinate_kept p.x on.0,
-      coordinate_kept p.y on.1,
-      coordinate_kept p.z on.2,
-    ) refl
+    grind (arith, common_steps, coordinate_kept)
 
 pub first_place : (run : HeldRun) {v : ℕ} {p : Place} → v < length run.mesh.now.points.items
     → p ≡ get_or run.mesh.now.points.items v p → p ≡ place_number (run_in run) v
 unfolding place_number
 first_place run {v} {p} l is =
-    let points = run.mesh.now.points.items in
-    get_or_read points v p l is (place_of [])
-    ∙ sym (cond-true (ltb v (length points)) (get_or points v (place_of []))
-    (entry_at (run_in run) (v - length points)).place (lt-ltb v (length points) l))
+    grind (arith, common_steps, cond-true, get_or_read, lt-ltb)
 
 pub later_place : (run : HeldRun) {v n : ℕ} (d : Collapse) → n ≡ length run.mesh.now.points.items
     → n ≤ v → v - n < length run.log.now
     → (get_or run.log.now (v - n) d).place ≡ place_number (run_in run) v
 unfolding place_number entry_at
 later_place run {v} {n} d is l inside =
-    let points = run.mesh.now.points.items in
-    ap (λ (x : Collapse). x.place) (get_or_default run.log.now (v - n) d no_collapse inside)
-    ∙ ap (λ k. (get_or run.log.now (v - k) no_collapse).place) is
-    ∙ sym (cond-false (ltb v (length points)) (get_or points v (place_of []))
-    (entry_at (run_in run) (v - length points)).place (le-ltb v (length points) (omega arith)))
+    grind (arith, common_steps, cond-false, get_or_default, le-ltb)
 
 -- Faces
 
@@ -115,10 +102,7 @@ face_number_read {faces} {number} {n} {f} {e} {x} has is l read =
 pub word_small : {r : Run} {e n : ℕ} → IsSmallRun r → e < 3 * r.net.faces
     → n ≡ face_number r (e / 3) → 3 * n + e % 3 + 1 ≤ 3145728
 word_small {r} {e} {n} small l number =
-    let below = face-there r small.merging (e / 3) (omega arith) in
-    let all = face-count r small.merging in
-    let few = small.few_faces in
-    omega arith
+    grind (arith, common_steps, face-count, face-there)
 
 -- Heads
 
@@ -133,12 +117,7 @@ pub head_is : (r : Run) (k : ℕ) (c : Collapse) → k < steps r → c ≡ step_
       presence = one_if (is_some c.left) + 2 * one_if (is_some c.right);
     }) (head_of (record_at (hierarchy_of r) k))
 head_is r k c l is =
-    rw (
-      record-at r k l,
-      is,
-      numbered-some r (step_of r k).left,
-      numbered-some r (step_of r k).right,
-    ) refl
+    grind (arith, common_steps, numbered-some, record-at)
 
 -- Roots
 
