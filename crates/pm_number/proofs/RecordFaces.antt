@@ -30,7 +30,7 @@ use Rattle.pm_runs.specs.Merged.{StandsAcross}
 use Rattle.pm_runs.specs.Pairs.{Runs}
 use Rattle.pm_number.proofs.Stages.{side-face, leaves, stage}
 
-module _ (r : Run) (h : Hierarchy) (node leaf face : ℕ → ℕ) (run : IsMerging r)
+module _ {r : Run} {h : Hierarchy} {node leaf face : ℕ → ℕ} (run : IsMerging r)
     (num : IsNumbered r h node leaf face) where
   -- The faces of record k
 

@@ -30,7 +30,7 @@ use Rattle.pm_number.proofs.Stages.{side-face, side-turns}
 use Rattle.pm_number.proofs.RecordFaces.{k_lt, map, expected-inner, expected-first, expected-second}
 use Rattle.pm_number.proofs.RecordFaces.{InnerOf, left_inner, right_inner}
 
-module _ (r : Run) (h : Hierarchy) (node leaf face : ℕ → ℕ) (run : IsMerging r)
+module _ {r : Run} {h : Hierarchy} {node leaf face : ℕ → ℕ} (run : IsMerging r)
     (num : IsNumbered r h node leaf face) where
   module _ (i k : ℕ) (is : i + suc k ≡ steps r) where
     gone-none : (f : ℕ) (g : Option Gone) (n : Option NewFace) → SameGone face f g n
@@ -56,8 +56,8 @@ module _ (r : Run) (h : Hierarchy) (node leaf face : ℕ → ℕ) (run : IsMergi
         let count : first_face h (suc k) ≡ first_face h k + one_if x + one_if y = refl in
         let one : one_if x ≡ 1 = ap one_if t in
         let top = first_face-mono h (suc k) (record_count h)
-        (k_lt r h node leaf face run num i k is) in (
-          revealed-from h (first_face h k) k (k_lt r h node leaf face run num i k is) (omega arith)
+        (k_lt run num i k is) in (
+          revealed-from h (first_face h k) k (k_lt run num i k is) (omega arith)
               (omega arith),
           omega arith,
           and_from x _ t (eq-eqb (first_face h k) (first_face h k) refl),
@@ -74,8 +74,8 @@ module _ (r : Run) (h : Hierarchy) (node leaf face : ℕ → ℕ) (run : IsMergi
         let count : first_face h (suc k) ≡ first_face h k + one_if x + one_if y = refl in
         let one : one_if y ≡ 1 = ap one_if t in
         let top = first_face-mono h (suc k) (record_count h)
-        (k_lt r h node leaf face run num i k is) in (
-          revealed-from h f k (k_lt r h node leaf face run num i k is) (omega arith) (omega arith),
+        (k_lt run num i k is) in (
+          revealed-from h f k (k_lt run num i k is) (omega arith) (omega arith),
           omega arith,
           elim (cases_Bool x) [
             | inl a ↦ (let some : one_if x ≡ 1 =
@@ -103,7 +103,7 @@ module _ (r : Run) (h : Hierarchy) (node leaf face : ℕ → ℕ) (run : IsMergi
               let (own2, l2, left2) =
               subst (λ f. (revealed_by h f ≡ Some k) × (f < face_count h)
               × (is_left h k f ≡ false)) z (revealed_right t) in
-              let w = right_inner r h node leaf face run num i k is f2 l2 own2 left2 in
+              let w = right_inner run num i k is f2 l2 own2 left2 in
               let across : StandsAcross (net_of_run_after r i) x
               (Some w.x) = record {
                 stands = w.runs.stands;
@@ -116,7 +116,7 @@ module _ (r : Run) (h : Hierarchy) (node leaf face : ℕ → ℕ) (run : IsMergi
               (Some (inner_of h k (cond (is_left h k f) f2 (first_face h k)))) None
               (and_from a b has t)))
               (across-moved (net_of_run_after r i) (shown_net h (below (suc k)))
-              (λ e. side_by face e) node (map r h node leaf face run num i k is) x (Some w.x)
+              (λ e. side_by face e) node (map run num i k is) x (Some w.x)
               runs.stands.is_side across)
           | inr t ↦
               let none = none-gone _ _ (entry_at r i).right
@@ -136,7 +136,7 @@ module _ (r : Run) (h : Hierarchy) (node leaf face : ℕ → ℕ) (run : IsMergi
               (Some (inner_of h k (cond (is_left h k f) f2 (first_face h k)))) None
               (and_right a b t)))
               (across-moved (net_of_run_after r i) (shown_net h (below (suc k)))
-              (λ e. side_by face e) node (map r h node leaf face run num i k is) x None
+              (λ e. side_by face e) node (map run num i k is) x None
               runs.stands.is_side across)
         ]
 
@@ -154,7 +154,7 @@ module _ (r : Run) (h : Hierarchy) (node leaf face : ℕ → ℕ) (run : IsMergi
         elim (cases_Bool a) [
           | inl t ↦
               let (own2, l2, left2) = revealed_left t in
-              let w = left_inner r h node leaf face run num i k is f2 l2 own2 left2 in
+              let w = left_inner run num i k is f2 l2 own2 left2 in
               let across : StandsAcross (net_of_run_after r i) x
               (Some w.x) = record {
                 stands = w.runs.stands;
@@ -167,7 +167,7 @@ module _ (r : Run) (h : Hierarchy) (node leaf face : ℕ → ℕ) (run : IsMergi
               (Some (inner_of h k (cond (is_left h k f) (first_face h k + 1) f2))) None
               (and_from a b t has)))
               (across-moved (net_of_run_after r i) (shown_net h (below (suc k)))
-              (λ e. side_by face e) node (map r h node leaf face run num i k is) x (Some w.x)
+              (λ e. side_by face e) node (map run num i k is) x (Some w.x)
               runs.stands.is_side across)
           | inr t ↦
               let none = none-gone _ _ (entry_at r i).left
@@ -187,7 +187,7 @@ module _ (r : Run) (h : Hierarchy) (node leaf face : ℕ → ℕ) (run : IsMergi
               (Some (inner_of h k (cond (is_left h k f) (first_face h k + 1) f2))) None
               (and_left a b t)))
               (across-moved (net_of_run_after r i) (shown_net h (below (suc k)))
-              (λ e. side_by face e) node (map r h node leaf face run num i k is) x None
+              (λ e. side_by face e) node (map run num i k is) x None
               runs.stands.is_side across)
         ]
 
@@ -199,7 +199,7 @@ module _ (r : Run) (h : Hierarchy) (node leaf face : ℕ → ℕ) (run : IsMergi
 
     -- What is expected at each side of a face of record k stands across it
     outer-recorded : (e a b : ℕ) → e < 3 * face_count h → record_of h e ≡ Some k
-        → (w : InnerOf r h node leaf face run num i k is (face_of e) a b)
+        → (w : InnerOf run num i k is (face_of e) a b)
         → StandsAcross (shown_net h (below (suc k))) (side_by face w.x) (mate_of h k (face_of e))
         → StandsAcross (shown_net h (below (suc k))) e (expected h e)
     outer-recorded e a b l own w mate =
@@ -209,7 +209,7 @@ module _ (r : Run) (h : Hierarchy) (node leaf face : ℕ → ℕ) (run : IsMergi
         elim (three_sides e o (sym w.face_is)) [
           | inl q ↦
               subst (StandsAcross (shown_net h (below (suc k))) e)
-              (sym (expected-inner r h node leaf face run num i k is e own
+              (sym (expected-inner run num i k is e own
               (q ∙ sym w.is_inner)))
               (subst (λ g. StandsAcross (shown_net h (below (suc k))) g (mate_of h k (face_of e)))
               (sym q) mate)
@@ -219,24 +219,24 @@ module _ (r : Run) (h : Hierarchy) (node leaf face : ℕ → ℕ) (run : IsMergi
                     let (c, c_is, across) = w.on_first _ refl in
                     let at : side_by face (next w.x) ≡ e = side-turns face w.x ∙ sym q in
                     subst (StandsAcross (shown_net h (below (suc k))) e)
-                    (sym (expected-first r h node leaf face run num i k is e own
+                    (sym (expected-first run num i k is e own
                     (q ∙ ap next (sym w.is_inner)) ∙ c_is))
                     (subst (λ g. StandsAcross (shown_net h (below (suc k))) g
                     (side_moved (λ e. side_by face e) c)) at
                     (across-moved (net_of_run_after r i) (shown_net h (below (suc k)))
-                    (λ e. side_by face e) node (map r h node leaf face run num i k is)
+                    (λ e. side_by face e) node (map run num i k is)
                     (next w.x) c n1.is_side across))
                 | inr q ↦
                     let (c, c_is, across) = w.on_second _ refl in
                     let at : side_by face (next (next w.x)) ≡ e =
                     side-turns face (next w.x) ∙ ap next (side-turns face w.x) ∙ sym q in
                     subst (StandsAcross (shown_net h (below (suc k))) e)
-                    (sym (expected-second r h node leaf face run num i k is e own
+                    (sym (expected-second run num i k is e own
                     (q ∙ ap (λ g. next (next g)) (sym w.is_inner)) ∙ c_is))
                     (subst (λ g. StandsAcross (shown_net h (below (suc k))) g
                     (side_moved (λ e. side_by face e) c)) at
                     (across-moved (net_of_run_after r i) (shown_net h (below (suc k)))
-                    (λ e. side_by face e) node (map r h node leaf face run num i k is)
+                    (λ e. side_by face e) node (map run num i k is)
                     (next (next w.x)) c n2.is_side across))
               ]
         ]
@@ -247,10 +247,10 @@ module _ (r : Run) (h : Hierarchy) (node leaf face : ℕ → ℕ) (run : IsMergi
         let f_lt : face_of e < face_count h = omega arith in
         elim (cases_Bool (is_left h k (face_of e))) [
           | inl left ↦
-              (let w = left_inner r h node leaf face run num i k is (face_of e) f_lt own left in
+              (let w = left_inner run num i k is (face_of e) f_lt own left in
               outer-recorded e _ _ l own w (mate-left (face_of e) w.x f_lt own left w.runs))
           | inr left ↦
-              (let w = right_inner r h node leaf face run num i k is (face_of e) f_lt own left in
+              (let w = right_inner run num i k is (face_of e) f_lt own left in
               outer-recorded e _ _ l own w
               (mate-right (face_of e) w.x f_lt own left (right_there (face_of e) f_lt own left)
               w.runs))

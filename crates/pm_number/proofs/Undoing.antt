@@ -35,7 +35,7 @@ module _ (r : Run) (h : Hierarchy) (node leaf face : ℕ → ℕ) (run : IsMergi
       → Stands (net_of_run_after r i) e
   base_stands zero e l m n = run.whole e m
   base_stands (suc i) e l m n =
-      stands_on r h node leaf face run num i (steps r - suc i) (omega arith) e
+      stands_on run num i (steps r - suc i) (omega arith) e
       (base_stands i e (omega arith) m n) (λ z. none-some _ (sym n ∙ z))
 
   no_longer : (i c x : ℕ) → i < steps r
@@ -73,11 +73,11 @@ module _ (r : Run) (h : Hierarchy) (node leaf face : ℕ → ℕ) (run : IsMergi
                   stood_before r run (suc i) (suc i') c (omega arith) (omega arith) st in
                   absurd (elim (cases_Bool (is_left h j (face_of o))) [
                     | inl left ↦
-                        (let w = left_inner r h node leaf face run num i' j e (face_of o) f_lt own
+                        (let w = left_inner run num i' j e (face_of o) f_lt own
                         left in no_longer i' c w.x (omega arith) (inl w.runs) w.runs.stands.is_side
                         w.face_is st')
                     | inr left ↦
-                        (let w = right_inner r h node leaf face run num i' j e (face_of o) f_lt own
+                        (let w = right_inner run num i' j e (face_of o) f_lt own
                         left in no_longer i' c w.x (omega arith) (inr w.runs) w.runs.stands.is_side
                         w.face_is st')
                   ])
@@ -98,7 +98,7 @@ module _ (r : Run) (h : Hierarchy) (node leaf face : ℕ → ℕ) (run : IsMergi
 
   outer-older : (i k e a b : ℕ) (is : i + suc k ≡ steps r)
       → IsPair (entry_at r i).t (entry_at r i).u a b → e < 3 * face_count h → IsOuter h k e
-      → (w : InnerOf r h node leaf face run num i k is (face_of e) a b) → IsOlder k (expected h e)
+      → (w : InnerOf run num i k is (face_of e) a b) → IsOlder k (expected h e)
   outer-older i k e a b is pair l outer w =
       let o = side_by face w.x in
       let c = entry_at r i in
@@ -112,7 +112,7 @@ module _ (r : Run) (h : Hierarchy) (node leaf face : ℕ → ℕ) (run : IsMergi
               | inl q ↦
                   let (n, n_is, across) = w.on_first _ refl in
                   older-recorded i k _ n is
-                  (expected-first r h node leaf face run num i k is e outer.0
+                  (expected-first run num i k is e outer.0
                   (q ∙ ap next (sym w.is_inner)) ∙ n_is)
                   (λ g z. across_next-stays (net_of_run_after r i) c.t c.u c.s fresh keeps proper
                   w.x a b g pair w.runs
@@ -120,7 +120,7 @@ module _ (r : Run) (h : Hierarchy) (node leaf face : ℕ → ℕ) (run : IsMergi
               | inr q ↦
                   let (n, n_is, across) = w.on_second _ refl in
                   older-recorded i k _ n is
-                  (expected-second r h node leaf face run num i k is e outer.0
+                  (expected-second run num i k is e outer.0
                   (q ∙ ap (λ g. next (next g)) (sym w.is_inner)) ∙ n_is)
                   (λ g z. across_last-stays (net_of_run_after r i) c.t c.u c.s fresh keeps proper
                   w.x a b g pair w.runs
@@ -148,9 +148,9 @@ module _ (r : Run) (h : Hierarchy) (node leaf face : ℕ → ℕ) (run : IsMergi
         st'.first (root-ancestor h (record_count h) (from_leaf h e) ∙ z
         ∙ sym (root-ancestor h (record_count h) (to_leaf h e)));
     left = λ f k l own left. let k_lt = (revealed-parts h f k l own).0 in let (i, is) =
-        at_stage k k_lt in shape_left r h node leaf face run num i k is f l own left;
+        at_stage k k_lt in shape_left run num i k is f l own left;
     right = λ f k l own left. let k_lt = (revealed-parts h f k l own).0 in let (i, is) =
-        at_stage k k_lt in shape_right r h node leaf face run num i k is f l own left;
+        at_stage k k_lt in shape_right run num i k is f l own left;
   }
 
   neighbours : (e k : ℕ) → e < 3 * face_count h → IsOuter h k e → IsOlder k (expected h e)
@@ -160,10 +160,10 @@ module _ (r : Run) (h : Hierarchy) (node leaf face : ℕ → ℕ) (run : IsMergi
       elim (cases_Bool (is_left h k (face_of e))) [
         | inl left ↦
             outer-older i k e _ _ is (inl (refl, refl)) l outer
-            (left_inner r h node leaf face run num i k is (face_of e) f_lt outer.0 left)
+            (left_inner run num i k is (face_of e) f_lt outer.0 left)
         | inr left ↦
             outer-older i k e _ _ is (inr (refl, refl)) l outer
-            (right_inner r h node leaf face run num i k is (face_of e) f_lt outer.0 left)
+            (right_inner run num i k is (face_of e) f_lt outer.0 left)
       ]
 
   full : Renames (net_of_run_after r 0) (shown_net h (below (record_count h))) (λ e. side_by face e)
@@ -217,6 +217,6 @@ module _ (r : Run) (h : Hierarchy) (node leaf face : ℕ → ℕ) (run : IsMergi
         (subst (λ v. KeepsApart (shown_net h (below (suc k))) (node c.t) v) (num.node_u i k is)
         keeps);
     recorded = λ e k l own. let (i, is) = at_stage k (record-lt h e k l own) in
-        recorded r h node leaf face run num i k is e l own;
+        recorded run num i k is e l own;
     older = λ e k b l outer q. subst (IsOlder k) q (neighbours e k l outer);
   }

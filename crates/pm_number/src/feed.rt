@@ -1,6 +1,6 @@
 //! Hands the units of the hierarchy of a run to a shaper. It refuses none of them, as each passes
 //! the rules of shape.
-ghost use Rattle.std.specs.Prelude.{◌≡◌, ◌+◌, ◌*◌, ◌<◌, ℕ, IfOk, IfSome, length};
+ghost use Rattle.std.specs.Prelude.{◌≡◌, IfOk, IfSome, length};
 ghost use Rattle.pm_forest.specs.Shaping.{nothing_in};
 ghost use Rattle.pm_forest.specs.Rules.{counts_of, HasShape};
 ghost use Rattle.pm_number.specs.Numbering.{numbered_gone};
