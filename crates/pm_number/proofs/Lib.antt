@@ -4,6 +4,7 @@ pub mod RunLaws
 pub mod Positions
 pub mod Undone
 pub mod Stages
+pub mod GoneFaces
 pub mod RecordFaces
 pub mod RecordMates
 pub mod Undoing

@@ -1,134 +1,34 @@
 -- The faces of a record of a hierarchy that numbers a run: which side lies between its children,
 -- and what is told of the others.
 use Rattle.std.proofs.Common.{suc, ◌≡◌, ◌≢◌, ℕ, ◌+◌, ◌*◌, ◌<◌, eqb, true, false, cond, Option, Some}
-use Rattle.std.proofs.Common.{None, is_some, unwrap_or, inl, inr, sym, ap, ◌∙◌, subst, arith}
-use Rattle.std.proofs.lemmas.Bool.{cases_Bool, and_left, cond-true, cond-false, both_ways}
-use Rattle.std.proofs.lemmas.Bool.{false≢true, false_from_ne_true, and_from, eq-eqb, ne_eqb}
-use Rattle.std.proofs.lemmas.Bool.{and_right}
-use Rattle.pm_base.specs.Counts.{one_if}
+use Rattle.std.proofs.Common.{sym, ap, ◌∙◌, subst, arith}
+use Rattle.std.proofs.lemmas.Bool.{cond-true, cond-false, both_ways}
+use Rattle.std.proofs.lemmas.Bool.{false_from_ne_true, eq-eqb, ne_eqb}
 use Rattle.pm_base.specs.Sides.{next, face_of, Net, Stands}
-use Rattle.pm_base.specs.declared.log.Gone.{Gone}
 use Rattle.pm_base.proofs.Sides.{face_of-next}
 use Rattle.pm_beyond.specs.Walks.{number_of, mate_of, expected_at, expected}
 use Rattle.pm_forest.proofs.Ancestors.{holds-ancestor_of}
-use Rattle.pm_forest.proofs.FaceNumbers.{which_face}
 use Rattle.pm_forest.proofs.Nodes.{holds-u_from_s}
-use Rattle.pm_forest.proofs.Sides.{next-differs, next_next-differs, three_sides}
-use Rattle.pm_forest.specs.Faces.{no_face, first_face, face_count, revealed_by, is_left, new_face}
+use Rattle.pm_forest.proofs.Sides.{next-differs, next_next-differs}
+use Rattle.pm_forest.specs.Faces.{face_count, revealed_by, is_left, new_face}
 use Rattle.pm_forest.specs.Faces.{record_of, from_leaf, to_leaf, inner_of}
-use Rattle.pm_forest.specs.Forest.{Hierarchy, record_at, record_count, s_of, t_of, u_of, holds}
+use Rattle.pm_forest.specs.Forest.{Hierarchy, record_count, s_of, t_of, u_of, holds}
 use Rattle.pm_forest.specs.Forest.{Holds}
 use Rattle.pm_forest.specs.Fronts.{ancestor_of, below}
-use Rattle.pm_forest.specs.declared.parts.NewFace.{NewFace}
 use Rattle.pm_number.proofs.Renamed.{runs-moved}
 use Rattle.pm_number.proofs.ShownNets.{at-t, at-u}
 use Rattle.pm_firm.specs.Firm.{shown_net}
-use Rattle.pm_number.specs.Shown.{SameGone, IsNumbered}
+use Rattle.pm_number.specs.Shown.{IsNumbered}
 use Rattle.pm_number.specs.Stages.{side_moved, Renames, Run, steps, entry_at, net_of_run_after}
-use Rattle.pm_number.specs.Stages.{IsGone, IsMerging, side_by}
+use Rattle.pm_number.specs.Stages.{IsMerging, side_by}
 use Rattle.pm_runs.specs.Merged.{StandsAcross}
 use Rattle.pm_runs.specs.Pairs.{Runs}
-use Rattle.pm_number.proofs.Stages.{side-face, leaves, stage}
+use Rattle.pm_number.proofs.Stages.{leaves, stage}
+use Rattle.pm_number.proofs.GoneFaces.{IsGoneFace, left_face, right_face, face_of_record}
+use Rattle.pm_number.proofs.GoneFaces.{inner-found}
 
 module _ {r : Run} {h : Hierarchy} {node leaf face : ℕ → ℕ} (run : IsMerging r)
     (num : IsNumbered r h node leaf face) where
-  -- The faces of record k
-
-  record IsGoneFace (i k f p q : ℕ) : Type 0 where
-    pub x : ℕ
-    pub runs : Runs (net_of_run_after r i) x p q
-    pub is_face : face_of (side_by face x) ≡ f
-    pub first : Option ℕ
-    pub second : Option ℕ
-    pub across_first : StandsAcross (net_of_run_after r i) (next x) first
-    pub across_second : StandsAcross (net_of_run_after r i) (next (next x)) second
-    pub keeps_first : number_of (new_face h k f).first ≡ side_moved (λ e. side_by face e) first
-    pub keeps_second : number_of (new_face h k f).second ≡ side_moved (λ e. side_by face e) second
-
-  gone-face : (i k f p q : ℕ) (g : Option Gone) (n : Option NewFace)
-      → IsGone (net_of_run_after r i) p q g → SameGone face f g n → is_some n ≡ true
-      → new_face h k f ≡ unwrap_or n no_face → IsGoneFace i k f p q
-  gone-face i k f p q None None a b t is = absurd (false≢true t)
-  gone-face i k f p q None (Some n) a b t is = absurd b
-  gone-face i k f p q (Some g) None a b t is = absurd b
-  gone-face i k f p q (Some g) (Some n) (e, runs, on, x, y) b t is = record {
-    x = e;
-    runs = runs;
-    is_face = side-face face e ∙ ap face on ∙ b.0;
-    first = number_of g.first;
-    second = number_of g.second;
-    across_first = x;
-    across_second = y;
-    keeps_first = ap (λ z. number_of z.first) is ∙ b.1;
-    keeps_second = ap (λ z. number_of z.second) is ∙ b.2;
-  }
-
-  -- the run's account of a face of record k: which ends it runs between
-  data FaceOf (i k f : ℕ) : Type 0 where
-    left_face : is_left h k f ≡ true → IsGoneFace i k f (entry_at r i).t (entry_at r i).u
-        → FaceOf i k f
-    right_face : is_left h k f ≡ false → IsGoneFace i k f (entry_at r i).u (entry_at r i).t
-        → FaceOf i k f
-
-  face_of_record : (i k f : ℕ) → i + suc k ≡ steps r → f < face_count h → revealed_by h f ≡ Some k
-      → FaceOf i k f
-  unfolding is_left
-  face_of_record i k f is l own =
-      let logged = run.logged i (omega arith) in
-      let a = is_some (record_at h k).left in
-      let x = unwrap_or (record_at h k).left no_face in
-      let y = unwrap_or (record_at h k).right no_face in
-      elim (which_face h f k l own) [
-        | inl p ↦
-            let left : is_left h k f ≡ true = and_from a _ p.0 (eq-eqb f (first_face h k) p.1) in
-            left_face left (gone-face i k f _ _ (entry_at r i).left (record_at h k).left logged.left
-            (subst (λ n. SameGone face n (entry_at r i).left (record_at h k).left) (sym p.1)
-            (num.left i k is)) p.0 (cond-true _ x y left))
-        | inr p ↦
-            let left : is_left h k f ≡ false =
-            elim (cases_Bool a) [
-              | inl t ↦ (let one : one_if a ≡ 1 =
-                  ap one_if t in
-                  and_right a _ (ne_eqb f (first_face h k) (let q = p.1 in omega arith)))
-              | inr t ↦ and_left a _ t
-            ] in
-            right_face left
-            (gone-face i k f _ _ (entry_at r i).right (record_at h k).right logged.right
-            (subst (λ n. SameGone face n (entry_at r i).right (record_at h k).right) (sym p.1)
-            (num.right i k is)) p.0 (cond-false _ x y left))
-      ]
-
-  -- the inner side of a face is the one with the right child at its beginning alone
-  inner-found : (k f e : ℕ) → face_of e ≡ f → let v = cond (is_left h k f) (t_of h k) (u_of h k) in
-      Holds h v (from_leaf h e) → holds h v (from_leaf h (next e)) ≡ false
-      → holds h v (from_leaf h (next (next e))) ≡ false → inner_of h k f ≡ e
-  unfolding inner_of
-  inner-found k f e is a b c =
-      let v = cond (is_left h k f) (t_of h k) (u_of h k) in
-      let no : (g : ℕ) → face_of g ≡ f → Holds h v (from_leaf h g) → g ≡ e =
-      λ g on t. elim (three_sides g e (on ∙ sym is)) [
-        | inl q ↦ q
-        | inr which ↦ elim which [
-          | inl q ↦ absurd (both_ways _ b (subst (λ z. Holds h v (from_leaf h z)) q t))
-          | inr q ↦ absurd (both_ways _ c (subst (λ z. Holds h v (from_leaf h z)) q t))
-        ]
-      ] in
-      let q1 = cond (holds h v (from_leaf h (3 * f + 1))) (3 * f + 1) (3 * f + 2) in
-      elim (cases_Bool (holds h v (from_leaf h (3 * f)))) [
-        | inl t ↦ cond-true _ (3 * f) q1 t ∙ no (3 * f) (omega arith) t
-        | inr t ↦
-            cond-false _ (3 * f) q1 t
-            ∙ elim (cases_Bool (holds h v (from_leaf h (3 * f + 1)))) [
-              | inl t' ↦ cond-true _ (3 * f + 1) (3 * f + 2) t' ∙ no (3 * f + 1) (omega arith) t'
-              | inr t' ↦
-                  let n0 : e ≢ 3 * f =
-                  λ z. both_ways _ t (subst (λ g. Holds h v (from_leaf h g)) z a) in
-                  let n1 : e ≢ 3 * f + 1 =
-                  λ z. both_ways _ t' (subst (λ g. Holds h v (from_leaf h g)) z a) in
-                  cond-false _ (3 * f + 1) (3 * f + 2) t' ∙ omega arith
-            ]
-      ]
-
   module _ (i k : ℕ) (is : i + suc k ≡ steps r) where
     abbrev pub m : Net
     m = net_of_run_after r i
@@ -194,7 +94,7 @@ module _ {r : Run} {h : Hierarchy} {node leaf face : ℕ → ℕ} (run : IsMergi
 
     -- the inner side of a face of record k
     inner_left : (f : ℕ) → is_left h k f ≡ true
-        → (g : IsGoneFace i k f (entry_at r i).t (entry_at r i).u)
+        → (g : IsGoneFace run num i k f (entry_at r i).t (entry_at r i).u)
         → (inner_of h k f ≡ side_by face g.x) × Ends (side_by face g.x) (t_of h k) (u_of h k)
     inner_left f left g =
         let e = ends_of g.x _ _ _ _ g.runs (num.node_t i k is) (num.node_u i k is) in
@@ -202,7 +102,7 @@ module _ {r : Run} {h : Hierarchy} {node leaf face : ℕ → ℕ} (run : IsMergi
         let v : cond (is_left h k f) (t_of h k) (u_of h k) ≡ t_of h k =
         cond-true _ (t_of h k) (u_of h k) left in
         let n1 : now (next o) ≢ t_of h k = λ z. e.stands.first (e.begins ∙ sym z) in (
-          inner-found k f o g.is_face
+          inner-found run num k f o g.is_face
               (subst (λ n. Holds h n (from_leaf h o)) (sym v) (holds_t o e.is_side e.begins))
               (subst (λ n. holds h n (from_leaf h (next o)) ≡ false) (sym v) (off_t (next o) n1))
               (subst (λ n. holds h n (from_leaf h (next (next o))) ≡ false) (sym v)
@@ -211,7 +111,7 @@ module _ {r : Run} {h : Hierarchy} {node leaf face : ℕ → ℕ} (run : IsMergi
         )
 
     inner_right : (f : ℕ) → is_left h k f ≡ false
-        → (g : IsGoneFace i k f (entry_at r i).u (entry_at r i).t)
+        → (g : IsGoneFace run num i k f (entry_at r i).u (entry_at r i).t)
         → (inner_of h k f ≡ side_by face g.x) × Ends (side_by face g.x) (u_of h k) (t_of h k)
     inner_right f left g =
         let e = ends_of g.x _ _ _ _ g.runs (num.node_u i k is) (num.node_t i k is) in
@@ -219,7 +119,7 @@ module _ {r : Run} {h : Hierarchy} {node leaf face : ℕ → ℕ} (run : IsMergi
         let v : cond (is_left h k f) (t_of h k) (u_of h k) ≡ u_of h k =
         cond-false _ (t_of h k) (u_of h k) left in
         let n1 : now (next o) ≢ u_of h k = λ z. e.stands.first (e.begins ∙ sym z) in (
-          inner-found k f o g.is_face
+          inner-found run num k f o g.is_face
               (subst (λ n. Holds h n (from_leaf h o)) (sym v) (holds_u o e.is_side e.begins))
               (subst (λ n. holds h n (from_leaf h (next o)) ≡ false) (sym v) (off_u (next o) n1))
               (subst (λ n. holds h n (from_leaf h (next (next o))) ≡ false) (sym v)
@@ -235,7 +135,7 @@ module _ {r : Run} {h : Hierarchy} {node leaf face : ℕ → ℕ} (run : IsMergi
         Holds h (t_of h k) (from_leaf h o) × Holds h (u_of h k) (to_leaf h o)
         × (holds h (s_of h k) (from_leaf h (next (next o))) ≡ false)
     shape_left f l own left =
-        elim (face_of_record i k f is l own) [
+        elim (face_of_record run num i k f is l own) [
           | left_face _ g ↦
               let (same, e) = inner_left f left g in
               let o = side_by face g.x in
@@ -253,7 +153,7 @@ module _ {r : Run} {h : Hierarchy} {node leaf face : ℕ → ℕ} (run : IsMergi
         Holds h (u_of h k) (from_leaf h o) × Holds h (t_of h k) (to_leaf h o)
         × (holds h (s_of h k) (from_leaf h (next (next o))) ≡ false)
     shape_right f l own left =
-        elim (face_of_record i k f is l own) [
+        elim (face_of_record run num i k f is l own) [
           | left_face is_left g ↦ absurd (both_ways _ left is_left)
           | right_face _ g ↦
               let (same, e) = inner_right f left g in
@@ -319,7 +219,7 @@ module _ {r : Run} {h : Hierarchy} {node leaf face : ℕ → ℕ} (run : IsMergi
           → (c : Option ℕ) × (q ≡ side_moved (λ e. side_by face e) c)
           × StandsAcross (net_of_run_after r i) (next (next x)) c
 
-    inner-of : (f a b : ℕ) → (g : IsGoneFace i k f a b) → inner_of h k f ≡ side_by face g.x
+    inner-of : (f a b : ℕ) → (g : IsGoneFace run num i k f a b) → inner_of h k f ≡ side_by face g.x
         → InnerOf f a b
     inner-of f a b g same = record {
       x = g.x;
@@ -333,7 +233,7 @@ module _ {r : Run} {h : Hierarchy} {node leaf face : ℕ → ℕ} (run : IsMergi
     pub left_inner : (f : ℕ) → f < face_count h → revealed_by h f ≡ Some k → is_left h k f ≡ true
         → InnerOf f (entry_at r i).t (entry_at r i).u
     left_inner f l own left =
-        elim (face_of_record i k f is l own) [
+        elim (face_of_record run num i k f is l own) [
           | left_face _ g ↦ inner-of f _ _ g (inner_left f left g).0
           | right_face not_left g ↦ absurd (both_ways _ not_left left)
         ]
@@ -341,7 +241,7 @@ module _ {r : Run} {h : Hierarchy} {node leaf face : ℕ → ℕ} (run : IsMergi
     pub right_inner : (f : ℕ) → f < face_count h → revealed_by h f ≡ Some k → is_left h k f ≡ false
         → InnerOf f (entry_at r i).u (entry_at r i).t
     right_inner f l own left =
-        elim (face_of_record i k f is l own) [
+        elim (face_of_record run num i k f is l own) [
           | left_face is_left g ↦ absurd (both_ways _ left is_left)
           | right_face _ g ↦ inner-of f _ _ g (inner_right f left g).0
         ]

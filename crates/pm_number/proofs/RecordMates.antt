@@ -55,10 +55,8 @@ module _ {r : Run} {h : Hierarchy} {node leaf face : ℕ → ℕ} (run : IsMergi
         let y = is_some (record_at h k).right in
         let count : first_face h (suc k) ≡ first_face h k + one_if x + one_if y = refl in
         let one : one_if x ≡ 1 = ap one_if t in
-        let top = first_face-mono h (suc k) (record_count h)
-        (k_lt run num i k is) in (
-          revealed-from h (first_face h k) k (k_lt run num i k is) (omega arith)
-              (omega arith),
+        let top = first_face-mono h (suc k) (record_count h) (k_lt run num i k is) in (
+          revealed-from h (first_face h k) k (k_lt run num i k is) (omega arith) (omega arith),
           omega arith,
           and_from x _ t (eq-eqb (first_face h k) (first_face h k) refl),
         )
@@ -73,8 +71,7 @@ module _ {r : Run} {h : Hierarchy} {node leaf face : ℕ → ℕ} (run : IsMergi
         let f = first_face h k + one_if x in
         let count : first_face h (suc k) ≡ first_face h k + one_if x + one_if y = refl in
         let one : one_if y ≡ 1 = ap one_if t in
-        let top = first_face-mono h (suc k) (record_count h)
-        (k_lt run num i k is) in (
+        let top = first_face-mono h (suc k) (record_count h) (k_lt run num i k is) in (
           revealed-from h f k (k_lt run num i k is) (omega arith) (omega arith),
           omega arith,
           elim (cases_Bool x) [
@@ -136,8 +133,7 @@ module _ {r : Run} {h : Hierarchy} {node leaf face : ℕ → ℕ} (run : IsMergi
               (Some (inner_of h k (cond (is_left h k f) f2 (first_face h k)))) None
               (and_right a b t)))
               (across-moved (net_of_run_after r i) (shown_net h (below (suc k)))
-              (λ e. side_by face e) node (map run num i k is) x None
-              runs.stands.is_side across)
+              (λ e. side_by face e) node (map run num i k is) x None runs.stands.is_side across)
         ]
 
     mate-right : (f x : ℕ) → f < face_count h → revealed_by h f ≡ Some k → is_left h k f ≡ false
@@ -187,8 +183,7 @@ module _ {r : Run} {h : Hierarchy} {node leaf face : ℕ → ℕ} (run : IsMergi
               (Some (inner_of h k (cond (is_left h k f) (first_face h k + 1) f2))) None
               (and_left a b t)))
               (across-moved (net_of_run_after r i) (shown_net h (below (suc k)))
-              (λ e. side_by face e) node (map run num i k is) x None
-              runs.stands.is_side across)
+              (λ e. side_by face e) node (map run num i k is) x None runs.stands.is_side across)
         ]
 
     right_there : (f : ℕ) → f < face_count h → revealed_by h f ≡ Some k → is_left h k f ≡ false
@@ -209,8 +204,7 @@ module _ {r : Run} {h : Hierarchy} {node leaf face : ℕ → ℕ} (run : IsMergi
         elim (three_sides e o (sym w.face_is)) [
           | inl q ↦
               subst (StandsAcross (shown_net h (below (suc k))) e)
-              (sym (expected-inner run num i k is e own
-              (q ∙ sym w.is_inner)))
+              (sym (expected-inner run num i k is e own (q ∙ sym w.is_inner)))
               (subst (λ g. StandsAcross (shown_net h (below (suc k))) g (mate_of h k (face_of e)))
               (sym q) mate)
           | inr which ↦
@@ -224,8 +218,7 @@ module _ {r : Run} {h : Hierarchy} {node leaf face : ℕ → ℕ} (run : IsMergi
                     (subst (λ g. StandsAcross (shown_net h (below (suc k))) g
                     (side_moved (λ e. side_by face e) c)) at
                     (across-moved (net_of_run_after r i) (shown_net h (below (suc k)))
-                    (λ e. side_by face e) node (map run num i k is)
-                    (next w.x) c n1.is_side across))
+                    (λ e. side_by face e) node (map run num i k is) (next w.x) c n1.is_side across))
                 | inr q ↦
                     let (c, c_is, across) = w.on_second _ refl in
                     let at : side_by face (next (next w.x)) ≡ e =

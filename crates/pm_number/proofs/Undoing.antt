@@ -112,8 +112,7 @@ module _ (r : Run) (h : Hierarchy) (node leaf face : ℕ → ℕ) (run : IsMergi
               | inl q ↦
                   let (n, n_is, across) = w.on_first _ refl in
                   older-recorded i k _ n is
-                  (expected-first run num i k is e outer.0
-                  (q ∙ ap next (sym w.is_inner)) ∙ n_is)
+                  (expected-first run num i k is e outer.0 (q ∙ ap next (sym w.is_inner)) ∙ n_is)
                   (λ g z. across_next-stays (net_of_run_after r i) c.t c.u c.s fresh keeps proper
                   w.x a b g pair w.runs
                   (subst (StandsAcross (net_of_run_after r i) (next w.x)) z across))
