@@ -1,4 +1,3 @@
-use Rattle.std.proofs.Common.{refl}
 use Rattle.pm_number.proofs.FeedLaws.{expects_due, due_passes, due_taken}
 use Rattle.pm_number.proofs.feed.add_gone.Goals as goal
 
@@ -19,9 +18,6 @@ unreachable-requires c =
     due_passes c.in_default-add_face.field-0 (rw c.in-Some.is at c.requires.due)
     (rw (c.face-face.ensures, c.word-first.ensures, c.word-second.ensures) at
     c.in_default-add_face.ensures.fault)
-
-pub returns-in_default : goal.returns-in_default
-returns-in_default c = rw c.in_default.is refl
 
 pub returns-in-Ok : goal.returns-in-Ok
 returns-in-Ok c =

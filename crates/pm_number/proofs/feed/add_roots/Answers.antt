@@ -3,9 +3,6 @@ use Rattle.pm_number.specs.Tables.{run_by, hierarchy_by}
 use Rattle.pm_number.proofs.FeedLaws.{root_len, expects_root, root_passes, root_taken}
 use Rattle.pm_number.proofs.feed.add_roots.Goals as goal
 
-pub loop-i-init : goal.loop-i-init
-loop-i-init c = c.requires.before
-
 pub add_root-requires : goal.add_root-requires
 add_root-requires c =
     expects_root (hierarchy_by c.args.numbers.now) c.loop-i.i c.loop-i.invariant

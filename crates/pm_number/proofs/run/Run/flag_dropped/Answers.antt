@@ -1,6 +1,5 @@
-use Rattle.std.proofs.Common.{◌≡◌, ◌∙◌, ℕ, ◌<◌, false, get_or, is_some, length, subst, arith}
-use Rattle.pm_base.specs.Sides.{find_below}
-use Rattle.pm_number.specs.Numbering.{drops, dropped_by}
+use Rattle.std.proofs.Common.{◌≡◌, ◌∙◌, length, arith}
+use Rattle.pm_number.specs.Numbering.{dropped_by}
 use Rattle.pm_number.specs.Tables.{run_in}
 use Rattle.pm_number.proofs.LeftLaws.{dropped_more}
 use Rattle.pm_number.proofs.run.Run.flag_dropped.Goals as goal
@@ -22,7 +21,5 @@ loop-i-preserved c =
 pub returns-clause-each : goal.returns-clause-each
 unfolding dropped_by
 returns-clause-each c =
-    let r = run_in c.args.self.now in
     let end : c.loop-i.i ≡ length c.args.self.now.log.now = omega arith in
-    subst (λ (n : ℕ). (f : ℕ) → f < r.net.faces → get_or c.loop-i.flags.items f false
-    ≡ is_some (find_below (drops r f) n)) end c.loop-i.invariant.each
+    rw end at c.loop-i.invariant.each

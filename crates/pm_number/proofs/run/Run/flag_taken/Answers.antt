@@ -1,9 +1,8 @@
-use Rattle.std.proofs.Common.{◌≡◌, ◌∙◌, ℕ, ◌<◌, false, get_or, is_some, length, subst, arith}
+use Rattle.std.proofs.Common.{◌≡◌, ◌∙◌, length, arith}
 use Rattle.std.proofs.Math.ListN.{set}
 use Rattle.std.proofs.lemmas.List.{length-set}
-use Rattle.pm_base.specs.Sides.{find_below}
-use Rattle.pm_number.specs.Numbering.{takes, taken_by}
-use Rattle.pm_number.specs.Tables.{run_in, all_vertices}
+use Rattle.pm_number.specs.Numbering.{taken_by}
+use Rattle.pm_number.specs.Tables.{run_in}
 use Rattle.pm_number.proofs.LeftLaws.{taken_more}
 use Rattle.pm_number.proofs.run.Run.flag_taken.Goals as goal
 
@@ -22,7 +21,5 @@ loop-i-preserved c =
 pub returns-clause-each : goal.returns-clause-each
 unfolding taken_by
 returns-clause-each c =
-    let r = run_in c.args.self.now in
     let end : c.loop-i.i ≡ length c.args.self.now.log.now = omega arith in
-    subst (λ (n : ℕ). (v : ℕ) → v < all_vertices r → get_or c.loop-i.flags.items v false
-    ≡ is_some (find_below (takes r v) n)) end c.loop-i.invariant.each
+    rw end at c.loop-i.invariant.each

@@ -19,13 +19,6 @@ overflow_add-node-in-loop-i c =
       c.requires.roots,
     )
 
-pub loop-i-init : goal.loop-i-init
-loop-i-init c = record {
-  len = c.requires.len;
-  roots = rw c.requires.roots at c.requires.left;
-  ends = λ j l. absurd (omega arith);
-}
-
 pub loop-i-preserved : goal.loop-i-preserved
 loop-i-preserved c =
     ends_more c.requires.run.merging c.loop-i.invariant c.entry-collapse.ensures.value

@@ -1,4 +1,4 @@
-use Rattle.std.proofs.Common.{◌≡◌, length, ap, refl, arith}
+use Rattle.std.proofs.Common.{◌≡◌, length, ap, arith}
 use Rattle.pm_number.specs.Numbering.{left_over}
 use Rattle.pm_number.specs.Tables.{run_in}
 use Rattle.pm_number.proofs.StartLaws.{item_at, roots_small, roots_next, roots_all}
@@ -28,9 +28,6 @@ overflow_add-start c =
           c.loop-j-test.true,
       c.loop-j.invariant.sum,
     )
-
-pub loop-j-init : goal.loop-j-init
-loop-j-init c = record { len = c.requires.len; sum = refl; each = λ j l. absurd (omega arith) }
 
 pub loop-j-preserved : goal.loop-j-preserved
 loop-j-preserved c =

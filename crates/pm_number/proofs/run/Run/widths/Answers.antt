@@ -1,6 +1,5 @@
-use Rattle.std.proofs.Common.{◌≡◌, ℕ, length, subst, arith}
-use Rattle.pm_number.specs.Numbering.{width_after}
-use Rattle.pm_number.specs.Tables.{run_in, HasNumbers, all_vertices}
+use Rattle.std.proofs.Common.{◌≡◌, length, arith}
+use Rattle.pm_number.specs.Tables.{run_in}
 use Rattle.pm_number.proofs.NumberLaws.{widths_start, widths_more, widths_small}
 use Rattle.pm_number.proofs.run.Run.widths.Goals as goal
 
@@ -26,5 +25,4 @@ overflow_add-index c =
 pub returns : goal.returns
 returns c =
     let end : c.loop-i.i ≡ length c.args.self.now.log.now = omega arith in
-    subst (λ (n : ℕ). HasNumbers c.loop-i.widths.items (width_after (run_in c.args.self.now) n)
-    (all_vertices (run_in c.args.self.now))) end c.loop-i.invariant
+    rw end at c.loop-i.invariant
