@@ -1,5 +1,4 @@
-use Rattle.std.proofs.Common.{◌≡◌, ◌∙◌, ◌∷◌, ◌++◌, [], not, true, false, ap, sym}
-use Rattle.std.proofs.lemmas.Bool.{cond-true, cond-false}
+use Rattle.std.proofs.Common.{◌≡◌, not, true, false, ap, refl}
 use Rattle.std.proofs.lemmas.List.{append-nil}
 use Rattle.pm_number.specs.Numbering.{picked}
 use Rattle.pm_number.specs.Tables.{is_unset}
@@ -14,14 +13,13 @@ loop-k-preserved c =
     elim c.if-not-flags-k.branch [
       | then-not-flags-k+in_ok-push w ↦
           let passes : test k ≡ true = ap not w.if-not-flags-k.true in
-          ap (λ v. v.items) w.numbers-is ∙ w.in_ok-push.ensures.items
-          ∙ ap (λ xs. xs ++ k ∷ []) c.loop-k.invariant
-          ∙ sym (picked_more test k
-          ∙ ap (λ xs. picked test 0 k ++ xs) (cond-true (test k) (k ∷ []) [] passes))
+          rw (w.numbers-is, w.in_ok-push.ensures.items) (rw (
+            c.loop-k.invariant,
+            picked_more test k,
+            passes,
+          ) refl)
       | else-not-flags-k w ↦
           let fails : test k ≡ false = ap not w.if-not-flags-k.false in
-          ap (λ v. v.items) w.numbers-is ∙ c.loop-k.invariant
-          ∙ sym (picked_more test k
-          ∙ ap (λ xs. picked test 0 k ++ xs) (cond-false (test k) (k ∷ []) [] fails)
-          ∙ append-nil (picked test 0 k))
+          rw (w.numbers-is, c.loop-k.invariant, picked_more test k, fails)
+          (rw (append-nil (picked test 0 k)) refl)
     ]
