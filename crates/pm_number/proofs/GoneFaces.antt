@@ -62,8 +62,8 @@ module _ {r : Run} {h : Hierarchy} {node leaf face : ℕ → ℕ} (run : IsMergi
     right_face : is_left h k f ≡ false → IsGoneFace i k f (entry_at r i).u (entry_at r i).t
         → FaceOf i k f
 
-  pub face_of_record : (i k f : ℕ) → i + suc k ≡ steps r → f < face_count h → revealed_by h f ≡ Some k
-      → FaceOf i k f
+  pub face_of_record : (i k f : ℕ) → i + suc k ≡ steps r → f < face_count h
+      → revealed_by h f ≡ Some k → FaceOf i k f
   unfolding is_left
   face_of_record i k f is l own =
       let logged = run.logged i (omega arith) in
@@ -91,7 +91,8 @@ module _ {r : Run} {h : Hierarchy} {node leaf face : ℕ → ℕ} (run : IsMergi
       ]
 
   -- the inner side of a face is the one with the right child at its beginning alone
-  pub inner-found : (k f e : ℕ) → face_of e ≡ f → let v = cond (is_left h k f) (t_of h k) (u_of h k) in
+  pub inner-found : (k f e : ℕ) → face_of e ≡ f
+      → let v = cond (is_left h k f) (t_of h k) (u_of h k) in
       Holds h v (from_leaf h e) → holds h v (from_leaf h (next e)) ≡ false
       → holds h v (from_leaf h (next (next e))) ≡ false → inner_of h k f ≡ e
   unfolding inner_of
