@@ -1,5 +1,5 @@
 -- The index of a vertex in a field of a line. Byte 47 is `/`.
-use Rattle.std.specs.Prelude.{ℕ, ◌-◌, List, not, ◌==◌, ◌&&◌, ◌||◌, nat_lt, length, drop, Result, Ok}
+use Rattle.std.specs.Prelude.{ℕ, ◌-◌, List, Bool, not, ◌==◌, ◌&&◌, ◌||◌, nat_lt, length, drop, Result, Ok}
 use Rattle.std.specs.Prelude.{Err, if◌then◌else◌}
 use Rattle.pm_io.specs.Digits.{are_digits, value}
 use Rattle.obj_lines.specs.Text.{until}
@@ -14,6 +14,10 @@ index_text field = until 47 field
 -- An index without its minus sign.
 unfoldable pub index_digits : List ℕ → List ℕ
 index_digits text = if is_negative text then drop 1 text else text
+
+-- Digits alone, and at least one.
+abbrev pub has_digits : List ℕ → Bool
+has_digits text = are_digits text && nat_lt 0 (length text)
 
 -- The number from 0 of the vertex that an index names after so many vertices, or the index's first
 -- fault. Index 1 is the first vertex, and -1 the last one.

@@ -1,6 +1,7 @@
 //! A coordinate in a field of a line: a sign where there is one, digits, and a point with decimals
 //! where there is one.
-ghost use Rattle.std.specs.Prelude.{◌≡◌, ◌≤◌, ◌<◌, ◌^◌, min, true, drop, IfOk};
+ghost use Rattle.std.specs.Prelude.{◌≡◌, ◌≤◌, ◌<◌, ◌^◌, min, true, false, drop, IfOk, IfSome};
+ghost use Rattle.std.specs.Prelude.{IfNone, OnSome};
 ghost use Rattle.pm_base.specs.Place.{is_coordinate};
 ghost use Rattle.pm_io.specs.Digits.{are_digits, value};
 ghost use Rattle.obj_read.specs.Coordinates.{is_negative, without_sign, whole_part, decimals};
@@ -8,6 +9,7 @@ ghost use Rattle.obj_read.specs.Coordinates.{is_number, are_zeros, with_sign, pa
 ghost use Rattle.obj_read.specs.Coordinates.{coordinate};
 
 use crate::fault::ObjFault;
+use crate::leading::{is_end, leading_number};
 use obj_lines::until;
 use pm_base::GREATEST_COORDINATE;
 use pm_io::{are_digits, value_up_to};
@@ -57,13 +59,35 @@ pub fn decimals(number: &[u8]) -> &[u8]
     }
 }
 
-#[tactic(auto, unfolding(crate::specs::Coordinates::is_number))]
-fn is_number(number: &[u8]) -> bool
-    ensures { result ≡ is_number number.now }
+// What stands after the first byte.
+fn after_point(rest: &[u8]) -> &[u8]
+    ensures { result.now ≡ drop 1 rest.now }
 {
-    let front = whole_part(number);
-    let back = decimals(number);
-    are_digits(front) && are_digits(back) && (!front.is_empty() || !back.is_empty())
+    match rest {
+        [_, decimals @ ..] => decimals,
+        _ => rest,
+    }
+}
+
+// What stands before the point of a number without its sign, or a number past the greatest
+// coordinate where that is less, and its decimals.
+#[tactic(auto, using(crate::proofs::PartsLaws::whole_leading, crate::proofs::PartsLaws::decimals_after, crate::proofs::PartsLaws::other_bytes, crate::proofs::PartsLaws::number_formed, crate::proofs::PartsLaws::number_empty, crate::proofs::PartsLaws::number_other))]
+fn number_parts(number: &[u8]) -> Option<(u64, &[u8])>
+    ensures none { IfNone result (is_number number.now ≡ false) }
+    ensures some { OnSome result (is_number number.now ≡ true) }
+    ensures whole { IfSome result (λ p. p.0 ≡ min (value 0 (whole_part number.now)) 32768) }
+    ensures decimals { IfSome result (λ p. p.1.now ≡ decimals number.now) }
+    ensures digits { IfSome result (λ p. are_digits p.1.now ≡ true) }
+{
+    let (whole, rest) = leading_number(number, GREATEST + 1);
+    let decimals = after_point(rest);
+    if !is_end(b'.', rest) || !are_digits(decimals) {
+        return None;
+    }
+    if number.len() - rest.len() + decimals.len() == 0 {
+        return None;
+    }
+    Some((whole, decimals))
 }
 
 fn are_zeros(digits: &[u8]) -> bool
@@ -109,17 +133,6 @@ fn decimals_value(digits: u32, decimals: &[u8]) -> u64
     value_up_to(first, 9_999) * scale(digits - first.len() as u32)
 }
 
-// The absolute value of a number, or a number past the greatest coordinate where that is less.
-#[tactic(auto, using(crate::proofs::DecimalLaws::magnitude_cut), unfolding(crate::specs::Coordinates::magnitude, crate::specs::Coordinates::is_number))]
-fn magnitude(digits: u32, number: &[u8]) -> u64
-    requires few { digits ≤ 4 }
-    requires number { is_number number.now ≡ true }
-    ensures { min result 32768 ≡ min (magnitude digits number.now) 32768 }
-{
-    scale(digits) * value_up_to(whole_part(number), GREATEST + 1)
-        + decimals_value(digits, decimals(number))
-}
-
 // The decimals after the first so many.
 fn past(digits: u32, decimals: &[u8]) -> &[u8]
     ensures { result.now ≡ drop digits decimals.now }
@@ -129,20 +142,19 @@ fn past(digits: u32, decimals: &[u8]) -> &[u8]
 
 /// The coordinate that a field spells, in units of 10 to the power -digits, or the field's first
 /// fault. There may be any number of digits.
-#[tactic(auto, unfolding(crate::specs::Coordinates::coordinate))]
+#[tactic(auto, using(crate::proofs::DecimalLaws::magnitude_cut), unfolding(crate::specs::Coordinates::coordinate, crate::specs::Coordinates::magnitude))]
 pub fn coordinate(digits: u32, field: &[u8]) -> Result<i32, ObjFault>
     requires { digits ≤ 4 }
     ensures value { result ≡ coordinate digits field.now }
     ensures range { IfOk result (λ x. is_coordinate x ≡ true) }
 {
-    let number = without_sign(field);
-    if !is_number(number) {
+    let Some((whole, decimals)) = number_parts(without_sign(field)) else {
         return Err(ObjFault::BadNumber);
-    }
-    if !are_zeros(past(digits, decimals(number))) {
+    };
+    if !are_zeros(past(digits, decimals)) {
         return Err(ObjFault::NotWhole);
     }
-    let n = magnitude(digits, number);
+    let n = scale(digits) * whole + decimals_value(digits, decimals);
     if n > GREATEST {
         return Err(ObjFault::OutOfRange);
     }
