@@ -1,8 +1,11 @@
 -- Laws of the lines of a text. That a text has no LF in it is said as `until 10 text ≡ text`.
 use Rattle.std.proofs.Common.{◌≡◌, ℕ, zero, suc, ◌+◌, ◌<◌, ◌≤◌, Bool, true, false, ◌==◌, List, []}
-use Rattle.std.proofs.Common.{◌∷◌, ◌++◌, length, get_or, take, drop, refl, ◌∙◌, ap, arith}
+use Rattle.std.proofs.Common.{◌∷◌, ◌++◌, length, get_or, take, drop, refl, sym, ◌∙◌, ap, arith}
+use Rattle.std.proofs.Common.{◌-◌, if◌then◌else◌}
+use Rattle.std.proofs.lemmas.List.{length-take, length-take-le, take-take}
+use Rattle.std.proofs.Math.Seq.{take-length}
 use Rattle.std.proofs.lemmas.Bool.Decides.{nat_tests}
-use Rattle.obj_lines.specs.Text.{until, lines}
+use Rattle.obj_lines.specs.Text.{until, lines, ends_with, without_cr, content}
 use Rattle.pm_io.specs.Bytes.{onto}
 
 pub until_at : (stop : ℕ) (bytes : List ℕ) (i : ℕ) → i < length bytes
@@ -170,3 +173,38 @@ split_case stop x xs false is more = rw is (ap (λ (l : List ℕ). x ∷ l) more
 pub until_split : (stop : ℕ) (xs : List ℕ) → xs ≡ until stop xs ++ drop (length (until stop xs)) xs
 until_split stop [] = refl
 until_split stop (x ∷ xs) = split_case stop x xs (x == stop) refl (until_split stop xs)
+
+front_case : (stop x : ℕ) (xs : List ℕ) (b : Bool) → (x == stop) ≡ b
+    → take (length (until stop xs)) xs ≡ until stop xs
+    → take (length (until stop (x ∷ xs))) (x ∷ xs) ≡ until stop (x ∷ xs)
+front_case stop x xs true is more = rw is refl
+front_case stop x xs false is more = rw is (ap (λ (l : List ℕ). x ∷ l) more)
+
+-- What stands before a byte is a front of the text.
+until_is_front : (stop : ℕ) (xs : List ℕ) → take (length (until stop xs)) xs ≡ until stop xs
+until_is_front stop [] = refl
+until_is_front stop (x ∷ xs) = front_case stop x xs (x == stop) refl (until_is_front stop xs)
+
+cr_case : (n : ℕ) (xs : List ℕ) (b : Bool) → n ≤ length xs
+    → take (length (if b then take n xs else xs)) xs ≡ (if b then take n xs else xs)
+cr_case n xs true le = ap (λ (k : ℕ). take k xs) (length-take-le n xs le)
+cr_case n xs false le = take-length xs
+
+front_of : (front middle whole : List ℕ) → take (length front) middle ≡ front
+    → take (length middle) whole ≡ middle → take (length front) whole ≡ front
+front_of front middle whole first second =
+    let le : length front ≤ length middle =
+    omega (arith, ap length first, length-take (length front) middle) in
+    sym (take-take (length front) (length middle) whole le)
+    ∙ ap (take (length front)) second ∙ first
+
+-- What is read of a line is a front of it.
+pub content_is_front : (text : List ℕ) → take (length (content text)) text ≡ content text
+unfolding content without_cr
+content_is_front text =
+    front_of (content text) (without_cr text) text (until_is_front 35 (without_cr text))
+    (cr_case (length text - 1) text (ends_with 13 text) (omega arith))
+
+pub content_within : (text : List ℕ) → length (content text) ≤ length text
+content_within text =
+    omega (arith, ap length (content_is_front text), length-take (length (content text)) text)

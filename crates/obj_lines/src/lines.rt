@@ -1,6 +1,7 @@
 //! The lines of a text that comes in pieces.
 ghost use Rattle.std.specs.Prelude.{◌≡◌, ◌+◌, ◌<◌, ◌≤◌, [], length, true, vec_capacity, IfOk};
 ghost use Rattle.obj_lines.specs.declared.limits.TheConstants.{MOST_TEXT_BYTES};
+ghost use Rattle.obj_lines.specs.Text.{content};
 ghost use Rattle.obj_lines.specs.Feeding.{begun, is_going, is_line, opened, open_line, last_line};
 ghost use Rattle.obj_lines.specs.Feeding.{line_state, end_state, fed, fed_state, fed_used};
 ghost use Rattle.obj_lines.specs.Feeding.{finished, number};
@@ -20,16 +21,20 @@ use std::marker::Model;
 #[derive(Drop)]
 pub struct Lines {
     text: Vec<u8>,
+    // How many bytes of a whole line are read.
+    read: usize,
     state: LineState,
     whole: u32,
     taken: u32,
 }
 
 impl Model for Lines {
-    ghost use Rattle.std.specs.Prelude.{◌+◌, ◌≤◌, if◌then◌else◌, length, vec_len, vec_capacity};
+    ghost use Rattle.std.specs.Prelude.{◌≡◌, ◌+◌, ◌≤◌, if◌then◌else◌, true, length, vec_len};
+    ghost use Rattle.std.specs.Prelude.{vec_capacity};
     ghost use Rattle.obj_lines.specs.declared.limits.TheConstants.{MOST_LINE_BYTES};
     ghost use Rattle.obj_lines.specs.declared.limits.TheConstants.{MOST_TEXT_BYTES};
-    ghost use Rattle.obj_lines.specs.Feeding.{Feeding, is_open};
+    ghost use Rattle.obj_lines.specs.Text.{content};
+    ghost use Rattle.obj_lines.specs.Feeding.{Feeding, is_line, is_open};
 
     ghost Value = { Feeding };
 
@@ -43,7 +48,8 @@ impl Model for Lines {
     ghost invariant = { λ s. (vec_len s.text ≤ MOST_LINE_BYTES)
         × (MOST_LINE_BYTES ≤ vec_capacity s.text)
         × (s.whole + (if is_open s.state s.text.items then 1 else 0) ≤ s.taken)
-        × (s.taken ≤ MOST_TEXT_BYTES) };
+        × (s.taken ≤ MOST_TEXT_BYTES)
+        × (is_line s.state ≡ true → s.read ≡ length (content s.text.items)) };
 }
 
 // Drops a line that is whole: the next one begins.
@@ -57,15 +63,18 @@ fn begin(text: &mut Vec<u8>, state: LineState)
     }
 }
 
-// What a whole line is.
-fn line_state(text: &[u8]) -> LineState
-    ensures { result ≡ line_state text.now }
+// How many bytes of a whole line are read, and what it is.
+fn line_end(text: &[u8]) -> (usize, LineState)
+    ensures read { result.0 ≡ length (content text.now) }
+    ensures state { result.1 ≡ line_state text.now }
 {
-    if is_continued(content_of(text)) {
+    let content = content_of(text);
+    let state = if is_continued(content) {
         LineState::Continued
     } else {
         LineState::Whole
-    }
+    };
+    (content.len(), state)
 }
 
 impl Lines {
@@ -75,6 +84,7 @@ impl Lines {
     {
         Ok(Lines {
             text: Vec::with_capacity(alloc, MOST_LINE_BYTES)?,
+            read: 0,
             state: LineState::Partial,
             whole: 0,
             taken: 0,
@@ -108,7 +118,7 @@ impl Lines {
         let _ = self.text.extend_from_slice(front);
         if front.len() < piece.len() {
             let used = front.len() + 1;
-            self.state = line_state(&self.text);
+            (self.read, self.state) = line_end(&self.text);
             self.whole += 1;
             self.taken += used as u32;
             return Fed {
@@ -136,7 +146,7 @@ impl Lines {
         if self.text.is_empty() {
             self.state = LineState::Partial;
         } else {
-            self.state = line_state(&self.text);
+            (self.read, self.state) = line_end(&self.text);
             self.whole += 1;
         }
         self.state
@@ -152,11 +162,12 @@ impl Lines {
 
     /// What is read of the last whole line: not its LF, nor one CR at its end, nor a comment. The
     /// last answer was `Whole` or `Continued`.
+    #[tactic(auto, using(crate::proofs::TextLaws::content_within, crate::proofs::TextLaws::content_is_front))]
     pub fn line(&self) -> &[u8]
         requires { is_line self.now.state ≡ true }
         ensures { result.now ≡ last_line self.now }
     {
-        content_of(&self.text)
+        &self.text[..self.read]
     }
 
     /// The number, from 1, of the last whole line, or of the open line where bytes follow the last
