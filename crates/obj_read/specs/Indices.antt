@@ -1,6 +1,6 @@
 -- The index of a vertex in a field of a line. Byte 47 is `/`.
-use Rattle.std.specs.Prelude.{ℕ, ◌-◌, List, Bool, not, ◌==◌, ◌&&◌, ◌||◌, nat_lt, length, drop, Result, Ok}
-use Rattle.std.specs.Prelude.{Err, if◌then◌else◌}
+use Rattle.std.specs.Prelude.{ℕ, ◌-◌, List, Bool, not, ◌==◌, ◌&&◌, ◌||◌, nat_lt, length, drop}
+use Rattle.std.specs.Prelude.{Result, Ok, Err, if◌then◌else◌}
 use Rattle.pm_io.specs.Digits.{are_digits, value}
 use Rattle.obj_lines.specs.Text.{until}
 use Rattle.obj_read.specs.declared.fault.ObjFault.{ObjFault}
