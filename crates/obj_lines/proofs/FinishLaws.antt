@@ -75,7 +75,7 @@ ended_err all now left s line fails.Read stands end is = absurd is
 ended_err all now left s line fails.OutOfMemory stands end is = tt
 ended_err None now left s line (fails.Fault e) stands end is = tt
 ended_err (Some bytes) now left s line (fails.Fault e) stands end is =
-    subst (IsRefusal e) (sym (rest_is (Some bytes) now s line stands end)) is
+    subst (IsRefusal e.fault e.line) (sym (rest_is (Some bytes) now s line stands end)) is
 
 -- No line is open.
 pub last_none : {H F : Type 0} (r : Rules H F) (s : SoFar H) (line : List ℕ) (state : LineState)
@@ -133,7 +133,8 @@ pub last_err : {H F : Type 0} (r : Rules H F) (h : H) (p : Progress) (f f' : Fee
 last_err r h p f f' state fails.Read ready at which fs fault = absurd fault
 last_err r h p f f' state fails.OutOfMemory ready at which fs fault = tt
 last_err r h p f f' state (fails.Fault e) ready at which fs found =
-    subst (IsRefusal e) (sym (last_judged r h p f f' state (Err e) ready at which fs found)) refl
+    subst (IsRefusal e.fault e.line)
+    (sym (last_judged r h p f f' state (Err e) ready at which fs found)) (refl, refl)
 
 -- What a failure says, of a meaning that is the same.
 pub refused_same : {T F : Type 0} (fail : TextFail F) (a b : Result T (Refused F)) → a ≡ b

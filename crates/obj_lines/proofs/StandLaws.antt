@@ -110,14 +110,14 @@ stands_whole {H} {F} {r} {h} whole left piece n s line text new stands clean is 
 pub explains_fault : {H F : Type 0} {r : Rules H F} {h : H} (whole left : Option (List ℕ))
     (piece : List ℕ) (s : SoFar H) (line : List ℕ) (e : LineFault F)
     → StandsAt r h whole (prepend_known piece left) s line
-    → ((rest : List ℕ) → IsRefusal e (reading r s (lines (line ++ (piece ++ rest)))))
-    → IfSome whole (λ bytes. IsRefusal e (text_read r h bytes))
+    → ((rest : List ℕ) → IsRefusal e.fault e.line (reading r s (lines (line ++ (piece ++ rest)))))
+    → IfSome whole (λ bytes. IsRefusal e.fault e.line (text_read r h bytes))
 explains_fault None left piece s line e stands refused = tt
 explains_fault (Some bytes) None piece s line e stands refused = let same = stands.same in cc
 explains_fault {H} {F} {r} {h} (Some bytes) (Some rest) piece s line e stands refused =
     let same = stands.same in
     let is : text_read r h bytes ≡ reading r s (lines (line ++ (piece ++ rest))) = cc in
-    subst (IsRefusal e) (sym is) (refused rest)
+    subst (IsRefusal e.fault e.line) (sym is) (refused rest)
 
 -- A reading that fails where the window is empty.
 pub explains_read : {H F : Type 0} {r : Rules H F} {h : H} (whole left : Option (List ℕ))

@@ -39,7 +39,7 @@ pub past : {H F : Type 0} {r : Rules H F} {h : H} (all before left : Option (Lis
     → before ≡ prepend_known piece left → until 10 line ≡ line → length line ≤ 65536
     → s.bytes + length line ≡ 1073741824 → 0 < length piece → fault ≡ r.too_many
     → IfSome all
-    (λ bytes. IsRefusal (record { fault = fault; line = s.number }) (text_read r h bytes))
+    (λ bytes. IsRefusal fault s.number (text_read r h bytes))
 past {H} {F} {r} {h} all before left piece s line fault stands is clean short at some named =
     explains_fault all left piece s line (record { fault = fault; line = s.number })
     (subst (λ (o : Option (List ℕ)). StandsAt r h all o s line) is stands)
@@ -53,7 +53,7 @@ pub long : {H F : Type 0} {r : Rules H F} {h : H} (all before left : Option (Lis
     → fed_state (open_line f) (take m piece) ≡ states.TooLong → until 10 (open_line f) ≡ open_line f
     → m ≤ length piece → s.bytes + length (open_line f) + m ≤ 1073741824 → fault ≡ r.too_long
     → IfSome all
-    (λ bytes. IsRefusal (record { fault = fault; line = s.number }) (text_read r h bytes))
+    (λ bytes. IsRefusal fault s.number (text_read r h bytes))
 long {H} {F} {r} {h} all before left piece m s f fault stands is state clean le within named =
     let line = open_line f in
     let p = take m piece in
@@ -74,7 +74,8 @@ long {H} {F} {r} {h} all before left piece m s f fault stands is state clean le 
     let e : LineFault F = record { fault = fault; line = s.number } in
     explains_fault all left piece s line e
     (subst (λ (o : Option (List ℕ)). StandsAt r h all o s line) is stands)
-    (λ rest. subst (λ (l : List ℕ). IsRefusal e (reading r s (lines l))) (sym (cut rest))
+    (λ rest. subst (λ (l : List ℕ). IsRefusal e.fault e.line (reading r s (lines l)))
+    (sym (cut rest))
     (rw named (refused_long r s (line ++ u) (v ++ (drop m piece ++ rest)) front
     (omega (arith, over, length-append line u))
     (omega (arith, over, within, ls, length-append u v, length-take-le m piece le)))))
@@ -241,7 +242,8 @@ line_refused {H} {F} {r} {h} all before left left' piece m n old p f f' state (f
     ∙ append_assoc text (10 ∷ []) (drop n piece ++ rest) in
     explains_fault all left piece s (open_line f) e
     (subst (λ (o : Option (List ℕ)). StandsAt r h all o s (open_line f)) is stands)
-    (λ rest. subst (λ (l : List ℕ). IsRefusal e (reading r s (lines l))) (sym (cut rest))
+    (λ rest. subst (λ (l : List ℕ). IsRefusal e.fault e.line (reading r s (lines l)))
+    (sym (cut rest))
     (refused_whole r s text (drop n piece ++ rest) e d.clean d.short
     (omega (arith, lt, d.used, d.within, at, within))
     (ap (λ (l : List ℕ). r.take p.number old l) (sym is_text) ∙ found)))

@@ -12,10 +12,10 @@ IsLineFault (fails.Fault e) found = found ≡ Err e
 IsLineFault fails.Read found = ⊥
 IsLineFault fails.OutOfMemory found = Unit {0}
 
--- The first line with a fault has this one first.
-abbrev pub IsRefusal : {T F : Type 0} → LineFault F → Result T (Refused F) → Type 0
-IsRefusal e (Ok h) = ⊥
-IsRefusal e (Err r) = r.why ≡ e
+-- The first line with a fault is this one, and it has this fault first.
+abbrev pub IsRefusal : {T F : Type 0} → F → ℕ → Result T (Refused F) → Type 0
+IsRefusal fault line (Ok h) = ⊥
+IsRefusal fault line (Err r) = (r.fault ≡ fault) × (r.line ≡ line)
 
 -- So many bytes don't reach the place of the first fault, if there is one. The end of input is not
 -- reached by bytes.
@@ -34,7 +34,7 @@ pub record FailsBefore {H F : Type 0} (r : Rules H F) (h : H) (whole left : Opti
 -- The failure is the first fault. Text that was read whole fails in no other way, but for want of
 -- memory.
 abbrev pub IsRefused : {T F : Type 0} → TextFail F → Result T (Refused F) → Type 0
-IsRefused (fails.Fault e) meaning = IsRefusal e meaning
+IsRefused (fails.Fault e) meaning = IsRefusal e.fault e.line meaning
 IsRefused fails.Read meaning = ⊥
 IsRefused fails.OutOfMemory meaning = Unit {0}
 
@@ -42,7 +42,8 @@ IsRefused fails.OutOfMemory meaning = Unit {0}
 -- says nothing.
 abbrev pub Explains : {H F : Type 0} → Rules H F → H → TextFail F → Option (List ℕ)
     → Option (List ℕ) → Type 0
-Explains r h (fails.Fault e) whole left = IfSome whole (λ bytes. IsRefusal e (text_read r h bytes))
+Explains r h (fails.Fault e) whole left =
+    IfSome whole (λ bytes. IsRefusal e.fault e.line (text_read r h bytes))
 Explains r h fails.Read whole left = FailsBefore r h whole left
 Explains r h fails.OutOfMemory whole left = Unit {0}
 

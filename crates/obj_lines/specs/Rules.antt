@@ -21,11 +21,16 @@ pub record SoFar (H : Type 0) : Type 0 where
   pub number : ℕ
   pub held : H
 
--- The fault of the first line that has one, and the number from 1 of the byte that shows it, unless
--- that is the end of input.
+-- The first line with a fault, that line's first fault, and the number from 1 of the byte that
+-- shows it, unless that is the end of input.
 pub record Refused (F : Type 0) : Type 0 where
-  pub why : LineFault F
+  pub fault : F
+  pub line : ℕ
   pub place : Option ℕ
+
+-- A line with this fault, and its place.
+abbrev pub refused_at : {F : Type 0} → LineFault F → Option ℕ → Refused F
+refused_at e place = record { fault = e.fault; line = e.line; place = place }
 
 -- The first byte too many of the text is among the bytes of a line of this length after so many
 -- bytes, up to the first too many of the line.
@@ -60,11 +65,11 @@ and_line s line h = record { bytes = s.bytes + length line; number = s.number + 
 abbrev pub then_lines : {H F : Type 0} → Result H (LineFault F) → SoFar H → List ℕ
     → (SoFar H → Result H (Refused F)) → Result H (Refused F)
 then_lines (Ok h) s line more = more (and_line s line h)
-then_lines (Err e) s line more = Err (record { why = e; place = place s.bytes line })
+then_lines (Err e) s line more = Err (refused_at e (place s.bytes line))
 
 abbrev pub at_end : {H F : Type 0} → Option (LineFault F) → H → Result H (Refused F)
 at_end None h = Ok h
-at_end (Some e) h = Err (record { why = e; place = None })
+at_end (Some e) h = Err (refused_at e None)
 
 abbrev pub reading : {H F : Type 0} → Rules H F → SoFar H → List (List ℕ) → Result H (Refused F)
 reading r s [] = at_end (r.end s.number s.held) s.held

@@ -1,9 +1,9 @@
 -- The meaning of a text in the syntax of Wavefront OBJ: its mesh, or its first line with a fault.
-use Rattle.std.specs.Prelude.{ℕ, ◌+◌, List, [], ◌∷◌, length, Option, Result, Ok, Err}
+use Rattle.std.specs.Prelude.{ℕ, ◌+◌, List, [], ◌∷◌, length, Result, Ok, Err}
 use Rattle.std.specs.Prelude.{if◌then◌else◌}
 use Rattle.pm_base.specs.Meshes.{Mesh}
 use Rattle.obj_lines.specs.Text.{until, lines, content}
-use Rattle.obj_lines.specs.Rules.{is_past, is_long, place}
+use Rattle.obj_lines.specs.Rules.{Refused as LineRefused, is_past, is_long, place}
 use Rattle.obj_read.specs.declared.fault.ObjFault.{ObjFault}
 use Rattle.obj_read.specs.declared.fault.ObjFault.TheVariants as faults
 use Rattle.obj_read.specs.declared.found.Found.{Found}
@@ -18,12 +18,9 @@ pub record SoFar : Type 0 where
   pub number : ℕ
   pub mesh : Mesh
 
--- The first line with a fault, that line's first fault, and the number from 1 of the byte that
--- shows it, unless that is the end of input.
-pub record Refused : Type 0 where
-  pub fault : ObjFault
-  pub line : ℕ
-  pub place : Option ℕ
+-- The first line with a fault, and its place.
+abbrev pub Refused : Type 0
+Refused = LineRefused ObjFault
 
 -- A line judged alone, given how many decimals a coordinate has, and how many bytes, vertices and
 -- faces stand before it.

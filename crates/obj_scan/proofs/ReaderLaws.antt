@@ -1,16 +1,16 @@
 -- What a text means is what its lines give by the rules.
 use Rattle.std.proofs.Common.{◌≡◌, ℕ, Bool, true, false, ◌==◌, List, [], ◌∷◌, ◌++◌, length, nat_lt}
 use Rattle.std.proofs.Common.{Option, Some, None, Result, Ok, Err, IfSome, refl, sym, ◌∙◌, ap}
-use Rattle.std.proofs.Common.{subst, arith}
+use Rattle.std.proofs.Common.{arith}
 use Rattle.std.proofs.lemmas.List.Elements.{All-nil}
 use Rattle.pm_ears.specs.Recutting.{IsPolygonWithin}
 use Rattle.obj_prepare.specs.Named.{AreVerticesBelow}
 use Rattle.obj_lines.specs.declared.fault.LineFault.{LineFault}
 use Rattle.obj_lines.specs.Text.{until, lines, is_continued}
-use Rattle.obj_lines.specs.Rules.{SoFar, Refused as LinesRefused, is_past, is_long, judged}
+use Rattle.obj_lines.specs.Rules.{SoFar, is_past, is_long, judged}
 use Rattle.obj_lines.specs.Rules.{reading, text_read}
-use Rattle.obj_lines.specs.Fails.{IsRefusal as IsLinesRefusal, FailsBefore}
-use Rattle.obj_lines.specs.Fails.{FaultNotReached as LinesFaultNotReached}
+use Rattle.obj_lines.specs.Fails.{IsRefusal, FailsBefore}
+use Rattle.obj_lines.proofs.ToldLaws.{told, told_ok, told_fault, told_before}
 use Rattle.obj_read.specs.declared.fault.ObjFault.{ObjFault}
 use Rattle.obj_scan.specs.declared.fault.ScanFault.{ScanFault}
 use Rattle.obj_scan.specs.Forms.{line_content, form_fault}
@@ -20,7 +20,6 @@ use Rattle.obj_scan.specs.Meaning.{judged_length, line_judged, scan_meaning_from
 use Rattle.obj_scan.specs.Meaning.{scan_meaning_of}
 use Rattle.obj_scan.specs.Reading.{HeldLines, nothing_held, scanned_after, taken, line_taken}
 use Rattle.obj_scan.specs.Reading.{scan_rules, IsReadyToScan}
-use Rattle.obj_scan.specs.Refusals.{Refused, IsRefusal, FaultNotReached}
 use Rattle.obj_scan.specs.Fails.{ScanFailsBefore}
 
 abbrev so_far : ScannedSoFar → SoFar HeldLines
@@ -30,9 +29,8 @@ so_far s = record {
   held = record { continued = s.continued; begun = s.begun; scanned = s.scanned };
 }
 
-abbrev meaning : Result HeldLines (LinesRefused ScanFault) → Result Scanned Refused
-meaning (Ok h) = Ok h.scanned
-meaning (Err r) = Err (record { fault = r.why.fault; line = r.why.line; place = r.place })
+abbrev lines_scanned : HeldLines → Scanned
+lines_scanned h = h.scanned
 
 -- What follows from a line by the rules is what its meaning says, as the lines after it are.
 line_same : (s : ScannedSoFar) (line : List ℕ) (more : List (List ℕ)) (past long joined ends : Bool)
@@ -43,8 +41,10 @@ line_same : (s : ScannedSoFar) (line : List ℕ) (more : List (List ℕ)) (past 
     → is_continued (line_content s.number (until 10 line)) ≡ ends
     → scanned_line (length s.scanned.points) (length s.scanned.faces)
     (s.begun ++ line_content s.number (until 10 line)) ≡ found
-    → ((t : ScannedSoFar) → scan_meaning_from t more ≡ meaning (reading scan_rules (so_far t) more))
-    → scan_meaning_from s (line ∷ more) ≡ meaning (reading scan_rules (so_far s) (line ∷ more))
+    → ((t : ScannedSoFar)
+    → scan_meaning_from t more ≡ told lines_scanned (reading scan_rules (so_far t) more))
+    → scan_meaning_from s (line ∷ more)
+    ≡ told lines_scanned (reading scan_rules (so_far s) (line ∷ more))
 unfolding judged_length line_judged joined_text and_continued and_scanned_line taken scanned_after
     line_taken judged
 line_same s line more true long joined ends form found p l f j e is each = rw p refl
@@ -60,22 +60,22 @@ line_same s line more false false false false None (Err x) p l f j e is each =
     rw (p, l, f, j, e, is) refl
 
 end_same : (s : ScannedSoFar) (ended : Bool) → (s.continued == 0) ≡ ended
-    → scan_meaning_from s [] ≡ meaning (reading scan_rules (so_far s) [])
+    → scan_meaning_from s [] ≡ told lines_scanned (reading scan_rules (so_far s) [])
 end_same s true is = rw is refl
 end_same s false is = rw is refl
 
 lines_same : (s : ScannedSoFar) (ls : List (List ℕ))
-    → scan_meaning_from s ls ≡ meaning (reading scan_rules (so_far s) ls)
+    → scan_meaning_from s ls ≡ told lines_scanned (reading scan_rules (so_far s) ls)
 lines_same s [] = end_same s (s.continued == 0) refl
 lines_same s (line ∷ more) =
     line_same s line more _ _ _ _ _ _ refl refl refl refl refl refl (λ t. lines_same t more)
 
 text_same : (bytes : List ℕ) (start : HeldLines) → start ≡ nothing_held
-    → scan_meaning_of bytes ≡ meaning (text_read scan_rules start bytes)
+    → scan_meaning_of bytes ≡ told lines_scanned (text_read scan_rules start bytes)
 unfolding scan_meaning_of text_read
 text_same bytes start is =
     lines_same nothing_scanned (lines bytes)
-    ∙ ap (λ (h : HeldLines). meaning (text_read scan_rules h bytes)) (sym is)
+    ∙ ap (λ (h : HeldLines). told lines_scanned (text_read scan_rules h bytes)) (sym is)
 
 -- Before the first line.
 pub start_ready : (h : HeldLines) → h ≡ nothing_held → IsReadyToScan h 1
@@ -98,41 +98,23 @@ start_ready h is =
 pub scan_ok : (all : Option (List ℕ)) (start end : HeldLines) → start ≡ nothing_held
     → IfSome all (λ bytes. text_read scan_rules start bytes ≡ Ok end)
     → IfSome all (λ bytes. scan_meaning_of bytes ≡ Ok end.scanned)
-scan_ok None start end is read = tt
-scan_ok (Some bytes) start end is read = text_same bytes start is ∙ ap meaning read
-
-refusal_same : (e : LineFault ScanFault) (r : Result HeldLines (LinesRefused ScanFault))
-    → IsLinesRefusal e r → IsRefusal e.fault e.line (meaning r)
-refusal_same e (Ok h) is = absurd is
-refusal_same e (Err r) is =
-    (ap (λ (x : LineFault ScanFault). x.fault) is, ap (λ (x : LineFault ScanFault). x.line) is)
+scan_ok all start end is =
+    told_ok lines_scanned (text_read scan_rules start) scan_meaning_of all end
+    (λ bytes. text_same bytes start is)
 
 pub scan_fault : (all : Option (List ℕ)) (start : HeldLines) (e : LineFault ScanFault)
     → start ≡ nothing_held
-    → IfSome all (λ bytes. IsLinesRefusal e (text_read scan_rules start bytes))
+    → IfSome all (λ bytes. IsRefusal e.fault e.line (text_read scan_rules start bytes))
     → IfSome all (λ bytes. IsRefusal e.fault e.line (scan_meaning_of bytes))
-scan_fault None start e is refused = tt
-scan_fault (Some bytes) start e is refused =
-    subst (IsRefusal e.fault e.line) (sym (text_same bytes start is))
-    (refusal_same e (text_read scan_rules start bytes) refused)
-
-place_same : (n : ℕ) (r : Result HeldLines (LinesRefused ScanFault)) → LinesFaultNotReached n r
-    → FaultNotReached n (meaning r)
-place_same n (Ok h) is = tt
-place_same n (Err r) is = is
-
-before_same : (all : Option (List ℕ)) (start : HeldLines) (n : ℕ) → start ≡ nothing_held
-    → IfSome all (λ bytes. LinesFaultNotReached n (text_read scan_rules start bytes))
-    → IfSome all (λ bytes. FaultNotReached n (scan_meaning_of bytes))
-before_same None start n is before = tt
-before_same (Some bytes) start n is before =
-    subst (FaultNotReached n) (sym (text_same bytes start is))
-    (place_same n (text_read scan_rules start bytes) before)
+scan_fault all start e is =
+    told_fault lines_scanned (text_read scan_rules start) scan_meaning_of all e.fault e.line
+    (λ bytes. text_same bytes start is)
 
 pub scan_failed : (all left : Option (List ℕ)) (start : HeldLines) → start ≡ nothing_held
     → FailsBefore scan_rules start all left → ScanFailsBefore all left
 scan_failed all left start is fails = record {
   taken = fails.taken;
   took = fails.took;
-  before = before_same all start (length fails.taken) is fails.before;
+  before = told_before lines_scanned (text_read scan_rules start) scan_meaning_of all
+      (length fails.taken) (λ bytes. text_same bytes start is) fails.before;
 }

@@ -1,7 +1,9 @@
 -- The first line with a fault, and what a failure says of it.
-use Rattle.std.specs.Prelude.{ℕ, ◌<◌, ◌≡◌, Option, IfSome, Result, Ok, Err}
+use Rattle.std.specs.Prelude.{ℕ, Result, Ok, Err}
 use Rattle.obj_lines.specs.declared.fault.TextFail.{TextFail}
 use Rattle.obj_lines.specs.declared.fault.TextFail.TheVariants as text_fails
+use Rattle.obj_lines.specs.Rules.{Refused as LineRefused}
+pub use Rattle.obj_lines.specs.Fails.{IsRefusal, FaultNotReached}
 use Rattle.obj_read.specs.declared.fault.ObjFail.{ObjFail}
 use Rattle.obj_read.specs.declared.fault.ObjFail.TheVariants as line_fails
 use Rattle.obj_read.specs.Numbers.{fault_number as line_fault_number}
@@ -22,24 +24,9 @@ of_line (line_fails.Fault fault line) = text_fails.Fault
 of_line line_fails.Read = text_fails.Read
 of_line line_fails.OutOfMemory = text_fails.OutOfMemory
 
--- The first line with a fault, that line's first fault, and the number from 1 of the byte that
--- shows it, unless that is
--- the end of input.
-pub record Refused : Type 0 where
-  pub fault : ScanFault
-  pub line : ℕ
-  pub place : Option ℕ
-
--- The first line with a fault is this one, and it has this fault first.
-abbrev pub IsRefusal : {T : Type 0} → ScanFault → ℕ → Result T Refused → Type 0
-IsRefusal fault line (Ok m) = ⊥
-IsRefusal fault line (Err r) = (r.fault ≡ fault) × (r.line ≡ line)
-
--- So many bytes don't reach the place of the first fault, if there is one. The end of input is not
--- reached by bytes.
-abbrev pub FaultNotReached : {T : Type 0} → ℕ → Result T Refused → Type 0
-FaultNotReached taken (Ok m) = Unit {0}
-FaultNotReached taken (Err r) = IfSome r.place (λ place. taken < place)
+-- The first line with a fault, and its place.
+abbrev pub Refused : Type 0
+Refused = LineRefused ScanFault
 
 -- What an answer says of the source alone: it failed exactly where the answer is Read.
 abbrev pub of_source : {T : Type 0} → Result T ScanFail → Result (Unit {0}) (Unit {0})
