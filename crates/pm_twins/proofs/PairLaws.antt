@@ -1,10 +1,10 @@
 -- The sides that arrive at one vertex are paired one by one, and in the end all are.
-use Rattle.std.proofs.Common.{◌≡◌, ◌≢◌, ℕ, ◌+◌, ◌-◌, ◌<◌, ◌≤◌, eqb, true, Option, Some, None, List}
-use Rattle.std.proofs.Common.{[], ◌∷◌, length, slice_index_or, ◌⊎◌, inl, inr, sym, ap, ◌∙◌, subst}
+use Rattle.std.proofs.Common.{◌≡◌, ◌≢◌, ℕ, ◌+◌, ◌<◌, ◌≤◌, eqb, true, Option, Some, None, List}
+use Rattle.std.proofs.Common.{[], ◌∷◌, length, drop, slice_index_or, ◌⊎◌, inl, inr, sym, ap, ◌∙◌, subst}
 use Rattle.std.proofs.Common.{arith}
 use Rattle.std.proofs.Math.ListN.{set}
 use Rattle.std.proofs.lemmas.Bool.{cases_eq, eqb-true, or_cases, false≢true}
-use Rattle.std.proofs.lemmas.List.{get_or-set_same, get_or-set_other, length-set}
+use Rattle.std.proofs.lemmas.List.{get_or-set_same, get_or-set_other, length-set, drop_all}
 use Rattle.std.specs.Option.{IfSome, option_map}
 use Rattle.pm_base.specs.declared.ids.Side.{Side}
 use Rattle.pm_base.specs.Sides.{Net, side_count, next, prev, to, NoSideTwice, twin_of}
@@ -14,11 +14,11 @@ use Rattle.pm_base.proofs.TwinLaws.{twin-is, twin-one}
 use Rattle.pm_links.specs.Lists.{has}
 use Rattle.pm_links.proofs.Members.{has_head, has_tail}
 use Rattle.pm_twins.specs.Table.{AreTwinsOf}
-use Rattle.pm_twins.specs.SideRows.{IsWhole, row, start_at, row_at, AreRows}
+use Rattle.pm_twins.specs.SideRows.{IsWhole, Rows, row_at, AreRows}
 use Rattle.pm_twins.specs.declared.stamps.Stamp.{Stamp}
 use Rattle.pm_twins.specs.Stamping.{stamped, AreAllStamped, IsSideBetween, ArePaired}
 use Rattle.pm_twins.proofs.Whole.{to_within}
-use Rattle.pm_twins.proofs.RowLaws.{row_next, row_ends}
+use Rattle.pm_twins.proofs.RowLaws.{left_next}
 
 -- Where all sides that leave v are stamped, a look at the stamps finds the one that runs to q.
 found : (m : Net) (v q : ℕ) (stamps : List Stamp) (r : Option Side) → AreAllStamped m v stamps
@@ -45,34 +45,39 @@ pub record IsPairing (m : Net) (v : ℕ) (left : List ℕ) (twins : List (Option
   pub before : (e : ℕ) → e < side_count m → to m e < v
       → IsSideBetween m (to m e) (m.from e) (slice_index_or twins e None)
 
-pub pairing_begins : (m : Net) (n v : ℕ) (starts sides : List ℕ) (twins : List (Option ℕ))
-    → AreRows m n starts sides → v < n → ArePaired m v twins
-    → IsPairing m v (row_at starts sides v) twins
-pairing_begins m n v starts sides twins rows low paired = record {
-  leave = λ e h. (rows.each v e low).0 h;
+pub pairing_begins : (m : Net) (n v : ℕ) (rows : Rows) (twins : List (Option ℕ)) → AreRows m n rows
+    → v < n → ArePaired m v twins → IsPairing m v (row_at rows v) twins
+pairing_begins m n v rows twins are low paired = record {
+  leave = λ e h. (are.each v e low).0 h;
   sides = paired.sides;
-  passed = λ g l at. inl ((rows.each v g low).1 (l, at));
+  passed = λ g l at. inl ((are.each v g low).1 (l, at));
   before = paired.each;
 }
 
-pub pairing_side : (m : Net) (v i end x : ℕ) (sides : List ℕ) (twins : List (Option ℕ)) → i < end
-    → x ≡ start_at sides i → IsPairing m v (row sides i (end - i)) twins →
-    IsPairing m v (x ∷ row sides (i + 1) (end - (i + 1))) twins
-pairing_side m v i end x sides twins l is h =
-    subst (λ (left : List ℕ). IsPairing m v left twins) (row_next sides i end l
-    ∙ ap (λ (k : ℕ). k ∷ row sides (i + 1) (end - (i + 1))) (sym is)) h
+-- The next side of a row.
+pairing_next : (row : List ℕ) {m : Net} {v i : ℕ} {twins : List (Option ℕ)} → i < length row
+    → IsPairing m v (drop i row) twins
+    → IsPairing m v (slice_index_or row i 0 ∷ drop (i + 1) row) twins
+pairing_next row {m} {v} {i} {twins} l h =
+    subst (λ (left : List ℕ). IsPairing m v left twins) (left_next row i l) h
 
-pub pairing_ends : (m : Net) (v i end : ℕ) (sides : List ℕ) (twins : List (Option ℕ)) → end ≤ i
-    → IsPairing m v (row sides i (end - i)) twins → IsPairing m v [] twins
-pairing_ends m v i end sides twins l h =
-    subst (λ (left : List ℕ). IsPairing m v left twins) (row_ends sides i end l) h
+pub pairing_low : (row : List ℕ) {m : Net} {v i : ℕ} {twins : List (Option ℕ)} → i < length row
+    → IsPairing m v (drop i row) twins → slice_index_or row i 0 < side_count m
+pairing_low row {m} {v} {i} l h =
+    ((pairing_next row l h).leave (slice_index_or row i 0)
+    (has_head (slice_index_or row i 0) (drop (i + 1) row))).0
+
+pub pairing_ends : (row : List ℕ) {m : Net} {v i : ℕ} {twins : List (Option ℕ)} → length row ≤ i
+    → IsPairing m v (drop i row) twins → IsPairing m v [] twins
+pairing_ends row {m} {v} {i} {twins} l h =
+    subst (λ (left : List ℕ). IsPairing m v left twins) (drop_all i row l) h
 
 prev-lt : (m : Net) (e : ℕ) → e < side_count m → prev e < side_count m
 prev-lt m e l = next-lt m.faces (next e) (next-lt m.faces e l)
 
-pub pairing_prev : (m : Net) (v x : ℕ) (left : List ℕ) (twins : List (Option ℕ))
-    → IsPairing m v (x ∷ left) twins → prev x < side_count m
-pairing_prev m v x left twins i = prev-lt m x (i.leave x (has_head x left)).0
+pub pairing_prev : (row : List ℕ) {m : Net} {v i : ℕ} {twins : List (Option ℕ)} → i < length row
+    → IsPairing m v (drop i row) twins → prev (slice_index_or row i 0) < side_count m
+pairing_prev row {m} {v} {i} l h = prev-lt m (slice_index_or row i 0) (pairing_low row l h)
 
 -- One more side is paired.
 module _ (m : Net) (v x p : ℕ) (left : List ℕ) (stamps : List Stamp) (twins : List (Option ℕ))
@@ -99,8 +104,8 @@ module _ (m : Net) (v x p : ℕ) (left : List ℕ) (stamps : List Stamp) (twins 
       → slice_index_or twins u None ≡ slice_index_or (set twins p twin) u None
   other_slot u ne = sym (get_or-set_other twins p u twin None ne)
 
-  pub pairing_more : IsPairing m v left (set twins p twin)
-  pairing_more = record {
+  one_paired : IsPairing m v left (set twins p twin)
+  one_paired = record {
     leave = λ e h. i.leave e (has_tail x left e h);
     sides = length-set twins p twin ∙ i.sides;
     passed = λ g l from. elim (i.passed g l from) [
@@ -125,6 +130,15 @@ module _ (m : Net) (v x p : ℕ) (left : List ℕ) (stamps : List Stamp) (twins 
         omega (arith, ends, low)) in
         subst (IsSideBetween m (to m e) (m.from e)) (other_slot e ne) (i.before e l low);
   }
+
+pub pairing_more : (row : List ℕ) (stamps : List Stamp) {m : Net} {v i p : ℕ}
+    {twins : List (Option ℕ)} {r : Option Side} → i < length row
+    → IsPairing m v (drop i row) twins → AreAllStamped m v stamps
+    → p ≡ prev (slice_index_or row i 0) → r ≡ stamped stamps v (m.from p)
+    → IsPairing m v (drop (i + 1) row) (set twins p (option_map (λ s. s.0) r))
+pairing_more row stamps {m} {v} {i} {p} {twins} {r} l h all is looked =
+    one_paired m v (slice_index_or row i 0) p (drop (i + 1) row) stamps twins r (pairing_next row l h)
+    all is looked
 
 -- All that arrive are paired.
 pub paired_more : (m : Net) (v : ℕ) (twins : List (Option ℕ)) → IsPairing m v [] twins

@@ -1,12 +1,12 @@
 -- The sides that leave one vertex are stamped one by one.
-use Rattle.std.proofs.Common.{◌≡◌, ◌≢◌, ℕ, ◌+◌, ◌-◌, ◌<◌, ◌≤◌, eqb, min, max, true, false, Option}
-use Rattle.std.proofs.Common.{Some, None, List, [], ◌∷◌, length, slice_index_or, ◌⊎◌, inl, inr}
+use Rattle.std.proofs.Common.{◌≡◌, ◌≢◌, ℕ, ◌+◌, ◌<◌, ◌≤◌, eqb, min, max, true, false, Option}
+use Rattle.std.proofs.Common.{Some, None, List, [], ◌∷◌, length, drop, slice_index_or, ◌⊎◌, inl, inr}
 use Rattle.std.proofs.Common.{refl, sym, ap, ◌∙◌, subst, arith}
 use Rattle.std.specs.Option.{IfSome, option_map}
 use Rattle.std.proofs.Math.ListN.{set}
 use Rattle.std.proofs.lemmas.Bool.{cases_eq, cases_lt, cond-true, cond-false, eqb-true, eq-eqb}
 use Rattle.std.proofs.lemmas.Bool.{ne_eqb, or_cases, or_parts, false≢true}
-use Rattle.std.proofs.lemmas.List.{get_or-set_same, get_or-set_other}
+use Rattle.std.proofs.lemmas.List.{get_or-set_same, get_or-set_other, drop_all}
 use Rattle.std.proofs.lemmas.Option.{none-some, same_Some}
 use Rattle.pm_base.specs.declared.ids.Side.{Side}
 use Rattle.pm_base.specs.Sides.{Net, side_count, to}
@@ -14,8 +14,8 @@ use Rattle.pm_links.specs.Lists.{has, IsOnce}
 use Rattle.pm_links.proofs.Members.{has_head, has_tail}
 use Rattle.pm_twins.specs.declared.stamps.Stamp.{Stamp}
 use Rattle.pm_twins.specs.declared.stamps.TheConstants.{NOWHERE}
-use Rattle.pm_twins.specs.SideRows.{row, start_at, row_at, AreRows}
-use Rattle.pm_twins.proofs.RowLaws.{row_next, row_ends}
+use Rattle.pm_twins.specs.SideRows.{Rows, row_at, AreRows}
+use Rattle.pm_twins.proofs.RowLaws.{left_next}
 use Rattle.pm_twins.specs.Stamping.{no_stamp, side_from, stamped, in_order, lesser_of}
 use Rattle.pm_twins.specs.Stamping.{NoneStampedFrom, IsSideBetween, AreAllStamped, IsRepeat, IsUpTo}
 use Rattle.pm_twins.specs.Stamping.{IsLeastRepeat}
@@ -88,34 +88,34 @@ pub record IsStamping (m : Net) (v : ℕ) (left : List ℕ) (stamps : List Stamp
   pub is_one : IfSome least (λ g. (g.0 < side_count m) × IsRepeat m g.0)
   pub below : (e : ℕ) → e < side_count m → m.from e < v → IsRepeat m e → IsUpTo least e
 
-pub stamping_begins : (m : Net) (n v : ℕ) (starts sides : List ℕ) (stamps : List Stamp)
-    (least : Option Side) → AreRows m n starts sides → v < n → v < NOWHERE
-    → NoneStampedFrom v stamps → IsLeastRepeat m v least →
-    IsStamping m v (row_at starts sides v) stamps least
-stamping_begins m n v starts sides stamps least rows low past none r = record {
-  once = rows.once v low;
-  leave = λ e h. (rows.each v e low).0 h;
+pub stamping_begins : (m : Net) (n v : ℕ) (rows : Rows) (stamps : List Stamp) (least : Option Side)
+    → AreRows m n rows → v < n → v < NOWHERE → NoneStampedFrom v stamps → IsLeastRepeat m v least
+    → IsStamping m v (row_at rows v) stamps least
+stamping_begins m n v rows stamps least are low past none r = record {
+  once = are.once v low;
+  leave = λ e h. (are.each v e low).0 h;
   each = λ w s is. absurd (none-some s (sym (none v w (omega arith) past) ∙ is));
   none = λ u w le. none u w (omega (arith, le));
-  passed = λ e l at. inl ((rows.each v e low).1 (l, at));
+  passed = λ e l at. inl ((are.each v e low).1 (l, at));
   is_one = r.is_one;
   below = r.least;
 }
 
--- The next side of the row.
-pub stamping_side : (m : Net) (v i end x : ℕ) (sides : List ℕ) (stamps : List Stamp)
-    (least : Option Side) → i < end → x ≡ start_at sides i
-    → IsStamping m v (row sides i (end - i)) stamps least →
-    IsStamping m v (x ∷ row sides (i + 1) (end - (i + 1))) stamps least
-stamping_side m v i end x sides stamps least l is h =
-    subst (λ (left : List ℕ). IsStamping m v left stamps least) (row_next sides i end l
-    ∙ ap (λ (k : ℕ). k ∷ row sides (i + 1) (end - (i + 1))) (sym is)) h
+-- The next side of a row.
+pub stamping_next : (row : List ℕ) {m : Net} {v i : ℕ} {stamps : List Stamp} {least : Option Side} → i < length row → IsStamping m v (drop i row) stamps least
+    → IsStamping m v (slice_index_or row i 0 ∷ drop (i + 1) row) stamps least
+stamping_next row {m} {v} {i} {stamps} {least} l h =
+    subst (λ (left : List ℕ). IsStamping m v left stamps least) (left_next row i l) h
 
-pub stamping_ends : (m : Net) (v i end : ℕ) (sides : List ℕ) (stamps : List Stamp)
-    (least : Option Side) → end ≤ i → IsStamping m v (row sides i (end - i)) stamps least
-    → IsStamping m v [] stamps least
-stamping_ends m v i end sides stamps least l h =
-    subst (λ (left : List ℕ). IsStamping m v left stamps least) (row_ends sides i end l) h
+pub stamping_low : (row : List ℕ) {m : Net} {v i : ℕ} {stamps : List Stamp} {least : Option Side} → i < length row → IsStamping m v (drop i row) stamps least
+    → slice_index_or row i 0 < side_count m
+stamping_low row {m} {v} {i} l h =
+    ((stamping_next row l h).leave (slice_index_or row i 0)
+    (has_head (slice_index_or row i 0) (drop (i + 1) row))).0
+
+pub stamping_ends : (row : List ℕ) {m : Net} {v i : ℕ} {stamps : List Stamp} {least : Option Side} → length row ≤ i → IsStamping m v (drop i row) stamps least → IsStamping m v [] stamps least
+stamping_ends row {m} {v} {i} {stamps} {least} l h =
+    subst (λ (left : List ℕ). IsStamping m v left stamps least) (drop_all i row l) h
 
 -- What stamping side f for side x at vertex w brings, with another least repeat.
 record Adds (m : Net) (v : ℕ) (x : Side) (w : ℕ) (f : Side) (left : List ℕ) (stamps : List Stamp)

@@ -94,8 +94,7 @@ pub(crate) fn stamp_leaving(
     repeat: Option<Side>,
 ) -> Option<Side>
     requires whole { IsWhole (net_of faces.now) (length stamps.old.items) }
-    requires rows { AreRows (net_of faces.now) (length stamps.old.items) rows.now.starts.items
-        rows.now.sides.items }
+    requires rows { AreRows (net_of faces.now) (length stamps.old.items) rows.now }
     requires in_range { vertex < length stamps.old.items }
     requires none { NoneStampedFrom vertex stamps.old.items }
     requires repeat { IsLeastRepeat (net_of faces.now) vertex repeat }
@@ -104,10 +103,10 @@ pub(crate) fn stamp_leaving(
     ensures all { AreAllStamped (net_of faces.now) vertex stamps.new.items }
     ensures repeat { IsLeastRepeat (net_of faces.now) (vertex + 1) result }
 {
-    let until = rows.starts[vertex as usize + 1];
+    let leaving = rows.row(vertex);
     let mut least = repeat;
-    for place in rows.starts[vertex as usize]..until {
-        let side = Side(rows.sides[place as usize]);
+    for number in leaving {
+        let side = Side(*number);
         let end = to(faces, side);
         let sides = in_order(stamped(stamps, vertex, end), side);
         stamps[end as usize] = Stamp {
@@ -128,16 +127,15 @@ pub(crate) fn pair_arriving(
     twins: &mut SideMap,
 )
     requires whole { IsWhole (net_of faces.now) (length stamps.now) }
-    requires rows { AreRows (net_of faces.now) (length stamps.now) rows.now.starts.items
-        rows.now.sides.items }
+    requires rows { AreRows (net_of faces.now) (length stamps.now) rows.now }
     requires in_range { vertex < length stamps.now }
     requires all { AreAllStamped (net_of faces.now) vertex stamps.now }
     requires paired { ArePaired (net_of faces.now) vertex twins.old }
     ensures paired { ArePaired (net_of faces.now) (vertex + 1) twins.new }
 {
-    let until = rows.starts[vertex as usize + 1];
-    for place in rows.starts[vertex as usize]..until {
-        let arriving = Side(rows.sides[place as usize]).prev();
+    let leaving = rows.row(vertex);
+    for number in leaving {
+        let arriving = Side(*number).prev();
         let twin = stamped(stamps, vertex, from(faces, arriving));
         twins.set(arriving, twin);
     }

@@ -110,7 +110,7 @@ fn pair_sides(
     vertices: usize,
 ) -> Result<SideMap, TwinsFail>
     requires whole { IsWhole (net_of faces.now) vertices }
-    requires rows { AreRows (net_of faces.now) vertices rows.now.starts.items rows.now.sides.items }
+    requires rows { AreRows (net_of faces.now) vertices rows.now }
     ensures twins { IfOk result (λ twins. AreTwinsOf (net_of faces.now) twins) }
     ensures once { OnOk result (NoSideTwice (net_of faces.now)) }
     ensures edge_twice { IfErr result (IsTwinsFault (net_of faces.now)) }

@@ -1,12 +1,11 @@
-use Rattle.std.proofs.Common.{◌≡◌, ◌-◌, length}
+use Rattle.std.proofs.Common.{◌≡◌, length, drop}
 use Rattle.pm_base.specs.Sides.{net_of}
-use Rattle.pm_twins.specs.SideRows.{row}
 use Rattle.pm_twins.proofs.StampLaws.{IsStamping}
 use Rattle.pm_twins.proofs.stamps.stamp_leaving.Given as goal
 
-abbrev pub invariant-loop-place : goal.invariant-loop-place
-invariant-loop-place l = record {
+abbrev pub invariant-loop-number : goal.invariant-loop-number
+invariant-loop-number l = record {
   len : length l.stamps.items ≡ length l.fn.stamps.items;
-  stamping : IsStamping (net_of l.faces) l.vertex
-      (row l.rows.sides.items l.place (l.until - l.place)) l.stamps.items l.least;
+  stamping : IsStamping (net_of l.faces) l.vertex (drop l.number-index l.leaving) l.stamps.items
+      l.least;
 }
