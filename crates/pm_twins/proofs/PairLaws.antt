@@ -15,19 +15,18 @@ use Rattle.pm_links.specs.Lists.{has}
 use Rattle.pm_links.proofs.Members.{has_head, has_tail}
 use Rattle.pm_twins.specs.Table.{AreTwinsOf}
 use Rattle.pm_twins.specs.SideRows.{IsWhole, Rows, row_at, AreRows}
-use Rattle.pm_twins.specs.declared.stamps.Stamp.{Stamp}
-use Rattle.pm_twins.specs.Stamping.{stamped, AreAllStamped, IsSideBetween, ArePaired}
+use Rattle.pm_twins.specs.Stamping.{Stamps, stamped, AreAllStamped, IsSideBetween, ArePaired}
 use Rattle.pm_twins.proofs.Whole.{to_within}
 use Rattle.pm_twins.proofs.RowLaws.{left_next}
 
 -- Where all sides that leave v are stamped, a look at the stamps finds the one that runs to q.
-found : (m : Net) (v q : ℕ) (stamps : List Stamp) (r : Option Side) → AreAllStamped m v stamps
+found : (m : Net) (v q : ℕ) (stamps : Stamps) (r : Option Side) → AreAllStamped m v stamps
     → r ≡ stamped stamps v q → IsSideBetween m v q (option_map (λ s. s.0) r)
 found m v q stamps r all is =
     subst (λ (r : Option Side). IsSideBetween m v q (option_map (λ s. s.0) r)) (sym is) (all q)
 
 -- What it finds is one of the mesh's sides.
-pub found-low : (m : Net) (v q most : ℕ) (stamps : List Stamp) (r : Option Side)
+pub found-low : (m : Net) (v q most : ℕ) (stamps : Stamps) (r : Option Side)
     → AreAllStamped m v stamps → side_count m ≤ most → r ≡ stamped stamps v q
     → IfSome r (λ s. s.0 < most)
 found-low m v q most stamps None all few is = tt
@@ -80,7 +79,7 @@ pub pairing_prev : (row : List ℕ) {m : Net} {v i : ℕ} {twins : List (Option 
 pairing_prev row {m} {v} {i} l h = prev-lt m (slice_index_or row i 0) (pairing_low row l h)
 
 -- One more side is paired.
-module _ (m : Net) (v x p : ℕ) (left : List ℕ) (stamps : List Stamp) (twins : List (Option ℕ))
+module _ (m : Net) (v x p : ℕ) (left : List ℕ) (stamps : Stamps) (twins : List (Option ℕ))
     (r : Option Side) (i : IsPairing m v (x ∷ left) twins) (all : AreAllStamped m v stamps)
     (is : p ≡ prev x) (looked : r ≡ stamped stamps v (m.from p)) where
   here_x : (x < side_count m) × (m.from x ≡ v)
@@ -131,7 +130,7 @@ module _ (m : Net) (v x p : ℕ) (left : List ℕ) (stamps : List Stamp) (twins 
         subst (IsSideBetween m (to m e) (m.from e)) (other_slot e ne) (i.before e l low);
   }
 
-pub pairing_more : (row : List ℕ) (stamps : List Stamp) {m : Net} {v i p : ℕ}
+pub pairing_more : (row : List ℕ) (stamps : Stamps) {m : Net} {v i p : ℕ}
     {twins : List (Option ℕ)} {r : Option Side} → i < length row
     → IsPairing m v (drop i row) twins → AreAllStamped m v stamps
     → p ≡ prev (slice_index_or row i 0) → r ≡ stamped stamps v (m.from p)
@@ -170,10 +169,12 @@ between_twin m vertices whole once e None none =
 between_twin m vertices whole once e (Some g) (l, from, ends) =
     sym (twin-one m once e g (record { stands = whole.stands g l; begins = from; ends = ends }))
 
-pub paired_all : (m : Net) (vertices : ℕ) (twins : List (Option ℕ)) → IsWhole m vertices
-    → NoSideTwice m → ArePaired m vertices twins → AreTwinsOf m twins
-paired_all m vertices twins whole once paired = record {
+pub paired_all : {m : Net} {vertices n : ℕ} {twins : List (Option ℕ)} → IsWhole m vertices
+    → NoSideTwice m → vertices ≤ n → ArePaired m n twins → AreTwinsOf m twins
+paired_all {m} {vertices} {n} {twins} whole once all paired = record {
   sides = paired.sides;
-  each = λ e l. between_twin m vertices whole once e (slice_index_or twins e None)
-      (paired.each e l (to_within m vertices whole e l));
+  each = λ e l.
+      let end = to_within m vertices whole e l in
+      between_twin m vertices whole once e (slice_index_or twins e None)
+      (paired.each e l (omega (arith, end, all)));
 }

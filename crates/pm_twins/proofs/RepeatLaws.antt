@@ -1,5 +1,6 @@
 -- What the least side that repeats an earlier one says of sides and faces.
-use Rattle.std.proofs.Common.{◌≡◌, ◌≢◌, ℕ, ◌<◌, Some, None, inl, inr, refl, arith}
+use Rattle.std.proofs.Common.{◌≡◌, ◌≢◌, ℕ, ◌<◌, ◌≤◌, Option, Some, None, inl, inr, refl}
+use Rattle.std.proofs.Common.{subst, arith}
 use Rattle.std.proofs.lemmas.Grind.{common_steps}
 use Rattle.std.proofs.lemmas.Bool.{cases_eq}
 use Rattle.pm_base.specs.declared.ids.Side.{Side}
@@ -14,16 +15,21 @@ module _ (m : Net) (vertices : ℕ) (whole : IsWhole m vertices) where
   one_face : (e g : ℕ) → e < side_count m → face_of e ≡ face_of g → e ≢ g → m.from e ≢ m.from g
   one_face e g l f ne is = grind (arith, common_steps, face_cases)
 
-  pub none_twice : IsLeastRepeat m vertices None → NoSideTwice m
-  none_twice none e g te tg from ends =
+  -- All vertices are gone through, and no side is a repeat.
+  pub none_twice : {n : ℕ} {repeat : Option Side} → vertices ≤ n → IsLeastRepeat m n repeat
+      → repeat ≡ None → NoSideTwice m
+  none_twice {n} {repeat} all none is e g te tg from ends =
       elim (cases_eq e g) [
         | inl same ↦ same
         | inr ne ↦ grind (arith, common_steps)
       ]
 
-  pub first_repeating : (g : Side) → IsLeastRepeat m vertices (Some g)
-      → IsFirstRepeating m (face_of g.0)
-  first_repeating g least =
+  -- Side g is the least repeat.
+  pub first_repeating : {n : ℕ} {repeat : Option Side} (g : Side) → vertices ≤ n
+      → IsLeastRepeat m n repeat → repeat ≡ Some g → IsFirstRepeating m (face_of g.0)
+  first_repeating {n} {repeat} g all known is =
+      let least : IsLeastRepeat m n (Some g) =
+      subst (λ (r : Option Side). IsLeastRepeat m n r) is known in
       let (l, (earlier, before, from, ends)) = least.is_one in
       let apart : face_of earlier ≢ face_of g.0 = grind (arith, common_steps, one_face) in
       record {
@@ -41,7 +47,8 @@ module _ (m : Net) (vertices : ℕ) (whole : IsWhole m vertices) where
             let first = r.before in
             let less : r.side < g.0 = omega (arith, of_face, low) in
             let in_range : r.side < side_count m = omega (arith, less, l) in
-            let up_to = least.least r.side in_range (whole.within r.side in_range)
+            let within = whole.within r.side in_range in
+            let up_to = least.least r.side in_range (omega (arith, within, all))
             (r.earlier, omega (arith, first, of_face), r.from, r.to) in
             omega (arith, up_to, less);
       }

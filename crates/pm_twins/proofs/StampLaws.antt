@@ -12,13 +12,12 @@ use Rattle.pm_base.specs.declared.ids.Side.{Side}
 use Rattle.pm_base.specs.Sides.{Net, side_count, to}
 use Rattle.pm_links.specs.Lists.{has, IsOnce}
 use Rattle.pm_links.proofs.Members.{has_head, has_tail}
-use Rattle.pm_twins.specs.declared.stamps.Stamp.{Stamp}
 use Rattle.pm_twins.specs.declared.stamps.TheConstants.{NOWHERE}
 use Rattle.pm_twins.specs.SideRows.{Rows, row_at, AreRows}
 use Rattle.pm_twins.proofs.RowLaws.{left_next}
 use Rattle.pm_twins.specs.Stamping.{no_stamp, side_from, stamped, in_order, lesser_of}
 use Rattle.pm_twins.specs.Stamping.{NoneStampedFrom, IsSideBetween, AreAllStamped, IsRepeat, IsUpTo}
-use Rattle.pm_twins.specs.Stamping.{IsLeastRepeat}
+use Rattle.pm_twins.specs.Stamping.{IsLeastRepeat, Stamps, with_side}
 
 -- The lesser of two sides.
 up_to_first : (a b : Option Side) (e : ℕ) → IsUpTo a e → IsUpTo (lesser_of a b) e
@@ -42,12 +41,13 @@ lesser-either P (Some a) (Some b) p q =
     ]
 
 -- The stamps with one more.
-module _ (stamps : List Stamp) (v w : ℕ) (f : Side) (low : w < length stamps) where
-  abbrev with_stamp : List Stamp
-  with_stamp = set stamps w (record { side = f; origin = v })
+module _ (stamps : Stamps) (v w : ℕ) (f : Side) (next : Option Side)
+    (low : w < length stamps.at) where
+  abbrev with_stamp : Stamps
+  with_stamp = record { at = set stamps.at w (record { side = f; origin = v }); repeat = next }
 
-  same_stamp : slice_index_or with_stamp w no_stamp ≡ record { side = f; origin = v }
-  same_stamp = get_or-set_same stamps w (record { side = f; origin = v }) no_stamp low
+  same_stamp : slice_index_or with_stamp.at w no_stamp ≡ record { side = f; origin = v }
+  same_stamp = get_or-set_same stamps.at w (record { side = f; origin = v }) no_stamp low
 
   same_slot : stamped with_stamp v w ≡ Some f
   same_slot = ap (side_from v) same_stamp ∙ cond-true (eqb v v) (Some f) None (eq-eqb v v refl)
@@ -59,7 +59,7 @@ module _ (stamps : List Stamp) (v w : ℕ) (f : Side) (low : w < length stamps) 
 
   other_slot : (u x : ℕ) → x ≢ w → stamped with_stamp u x ≡ stamped stamps u x
   other_slot u x ne =
-      ap (side_from u) (get_or-set_other stamps w x (record { side = f; origin = v }) no_stamp ne)
+      ap (side_from u) (get_or-set_other stamps.at w x (record { side = f; origin = v }) no_stamp ne)
 
   none_later : (n : ℕ) → v < n → NoneStampedFrom n stamps → NoneStampedFrom n with_stamp
   none_later n lt none u x le past =
@@ -71,27 +71,26 @@ module _ (stamps : List Stamp) (v w : ℕ) (f : Side) (low : w < length stamps) 
 
 -- For side e from v a side with the same vertices is stamped that isn't later, and that is e itself
 -- unless a repeat up to e is known.
-abbrev pub IsStamped : Net → ℕ → List Stamp → Option Side → ℕ → Type 0
-IsStamped m v stamps least e =
-    (s : Side) × (stamped stamps v (to m e) ≡ Some s) × (s.0 ≤ e) × ((s.0 ≡ e) ⊎ IsUpTo least e)
+abbrev pub IsStamped : Net → ℕ → Stamps → ℕ → Type 0
+IsStamped m v stamps e =
+    (s : Side) × (stamped stamps v (to m e) ≡ Some s) × (s.0 ≤ e) × ((s.0 ≡ e) ⊎ IsUpTo stamps.repeat e)
 
 -- Of the sides that leave v these are still to be stamped.
-pub record IsStamping (m : Net) (v : ℕ) (left : List ℕ) (stamps : List Stamp)
-    (least : Option Side) : Type 0 where
+pub record IsStamping (m : Net) (v : ℕ) (left : List ℕ) (stamps : Stamps) : Type 0 where
   pub once : IsOnce left
   pub leave : (e : ℕ) → has left e ≡ true → (e < side_count m) × (m.from e ≡ v)
   pub each : (w : ℕ) (s : Side) → stamped stamps v w ≡ Some s
       → (s.0 < side_count m) × (m.from s.0 ≡ v) × (to m s.0 ≡ w) × (has left s.0 ≡ false)
   pub none : NoneStampedFrom (v + 1) stamps
   pub passed : (e : ℕ) → e < side_count m → m.from e ≡ v
-      → (has left e ≡ true) ⊎ IsStamped m v stamps least e
-  pub is_one : IfSome least (λ g. (g.0 < side_count m) × IsRepeat m g.0)
-  pub below : (e : ℕ) → e < side_count m → m.from e < v → IsRepeat m e → IsUpTo least e
+      → (has left e ≡ true) ⊎ IsStamped m v stamps e
+  pub is_one : IfSome stamps.repeat (λ g. (g.0 < side_count m) × IsRepeat m g.0)
+  pub below : (e : ℕ) → e < side_count m → m.from e < v → IsRepeat m e → IsUpTo stamps.repeat e
 
-pub stamping_begins : (m : Net) (n v : ℕ) (rows : Rows) (stamps : List Stamp) (least : Option Side)
-    → AreRows m n rows → v < n → v < NOWHERE → NoneStampedFrom v stamps → IsLeastRepeat m v least
-    → IsStamping m v (row_at rows v) stamps least
-stamping_begins m n v rows stamps least are low past none r = record {
+pub stamping_begins : (m : Net) (n v : ℕ) (rows : Rows) (stamps : Stamps)
+    → AreRows m n rows → v < n → v < NOWHERE → NoneStampedFrom v stamps → IsLeastRepeat m v stamps.repeat
+    → IsStamping m v (row_at rows v) stamps
+stamping_begins m n v rows stamps are low past none r = record {
   once = are.once v low;
   leave = λ e h. (are.each v e low).0 h;
   each = λ w s is. absurd (none-some s (sym (none v w (omega arith) past) ∙ is));
@@ -102,42 +101,41 @@ stamping_begins m n v rows stamps least are low past none r = record {
 }
 
 -- The next side of a row.
-pub stamping_next : (row : List ℕ) {m : Net} {v i : ℕ} {stamps : List Stamp} {least : Option Side} → i < length row → IsStamping m v (drop i row) stamps least
-    → IsStamping m v (slice_index_or row i 0 ∷ drop (i + 1) row) stamps least
-stamping_next row {m} {v} {i} {stamps} {least} l h =
-    subst (λ (left : List ℕ). IsStamping m v left stamps least) (left_next row i l) h
+pub stamping_next : (row : List ℕ) {m : Net} {v i : ℕ} {stamps : Stamps} → i < length row → IsStamping m v (drop i row) stamps
+    → IsStamping m v (slice_index_or row i 0 ∷ drop (i + 1) row) stamps
+stamping_next row {m} {v} {i} {stamps} l h =
+    subst (λ (left : List ℕ). IsStamping m v left stamps) (left_next row i l) h
 
-pub stamping_low : (row : List ℕ) {m : Net} {v i : ℕ} {stamps : List Stamp} {least : Option Side} → i < length row → IsStamping m v (drop i row) stamps least
+pub stamping_low : (row : List ℕ) {m : Net} {v i : ℕ} {stamps : Stamps} → i < length row → IsStamping m v (drop i row) stamps
     → slice_index_or row i 0 < side_count m
 stamping_low row {m} {v} {i} l h =
     ((stamping_next row l h).leave (slice_index_or row i 0)
     (has_head (slice_index_or row i 0) (drop (i + 1) row))).0
 
-pub stamping_ends : (row : List ℕ) {m : Net} {v i : ℕ} {stamps : List Stamp} {least : Option Side} → length row ≤ i → IsStamping m v (drop i row) stamps least → IsStamping m v [] stamps least
-stamping_ends row {m} {v} {i} {stamps} {least} l h =
-    subst (λ (left : List ℕ). IsStamping m v left stamps least) (drop_all i row l) h
+pub stamping_ends : (row : List ℕ) {m : Net} {v i : ℕ} {stamps : Stamps} → length row ≤ i → IsStamping m v (drop i row) stamps → IsStamping m v [] stamps
+stamping_ends row {m} {v} {i} {stamps} l h =
+    subst (λ (left : List ℕ). IsStamping m v left stamps) (drop_all i row l) h
 
 -- What stamping side f for side x at vertex w brings, with another least repeat.
-record Adds (m : Net) (v : ℕ) (x : Side) (w : ℕ) (f : Side) (left : List ℕ) (stamps : List Stamp)
-    (least next : Option Side) : Type 0 where
+record Adds (m : Net) (v : ℕ) (x : Side) (w : ℕ) (f : Side) (left : List ℕ) (stamps : Stamps)
+    (next : Option Side) : Type 0 where
   is_side : f.0 < side_count m
   leaves : m.from f.0 ≡ v
   ends : to m f.0 ≡ w
   gone : has left f.0 ≡ false
   first : f.0 ≤ x.0
   itself : (f.0 ≡ x.0) ⊎ IsUpTo next x.0
-  others : (e : ℕ) (s : Side) → stamped stamps v w ≡ Some s → s.0 ≤ e → (s.0 ≡ e) ⊎ IsUpTo least e
+  others : (e : ℕ) (s : Side) → stamped stamps v w ≡ Some s → s.0 ≤ e → (s.0 ≡ e) ⊎ IsUpTo stamps.repeat e
       → (f.0 ≤ e) × ((f.0 ≡ e) ⊎ IsUpTo next e)
-  keeps : (e : ℕ) → IsUpTo least e → IsUpTo next e
+  keeps : (e : ℕ) → IsUpTo stamps.repeat e → IsUpTo next e
   is_one : IfSome next (λ g. (g.0 < side_count m) × IsRepeat m g.0)
 
-module _ (m : Net) (v : ℕ) (x : Side) (w : ℕ) (left : List ℕ) (stamps : List Stamp)
-    (least : Option Side) (i : IsStamping m v (x.0 ∷ left) stamps least) (at : w ≡ to m x.0) where
+module _ (m : Net) (v : ℕ) (x : Side) (w : ℕ) (left : List ℕ) (stamps : Stamps) (i : IsStamping m v (x.0 ∷ left) stamps) (at : w ≡ to m x.0) where
   here_x : (x.0 < side_count m) × (m.from x.0 ≡ v)
   here_x = i.leave x.0 (has_head x.0 left)
 
   -- No side with the same vertices is stamped.
-  adds_alone : stamped stamps v w ≡ None → Adds m v x w x left stamps least (lesser_of least None)
+  adds_alone : stamped stamps v w ≡ None → Adds m v x w x left stamps (lesser_of stamps.repeat None)
   adds_alone none = record {
     is_side = here_x.0;
     leaves = here_x.1;
@@ -146,8 +144,8 @@ module _ (m : Net) (v : ℕ) (x : Side) (w : ℕ) (left : List ℕ) (stamps : Li
     first = omega arith;
     itself = inl refl;
     others = λ e s is le way. absurd (none-some s (sym none ∙ is));
-    keeps = λ e l. up_to_first least None e l;
-    is_one = lesser-either (λ g. (g < side_count m) × IsRepeat m g) least None i.is_one tt;
+    keeps = λ e l. up_to_first stamps.repeat None e l;
+    is_one = lesser-either (λ g. (g < side_count m) × IsRepeat m g) stamps.repeat None i.is_one tt;
   }
 
   module _ (s : Side) (is : stamped stamps v w ≡ Some s) where
@@ -156,7 +154,7 @@ module _ (m : Net) (v : ℕ) (x : Side) (w : ℕ) (left : List ℕ) (stamps : Li
     there = i.each w s is
 
     -- An earlier one is.
-    adds_after : s.0 < x.0 → Adds m v x w s left stamps least (lesser_of least (Some x))
+    adds_after : s.0 < x.0 → Adds m v x w s left stamps (lesser_of stamps.repeat (Some x))
     adds_after lt =
         let (l, from, ends, out) = there in
         record {
@@ -165,23 +163,23 @@ module _ (m : Net) (v : ℕ) (x : Side) (w : ℕ) (left : List ℕ) (stamps : Li
           ends = ends;
           gone = (or_parts (eqb x.0 s.0) (has left s.0) out).1;
           first = omega (arith, lt);
-          itself = inr (up_to_second least (Some x) x.0 (omega arith));
+          itself = inr (up_to_second stamps.repeat (Some x) x.0 (omega arith));
           others = λ e q here le way.
               let same : q.0 ≡ s.0 = ap (λ (k : Side). k.0) (same_Some q s (sym here ∙ is)) in (
                 omega (arith, same, le),
                 elim way [
                   | inl z ↦ inl (sym same ∙ z)
                   | inr z ↦
-                      inr (up_to_first least (Some x) e z)
+                      inr (up_to_first stamps.repeat (Some x) e z)
                 ],
               );
-          keeps = λ e k. up_to_first least (Some x) e k;
-          is_one = lesser-either (λ g. (g < side_count m) × IsRepeat m g) least (Some x) i.is_one
+          keeps = λ e k. up_to_first stamps.repeat (Some x) e k;
+          is_one = lesser-either (λ g. (g < side_count m) × IsRepeat m g) stamps.repeat (Some x) i.is_one
               (here_x.0, (s.0, lt, from ∙ sym here_x.1, ends ∙ at));
         }
 
     -- A later one is.
-    adds_before : x.0 ≤ s.0 → Adds m v x w x left stamps least (lesser_of least (Some s))
+    adds_before : x.0 ≤ s.0 → Adds m v x w x left stamps (lesser_of stamps.repeat (Some s))
     adds_before le =
         let (l, from, ends, out) = there in
         let ne : s.0 ≢ x.0 =
@@ -200,16 +198,16 @@ module _ (m : Net) (v : ℕ) (x : Side) (w : ℕ) (left : List ℕ) (stamps : Li
           others = λ e q here q_le way.
               let same : q.0 ≡ s.0 = ap (λ (k : Side). k.0) (same_Some q s (sym here ∙ is)) in (
                 omega (arith, same, q_le, le),
-                inr (up_to_second least (Some s) e (omega (arith, same, q_le))),
+                inr (up_to_second stamps.repeat (Some s) e (omega (arith, same, q_le))),
               );
-          keeps = λ e k. up_to_first least (Some s) e k;
-          is_one = lesser-either (λ g. (g < side_count m) × IsRepeat m g) least (Some s) i.is_one
+          keeps = λ e k. up_to_first stamps.repeat (Some s) e k;
+          is_one = lesser-either (λ g. (g < side_count m) × IsRepeat m g) stamps.repeat (Some s) i.is_one
               (l, (x.0, lt, here_x.1 ∙ sym from, sym (ends ∙ at)));
         }
 
   adds : (known : Option Side) → known ≡ stamped stamps v w
-      → Adds m v x w (in_order known x).first left stamps least
-      (lesser_of least (in_order known x).later)
+      → Adds m v x w (in_order known x).first left stamps
+      (lesser_of stamps.repeat (in_order known x).later)
   adds None is = adds_alone (sym is)
   adds (Some s) is =
       elim (cases_lt s.0 x.0) [
@@ -223,18 +221,18 @@ module _ (m : Net) (v : ℕ) (x : Side) (w : ℕ) (left : List ℕ) (stamps : Li
             rw (least_is, most_is) (adds_before s (sym is) ge)
       ]
 
-  module _ (f : Side) (next : Option Side) (low : w < length stamps)
-      (a : Adds m v x w f left stamps least next) where
-    abbrev now : List Stamp
-    now = with_stamp stamps v w f low
+  module _ (f : Side) (next : Option Side) (low : w < length stamps.at)
+      (a : Adds m v x w f left stamps next) where
+    abbrev now : Stamps
+    now = with_stamp stamps v w f next low
 
     f_there : stamped now v w ≡ Some f
-    f_there = same_slot stamps v w f low
+    f_there = same_slot stamps v w f next low
 
-    stamped_x : IsStamped m v now next x.0
+    stamped_x : IsStamped m v now x.0
     stamped_x = (f, ap (stamped now v) (sym at) ∙ f_there, a.first, a.itself)
 
-    stamped_still : (e : ℕ) → IsStamped m v stamps least e → IsStamped m v now next e
+    stamped_still : (e : ℕ) → IsStamped m v stamps e → IsStamped m v now e
     stamped_still e (s, is, le, way) =
         elim (cases_eq (to m e) w) [
           | inl same ↦
@@ -242,14 +240,14 @@ module _ (m : Net) (v : ℕ) (x : Side) (w : ℕ) (left : List ℕ) (stamps : Li
               (f, ap (stamped now v) same ∙ f_there, first, more))
           | inr ne ↦ (
             s,
-            other_slot stamps v w f low v (to m e) ne
+            other_slot stamps v w f next low v (to m e) ne
                 ∙ is,
             le,
             elim way [ inl z ↦ inl z | inr z ↦ inr (a.keeps e z) ],
           )
         ]
 
-    stamping_adds : IsStamping m v left now next
+    stamping_adds : IsStamping m v left now
     stamping_adds = record {
       once = i.once.1;
       leave = λ e h. i.leave e (has_tail x.0 left e h);
@@ -260,14 +258,14 @@ module _ (m : Net) (v : ℕ) (x : Side) (w : ℕ) (left : List ℕ) (stamps : Li
             × (has left k.0 ≡ false)) is_f
             (a.is_side, a.leaves, a.ends ∙ sym same, a.gone)
         | inr ne ↦ (let (l, from, ends, out) =
-            i.each u s (sym (other_slot stamps v w f low v u ne) ∙ is) in
+            i.each u s (sym (other_slot stamps v w f next low v u ne) ∙ is) in
             (l, from, ends, (or_parts (eqb x.0 s.0) (has left s.0) out).1))
       ];
-      none = none_later stamps v w f low (v + 1) (omega arith) i.none;
+      none = none_later stamps v w f next low (v + 1) (omega arith) i.none;
       passed = λ e l from. elim (i.passed e l from) [
         | inl h ↦
             elim (or_cases (eqb x.0 e) (has left e) h) [
-              | inl t ↦ inr (subst (IsStamped m v now next) (eqb-true x.0 e t) stamped_x)
+              | inl t ↦ inr (subst (IsStamped m v now) (eqb-true x.0 e t) stamped_x)
               | inr t ↦ inl t
             ]
         | inr old ↦ inr (stamped_still e old)
@@ -277,20 +275,17 @@ module _ (m : Net) (v : ℕ) (x : Side) (w : ℕ) (left : List ℕ) (stamps : Li
     }
 
 -- One more side is stamped.
-pub stamping_more : (m : Net) (v : ℕ) (x : Side) (w : ℕ) (left : List ℕ) (stamps : List Stamp)
-    (least known : Option Side) → IsStamping m v (x.0 ∷ left) stamps least → w ≡ to m x.0
-    → w < length stamps → known ≡ stamped stamps v w →
-    IsStamping m v left (set stamps w (record { side = (in_order known x).first; origin = v }))
-    (lesser_of least (in_order known x).later)
-stamping_more m v x w left stamps least known i at low is =
-    stamping_adds m v x w left stamps least i at (in_order known x).first
-    (lesser_of least (in_order known x).later) low
-    (adds m v x w left stamps least i at known is)
+pub stamping_more : {m : Net} {v w : ℕ} {x : Side} {left : List ℕ} {stamps : Stamps}
+    → IsStamping m v (x.0 ∷ left) stamps → w ≡ to m x.0 → w < length stamps.at
+    → IsStamping m v left (with_side stamps v w x)
+stamping_more {m} {v} {w} {x} {left} {stamps} i at low =
+    let known = in_order (stamped stamps v w) x in
+    stamping_adds m v x w left stamps i at known.first (lesser_of stamps.repeat known.later) low
+    (adds m v x w left stamps i at (stamped stamps v w) refl)
 
 -- All are stamped.
-module _ (m : Net) (v : ℕ) (stamps : List Stamp) (least : Option Side)
-    (i : IsStamping m v [] stamps least) where
-  all_passed : (e : ℕ) → e < side_count m → m.from e ≡ v → IsStamped m v stamps least e
+module _ (m : Net) (v : ℕ) (stamps : Stamps) (i : IsStamping m v [] stamps) where
+  all_passed : (e : ℕ) → e < side_count m → m.from e ≡ v → IsStamped m v stamps e
   all_passed e l from = elim (i.passed e l from) [ inl h ↦ absurd (false≢true h) | inr done ↦ done ]
 
   side_between : (w : ℕ) (r : Option Side) → stamped stamps v w ≡ r
@@ -303,7 +298,7 @@ module _ (m : Net) (v : ℕ) (stamps : List Stamp) (least : Option Side)
   pub all_stamped : AreAllStamped m v stamps
   all_stamped w = side_between w (stamped stamps v w) refl
 
-  pub least_more : IsLeastRepeat m (v + 1) least
+  pub least_more : IsLeastRepeat m (v + 1) stamps.repeat
   least_more = record {
     is_one = i.is_one;
     least = λ e l low r. elim (cases_eq (m.from e) v) [

@@ -1,7 +1,7 @@
 -- Stamps: at some vertices a side that runs there. They are good for the sides that leave one
 -- vertex at a time.
 use Rattle.std.specs.Prelude.{◌≡◌, ℕ, ◌<◌, ◌≤◌, ◌==◌, cond, min, max, Option, None, Some, List}
-use Rattle.std.specs.Prelude.{length, slice_index_or}
+use Rattle.std.specs.Prelude.{length, replicate, slice_index_or, slice_set}
 use Rattle.std.specs.Option.{IfSome, option_map}
 use Rattle.pm_base.specs.declared.ids.Side.{Side}
 use Rattle.pm_base.specs.Sides.{Net, side_count, to}
@@ -17,12 +17,22 @@ no_stamp = record { side = record { 0 = 0 }; origin = NOWHERE }
 abbrev pub side_from : ℕ → Stamp → Option Side
 side_from v stamp = cond (stamp.origin == v) (Some stamp.side) None
 
+-- What is stamped at each vertex, and the least side so far that runs between the same vertices as
+-- an earlier one.
+pub record Stamps : Type 0 where
+  pub at : List Stamp
+  pub repeat : Option Side
+
+-- No side stamped at any of so many vertices.
+abbrev pub no_stamps : ℕ → Stamps
+no_stamps n = record { at = replicate n no_stamp; repeat = None }
+
 -- The side from vertex v that is stamped at vertex w, if there is one.
-abbrev pub stamped : List Stamp → ℕ → ℕ → Option Side
-stamped stamps v w = side_from v (slice_index_or stamps w no_stamp)
+abbrev pub stamped : Stamps → ℕ → ℕ → Option Side
+stamped stamps v w = side_from v (slice_index_or stamps.at w no_stamp)
 
 -- No side from vertex n or a later one is stamped.
-abbrev pub NoneStampedFrom : ℕ → List Stamp → Type 0
+abbrev pub NoneStampedFrom : ℕ → Stamps → Type 0
 NoneStampedFrom n stamps = (v w : ℕ) → n ≤ v → v < NOWHERE → stamped stamps v w ≡ None
 
 -- Of two sides the one with the lesser number, and the one with the greater.
@@ -42,6 +52,14 @@ abbrev pub lesser_of : Option Side → Option Side → Option Side
 lesser_of None b = b
 lesser_of (Some a) None = Some a
 lesser_of (Some a) (Some b) = Some (lesser a b)
+
+-- The stamps with side e from vertex v to vertex w.
+abbrev pub with_side : Stamps → ℕ → ℕ → Side → Stamps
+with_side stamps v w e = record {
+  at = slice_set stamps.at w
+      (record { side = (in_order (stamped stamps v w) e).first; origin = v });
+  repeat = lesser_of stamps.repeat (in_order (stamped stamps v w) e).later;
+}
 
 -- A side before side e has the same two vertices in the same order.
 abbrev pub IsRepeat : Net → ℕ → Type 0
@@ -63,7 +81,7 @@ IsSideBetween m p q None = (e : ℕ) → e < side_count m → m.from e ≡ p →
 IsSideBetween m p q (Some e) = (e < side_count m) × (m.from e ≡ p) × (to m e ≡ q)
 
 -- At each vertex to which a side runs from vertex v such a side is stamped, and at no other one.
-abbrev pub AreAllStamped : Net → ℕ → List Stamp → Type 0
+abbrev pub AreAllStamped : Net → ℕ → Stamps → Type 0
 AreAllStamped m v stamps =
     (w : ℕ) → IsSideBetween m v w (option_map (λ s. s.0) (stamped stamps v w))
 

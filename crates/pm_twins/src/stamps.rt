@@ -2,10 +2,10 @@
 //! runs. The twin of a side that arrives is then the stamp at the vertex from which it comes. A
 //! stamp that an earlier vertex left behind is told by its origin, where its side runs from, so the
 //! stamps are never wiped.
-ghost use Rattle.std.specs.Prelude.{◌≡◌, ◌+◌, ◌<◌, length, replicate, IfOk};
+ghost use Rattle.std.specs.Prelude.{◌≡◌, ◌+◌, ◌<◌, length, IfOk};
 ghost use Rattle.pm_base.specs.Sides.{net_of};
 ghost use Rattle.pm_twins.specs.SideRows.{AreRows, IsWhole};
-ghost use Rattle.pm_twins.specs.Stamping.{no_stamp, stamped as stamped_of, in_order as ordered};
+ghost use Rattle.pm_twins.specs.Stamping.{no_stamps, stamped, with_side, in_order as ordered};
 ghost use Rattle.pm_twins.specs.Stamping.{lesser_of, NoneStampedFrom, AreAllStamped, IsLeastRepeat};
 ghost use Rattle.pm_twins.specs.Stamping.{ArePaired};
 
@@ -14,27 +14,80 @@ use crate::side_rows::SideRows;
 use crate::sides::{from, to};
 use pm_base::{Corners, Side, SideMap};
 use std::alloc::Global;
+use std::marker::Model;
 
 // The origin where no side is stamped yet. No vertex has this number, since it is past
 // `MOST_VERTICES`.
 const NOWHERE: u32 = u32::MAX;
 
-/// A side, and beside it the vertex from which it runs, so that one look finds both.
+// A side, and beside it the vertex from which it runs, so that one look finds both.
 #[derive(Clone, Copy)]
-pub(crate) struct Stamp {
+struct Stamp {
     side: Side,
     origin: u32,
 }
 
-/// No side stamped at each vertex. The length is a parameter, so that no proof unfolds the list.
-pub(crate) fn no_stamps(alloc: Global, vertices: usize) -> Result<Vec<Stamp>, OutOfMemory>
-    ensures { IfOk result (λ stamps. stamps.items ≡ replicate vertices no_stamp) }
-{
-    let none = Stamp {
-        side: Side(0),
-        origin: NOWHERE,
-    };
-    vec![in alloc; none; vertices]
+/// At some vertices a side that runs there, and the least side so far that runs between the same
+/// vertices as an earlier one.
+#[derive(Drop)]
+pub(crate) struct Stamps {
+    at: Vec<Stamp>,
+    repeat: Option<Side>,
+}
+
+impl Model for Stamps {
+    ghost use Rattle.pm_twins.specs.Stamping.{Stamps};
+
+    ghost Value = { Stamps };
+
+    ghost view = { λ s. record { at = s.at.items; repeat = s.repeat } };
+}
+
+impl Stamps {
+    /// No side stamped at any vertex.
+    pub(crate) fn none(alloc: Global, vertices: usize) -> Result<Stamps, OutOfMemory>
+        ensures { IfOk result (λ s. s ≡ no_stamps vertices) }
+    {
+        let none = Stamp {
+            side: Side(0),
+            origin: NOWHERE,
+        };
+        let at = vec![in alloc; none; vertices]?;
+        Ok(Stamps { at, repeat: None })
+    }
+
+    /// The least side so far that runs between the same vertices as an earlier one.
+    pub(crate) fn repeat(&self) -> Option<Side>
+        ensures { result ≡ self.now.repeat }
+    {
+        self.repeat
+    }
+
+    // The stamped side from `vertex` to `end`, if there is one.
+    fn side(&self, vertex: u32, end: u32) -> Option<Side>
+        requires { end < length self.now.at }
+        ensures { result ≡ stamped self.now vertex end }
+    {
+        let stamp = self.at[end as usize];
+        if stamp.origin == vertex {
+            Some(stamp.side)
+        } else {
+            None
+        }
+    }
+
+    // Stamps a side from `vertex` at `end`. Of two such sides the earlier keeps the stamp.
+    fn add(&mut self, vertex: u32, end: u32, side: Side)
+        requires { end < length self.old.at }
+        ensures { self.new ≡ with_side self.old vertex end side }
+    {
+        let sides = in_order(self.side(vertex, end), side);
+        self.at[end as usize] = Stamp {
+            side: sides.first,
+            origin: vertex,
+        };
+        self.repeat = lesser(self.repeat, sides.later);
+    }
 }
 
 // Two sides that run between the same vertices, or one alone.
@@ -71,51 +124,23 @@ fn lesser(a: Option<Side>, b: Option<Side>) -> Option<Side>
     }
 }
 
-// The stamped side from `vertex` to `end`, if there is one.
-fn stamped(stamps: &[Stamp], vertex: u32, end: u32) -> Option<Side>
-    requires { end < length stamps.now }
-    ensures { result ≡ stamped_of stamps.now vertex end }
-{
-    let stamp = stamps[end as usize];
-    if stamp.origin == vertex {
-        Some(stamp.side)
-    } else {
-        None
-    }
-}
-
-/// Stamps the sides that leave a vertex, and answers the least side so far that runs between the
-/// same vertices as an earlier one. Of two such sides the earlier keeps the stamp.
-pub(crate) fn stamp_leaving(
-    faces: &[Corners],
-    rows: &SideRows,
-    vertex: u32,
-    stamps: &mut Vec<Stamp>,
-    repeat: Option<Side>,
-) -> Option<Side>
-    requires whole { IsWhole (net_of faces.now) (length stamps.old.items) }
-    requires rows { AreRows (net_of faces.now) (length stamps.old.items) rows.now }
-    requires in_range { vertex < length stamps.old.items }
-    requires none { NoneStampedFrom vertex stamps.old.items }
-    requires repeat { IsLeastRepeat (net_of faces.now) vertex repeat }
-    ensures len { length stamps.new.items ≡ length stamps.old.items }
-    ensures none { NoneStampedFrom (vertex + 1) stamps.new.items }
-    ensures all { AreAllStamped (net_of faces.now) vertex stamps.new.items }
-    ensures repeat { IsLeastRepeat (net_of faces.now) (vertex + 1) result }
+/// Stamps the sides that leave a vertex.
+pub(crate) fn stamp_leaving(faces: &[Corners], rows: &SideRows, vertex: u32, stamps: &mut Stamps)
+    requires whole { IsWhole (net_of faces.now) (length stamps.old.at) }
+    requires rows { AreRows (net_of faces.now) (length stamps.old.at) rows.now }
+    requires in_range { vertex < length stamps.old.at }
+    requires none { NoneStampedFrom vertex stamps.old }
+    requires repeat { IsLeastRepeat (net_of faces.now) vertex stamps.old.repeat }
+    ensures len { length stamps.new.at ≡ length stamps.old.at }
+    ensures none { NoneStampedFrom (vertex + 1) stamps.new }
+    ensures all { AreAllStamped (net_of faces.now) vertex stamps.new }
+    ensures repeat { IsLeastRepeat (net_of faces.now) (vertex + 1) stamps.new.repeat }
 {
     let leaving = rows.row(vertex);
-    let mut least = repeat;
     for number in leaving {
         let side = Side(*number);
-        let end = to(faces, side);
-        let sides = in_order(stamped(stamps, vertex, end), side);
-        stamps[end as usize] = Stamp {
-            side: sides.first,
-            origin: vertex,
-        };
-        least = lesser(least, sides.later);
+        stamps.add(vertex, to(faces, side), side);
     }
-    least
 }
 
 /// Notes the twin of each side that arrives at a vertex. The sides that leave it are stamped.
@@ -123,12 +148,12 @@ pub(crate) fn pair_arriving(
     faces: &[Corners],
     rows: &SideRows,
     vertex: u32,
-    stamps: &[Stamp],
+    stamps: &Stamps,
     twins: &mut SideMap,
 )
-    requires whole { IsWhole (net_of faces.now) (length stamps.now) }
-    requires rows { AreRows (net_of faces.now) (length stamps.now) rows.now }
-    requires in_range { vertex < length stamps.now }
+    requires whole { IsWhole (net_of faces.now) (length stamps.now.at) }
+    requires rows { AreRows (net_of faces.now) (length stamps.now.at) rows.now }
+    requires in_range { vertex < length stamps.now.at }
     requires all { AreAllStamped (net_of faces.now) vertex stamps.now }
     requires paired { ArePaired (net_of faces.now) vertex twins.old }
     ensures paired { ArePaired (net_of faces.now) (vertex + 1) twins.new }
@@ -136,7 +161,7 @@ pub(crate) fn pair_arriving(
     let leaving = rows.row(vertex);
     for number in leaving {
         let arriving = Side(*number).prev();
-        let twin = stamped(stamps, vertex, from(faces, arriving));
+        let twin = stamps.side(vertex, from(faces, arriving));
         twins.set(arriving, twin);
     }
 }

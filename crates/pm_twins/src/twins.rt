@@ -14,7 +14,7 @@ ghost use Rattle.pm_twins.specs.SideRows.{AreRows, IsWhole};
 use crate::OutOfMemory;
 use crate::side_rows::{SideRows, row_sides};
 use crate::sides::{from, to};
-use crate::stamps::{no_stamps, pair_arriving, stamp_leaving};
+use crate::stamps::{Stamps, pair_arriving, stamp_leaving};
 use pm_base::{Corners, FaceId, Mesh, Side, SideMap};
 use std::alloc::Global;
 use std::marker::Model;
@@ -118,15 +118,14 @@ fn pair_sides(
     let Ok(mut twins) = SideMap::new(alloc, 3 * faces.len() as u32) else {
         return Err(TwinsFail::OutOfMemory);
     };
-    let Ok(mut stamps) = no_stamps(alloc, vertices) else {
+    let Ok(mut stamps) = Stamps::none(alloc, vertices) else {
         return Err(TwinsFail::OutOfMemory);
     };
-    let mut repeat = None;
     for vertex in 0..vertices as u32 {
-        repeat = stamp_leaving(faces, rows, vertex, &mut stamps, repeat);
+        stamp_leaving(faces, rows, vertex, &mut stamps);
         pair_arriving(faces, rows, vertex, &stamps, &mut twins);
     }
-    match repeat {
+    match stamps.repeat() {
         Some(side) => Err(TwinsFail::EdgeTwice(side.face())),
         None => Ok(twins),
     }

@@ -23,16 +23,16 @@ set-requires c =
     record {
       there = omega (arith, low, c.prev-arriving.ensures.value, c.loop-number.invariant.sides);
       small = found-low m c.args.vertex c.from.result MOST_SIDES c.args.stamps.now
-          c.stamped-twin.result c.requires.all (omega (arith, c.requires.whole.short))
-          c.stamped-twin.ensures;
+          c.side-twin.result c.requires.all (omega (arith, c.requires.whole.short))
+          c.side-twin.ensures;
     }
 
 pub loop-number-preserved : goal.loop-number-preserved
 loop-number-preserved c =
     rw c.set.ensures
-    (pairing_more _ _ c.loop-number-test.true c.loop-number.invariant c.requires.all
+    (pairing_more _ c.args.stamps.now c.loop-number-test.true c.loop-number.invariant c.requires.all
     c.prev-arriving.ensures.value
-    (c.stamped-twin.ensures ∙ ap (stamped c.args.stamps.now c.args.vertex) c.from.ensures))
+    (c.side-twin.ensures ∙ ap (stamped c.args.stamps.now c.args.vertex) c.from.ensures))
 
 pub returns : goal.returns
 returns c = record {

@@ -5,7 +5,6 @@ use Rattle.pm_twins.proofs.stamps.stamp_leaving.Given as goal
 
 abbrev pub invariant-loop-number : goal.invariant-loop-number
 invariant-loop-number l = record {
-  len : length l.stamps.items ≡ length l.fn.stamps.items;
-  stamping : IsStamping (net_of l.faces) l.vertex (drop l.number-index l.leaving) l.stamps.items
-      l.least;
+  len : length l.stamps.at ≡ length l.fn.stamps.at;
+  stamping : IsStamping (net_of l.faces) l.vertex (drop l.number-index l.leaving) l.stamps;
 }

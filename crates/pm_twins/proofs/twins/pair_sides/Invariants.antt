@@ -5,8 +5,8 @@ use Rattle.pm_twins.proofs.twins.pair_sides.Given as goal
 
 abbrev pub invariant-loop-vertex : goal.invariant-loop-vertex
 invariant-loop-vertex l = record {
-  len : length l.stamps.items ≡ l.vertices;
-  none : NoneStampedFrom l.vertex l.stamps.items;
-  repeat : IsLeastRepeat (net_of l.faces) l.vertex l.repeat;
+  len : length l.stamps.at ≡ l.vertices;
+  none : NoneStampedFrom l.vertex l.stamps;
+  repeat : IsLeastRepeat (net_of l.faces) l.vertex l.stamps.repeat;
   paired : ArePaired (net_of l.faces) l.vertex l.twins;
 }
