@@ -134,13 +134,16 @@ all_known m n x vs known alone t is at l entry all v vl =
           (subst (λ (w : ℕ). IsKnown m (n.0 + 1) w (with_side known n alone)) (sym from) new)
     ]
 
-pub entry_known : (m : Net) (n v : ℕ) (vs : List Vertex) (r : Vertex) → v < length vs
-    → r ≡ slice_index_or vs v r → IsKnown m n v (slice_index_or vs v no_vertex) → IsKnown m n v r
-entry_known m n v vs r l is known =
-    subst (λ (k : Vertex). IsKnown m n v k) (sym (is ∙ get_or_default vs v r no_vertex l)) known
+-- What the code looks up of a vertex.
+pub entry_known : (vs : List Vertex) {m : Net} {n count v : ℕ} {r : Vertex} → length vs ≡ count
+    → ((v : ℕ) → v < count → IsKnown m n v (slice_index_or vs v no_vertex)) → v < length vs
+    → r ≡ slice_index_or vs v r → IsKnown m n v r
+entry_known vs {m} {n} {count} {v} {r} len known l is =
+    subst (λ (k : Vertex). IsKnown m n v k) (sym (is ∙ get_or_default vs v r no_vertex l))
+    (known v (omega (arith, len, l)))
 
 -- What is known after all sides: the walk's start is one, or no face has the vertex.
-module _ (m : Net) (v : ℕ) (known : Vertex) (all : IsKnown m (side_count m) v known) where
+module _ {m : Net} {v : ℕ} {known : Vertex} (all : IsKnown m (side_count m) v known) where
   pub start_is : (a : Side) → known.start ≡ Some a → (a.0 < side_count m) × (m.from a.0 ≡ v)
       × IsStart m a.0
   start_is a is =

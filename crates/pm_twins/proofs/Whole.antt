@@ -20,6 +20,11 @@ mesh_whole m formed =
       within = λ e l. (mesh_side m formed e l).1;
     }
 
+-- The same for what the code reads of the mesh.
+pub read_whole : (m : Mesh) {fs : List Corners} {n : ℕ} → IsWellFormed m → fs ≡ m.faces
+    → n ≡ length m.points → IsWhole (net_of fs) n
+read_whole m {fs} {n} formed are is = rw (are, is) (mesh_whole m formed)
+
 pub to_within : (m : Net) (n : ℕ) → IsWhole m n → (e : ℕ) → e < side_count m → to m e < n
 to_within m n whole e l = whole.within _ (next-lt m.faces e l)
 
