@@ -1,4 +1,5 @@
 pub mod Whole
+pub mod CornerLaws
 pub mod TwinTables
 pub mod Readers
 pub mod Decision

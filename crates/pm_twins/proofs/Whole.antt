@@ -1,5 +1,6 @@
 -- The sides of a well-formed mesh, as the calls need them.
-use Rattle.std.proofs.Common.{◌≡◌, ℕ, ◌<◌, Option, List, length, sym, subst, arith}
+use Rattle.std.proofs.Common.{◌≡◌, ℕ, ◌<◌, Option, List, length, sym, subst}
+use Rattle.std.proofs.Common.{arith}
 use Rattle.pm_base.specs.declared.mesh.Corners.{Corners}
 use Rattle.pm_base.specs.Meshes.{Mesh, IsWellFormed}
 use Rattle.pm_base.specs.Sides.{Net, side_count, to, net_of, NoSideTwice}

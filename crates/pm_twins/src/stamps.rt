@@ -11,7 +11,7 @@ ghost use Rattle.pm_twins.specs.Stamping.{ArePaired};
 
 use crate::OutOfMemory;
 use crate::side_rows::SideRows;
-use crate::sides::{from, to};
+use crate::sides::{third, to};
 use pm_base::{Corners, Side, SideMap};
 use std::alloc::Global;
 use std::marker::Model;
@@ -160,8 +160,8 @@ pub(crate) fn pair_arriving(
 {
     let leaving = rows.row(vertex);
     for number in leaving {
-        let arriving = Side(*number).prev();
-        let twin = stamps.side(vertex, from(faces, arriving));
-        twins.set(arriving, twin);
+        let side = Side(*number);
+        let twin = stamps.side(vertex, third(faces, side));
+        twins.set(side.prev(), twin);
     }
 }

@@ -1,11 +1,5 @@
-use Rattle.std.proofs.Common.{arith, length}
-use Rattle.pm_base.proofs.Sides.{next-lt}
+use Rattle.pm_twins.proofs.CornerLaws.{to_turned}
 use Rattle.pm_twins.proofs.sides.to.Goals as goal
 
-pub from-requires : goal.from-requires
-from-requires c =
-    omega (
-      arith,
-      next-lt (length c.args.faces.now) c.args.side.0 c.requires.in_range,
-      c.next.ensures.value,
-    )
+pub returns : goal.returns
+returns c = to_turned c.args.faces.now c.args.side.0 c.face.result.0 c.face.ensures

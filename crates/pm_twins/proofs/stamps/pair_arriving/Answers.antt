@@ -6,23 +6,21 @@ use Rattle.pm_twins.proofs.PairLaws.{found-low, pairing_low, pairing_prev, pairi
 use Rattle.pm_twins.proofs.PairLaws.{pairing_more, paired_more}
 use Rattle.pm_twins.proofs.stamps.pair_arriving.Goals as goal
 
-pub prev-arriving-requires : goal.prev-arriving-requires
-prev-arriving-requires c =
+pub third-requires : goal.third-requires
+third-requires c = pairing_low _ c.loop-number-test.true c.loop-number.invariant
+
+pub prev-requires : goal.prev-requires
+prev-requires c =
     let low = pairing_low _ c.loop-number-test.true c.loop-number.invariant in
     omega (arith, low, c.requires.whole.short)
-
-pub from-requires : goal.from-requires
-from-requires c =
-    let low = pairing_prev _ c.loop-number-test.true c.loop-number.invariant in
-    omega (arith, low, c.prev-arriving.ensures.value)
 
 pub set-requires : goal.set-requires
 set-requires c =
     let m = net_of c.args.faces.now in
     let low = pairing_prev _ c.loop-number-test.true c.loop-number.invariant in
     record {
-      there = omega (arith, low, c.prev-arriving.ensures.value, c.loop-number.invariant.sides);
-      small = found-low m c.args.vertex c.from.result MOST_SIDES c.args.stamps.now
+      there = omega (arith, low, c.prev.ensures.value, c.loop-number.invariant.sides);
+      small = found-low m c.args.vertex c.third.result MOST_SIDES c.args.stamps.now
           c.side-twin.result c.requires.all (omega (arith, c.requires.whole.short))
           c.side-twin.ensures;
     }
@@ -30,9 +28,10 @@ set-requires c =
 pub loop-number-preserved : goal.loop-number-preserved
 loop-number-preserved c =
     rw c.set.ensures
-    (pairing_more _ c.args.stamps.now c.loop-number-test.true c.loop-number.invariant c.requires.all
-    c.prev-arriving.ensures.value
-    (c.side-twin.ensures ∙ ap (stamped c.args.stamps.now c.args.vertex) c.from.ensures))
+    (pairing_more _ c.args.stamps.now c.loop-number-test.true c.loop-number.invariant
+    c.requires.all c.prev.ensures.value
+    (rw c.prev.ensures.value
+    (c.side-twin.ensures ∙ ap (stamped c.args.stamps.now c.args.vertex) c.third.ensures)))
 
 pub returns : goal.returns
 returns c = record {

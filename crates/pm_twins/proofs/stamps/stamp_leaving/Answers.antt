@@ -6,8 +6,8 @@ use Rattle.pm_twins.proofs.StampLaws.{stamping_next, stamping_low, stamping_ends
 use Rattle.pm_twins.proofs.StampLaws.{least_more}
 use Rattle.pm_twins.proofs.stamps.stamp_leaving.Goals as goal
 
-pub to-requires-clause-in_range : goal.to-requires-clause-in_range
-to-requires-clause-in_range c =
+pub to-requires : goal.to-requires
+to-requires c =
     stamping_low _ c.loop-number-test.true c.loop-number.invariant.stamping
 
 pub loop-number-preserved : goal.loop-number-preserved
