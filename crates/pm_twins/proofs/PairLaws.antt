@@ -1,6 +1,7 @@
 -- The sides that arrive at one vertex are paired one by one, and in the end all are.
 use Rattle.std.proofs.Common.{◌≡◌, ◌≢◌, ℕ, ◌+◌, ◌<◌, ◌≤◌, eqb, true, Option, Some, None, List}
-use Rattle.std.proofs.Common.{[], ◌∷◌, length, drop, slice_index_or, ◌⊎◌, inl, inr, sym, ap, ◌∙◌, subst}
+use Rattle.std.proofs.Common.{[], ◌∷◌, length, drop, slice_index_or, ◌⊎◌, inl, inr, sym, ap, ◌∙◌}
+use Rattle.std.proofs.Common.{subst}
 use Rattle.std.proofs.Common.{arith}
 use Rattle.std.proofs.Math.ListN.{set}
 use Rattle.std.proofs.lemmas.Bool.{cases_eq, eqb-true, or_cases, false≢true}
@@ -136,7 +137,8 @@ pub pairing_more : (row : List ℕ) (stamps : Stamps) {m : Net} {v i p : ℕ}
     → p ≡ prev (slice_index_or row i 0) → r ≡ stamped stamps v (m.from p)
     → IsPairing m v (drop (i + 1) row) (set twins p (option_map (λ s. s.0) r))
 pairing_more row stamps {m} {v} {i} {p} {twins} {r} l h all is looked =
-    one_paired m v (slice_index_or row i 0) p (drop (i + 1) row) stamps twins r (pairing_next row l h)
+    one_paired m v (slice_index_or row i 0) p (drop (i + 1) row) stamps twins r
+    (pairing_next row l h)
     all is looked
 
 -- All that arrive are paired.

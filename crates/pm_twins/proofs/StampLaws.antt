@@ -1,6 +1,7 @@
 -- The sides that leave one vertex are stamped one by one.
 use Rattle.std.proofs.Common.{◌≡◌, ◌≢◌, ℕ, ◌+◌, ◌<◌, ◌≤◌, eqb, min, max, true, false, Option}
-use Rattle.std.proofs.Common.{Some, None, List, [], ◌∷◌, length, drop, slice_index_or, ◌⊎◌, inl, inr}
+use Rattle.std.proofs.Common.{Some, None, List, [], ◌∷◌, length, drop, slice_index_or, ◌⊎◌, inl}
+use Rattle.std.proofs.Common.{inr}
 use Rattle.std.proofs.Common.{refl, sym, ap, ◌∙◌, subst, arith}
 use Rattle.std.specs.Option.{IfSome, option_map}
 use Rattle.std.proofs.Math.ListN.{set}
@@ -59,7 +60,8 @@ module _ (stamps : Stamps) (v w : ℕ) (f : Side) (next : Option Side)
 
   other_slot : (u x : ℕ) → x ≢ w → stamped with_stamp u x ≡ stamped stamps u x
   other_slot u x ne =
-      ap (side_from u) (get_or-set_other stamps.at w x (record { side = f; origin = v }) no_stamp ne)
+      ap (side_from u)
+      (get_or-set_other stamps.at w x (record { side = f; origin = v }) no_stamp ne)
 
   none_later : (n : ℕ) → v < n → NoneStampedFrom n stamps → NoneStampedFrom n with_stamp
   none_later n lt none u x le past =
@@ -73,7 +75,8 @@ module _ (stamps : Stamps) (v w : ℕ) (f : Side) (next : Option Side)
 -- unless a repeat up to e is known.
 abbrev pub IsStamped : Net → ℕ → Stamps → ℕ → Type 0
 IsStamped m v stamps e =
-    (s : Side) × (stamped stamps v (to m e) ≡ Some s) × (s.0 ≤ e) × ((s.0 ≡ e) ⊎ IsUpTo stamps.repeat e)
+    (s : Side) × (stamped stamps v (to m e) ≡ Some s) × (s.0 ≤ e)
+    × ((s.0 ≡ e) ⊎ IsUpTo stamps.repeat e)
 
 -- Of the sides that leave v these are still to be stamped.
 pub record IsStamping (m : Net) (v : ℕ) (left : List ℕ) (stamps : Stamps) : Type 0 where
@@ -88,7 +91,8 @@ pub record IsStamping (m : Net) (v : ℕ) (left : List ℕ) (stamps : Stamps) : 
   pub below : (e : ℕ) → e < side_count m → m.from e < v → IsRepeat m e → IsUpTo stamps.repeat e
 
 pub stamping_begins : (m : Net) (n v : ℕ) (rows : Rows) (stamps : Stamps)
-    → AreRows m n rows → v < n → v < NOWHERE → NoneStampedFrom v stamps → IsLeastRepeat m v stamps.repeat
+    → AreRows m n rows → v < n → v < NOWHERE → NoneStampedFrom v stamps
+    → IsLeastRepeat m v stamps.repeat
     → IsStamping m v (row_at rows v) stamps
 stamping_begins m n v rows stamps are low past none r = record {
   once = are.once v low;
@@ -101,18 +105,21 @@ stamping_begins m n v rows stamps are low past none r = record {
 }
 
 -- The next side of a row.
-pub stamping_next : (row : List ℕ) {m : Net} {v i : ℕ} {stamps : Stamps} → i < length row → IsStamping m v (drop i row) stamps
+pub stamping_next : (row : List ℕ) {m : Net} {v i : ℕ} {stamps : Stamps} → i < length row
+    → IsStamping m v (drop i row) stamps
     → IsStamping m v (slice_index_or row i 0 ∷ drop (i + 1) row) stamps
 stamping_next row {m} {v} {i} {stamps} l h =
     subst (λ (left : List ℕ). IsStamping m v left stamps) (left_next row i l) h
 
-pub stamping_low : (row : List ℕ) {m : Net} {v i : ℕ} {stamps : Stamps} → i < length row → IsStamping m v (drop i row) stamps
+pub stamping_low : (row : List ℕ) {m : Net} {v i : ℕ} {stamps : Stamps} → i < length row
+    → IsStamping m v (drop i row) stamps
     → slice_index_or row i 0 < side_count m
 stamping_low row {m} {v} {i} l h =
     ((stamping_next row l h).leave (slice_index_or row i 0)
     (has_head (slice_index_or row i 0) (drop (i + 1) row))).0
 
-pub stamping_ends : (row : List ℕ) {m : Net} {v i : ℕ} {stamps : Stamps} → length row ≤ i → IsStamping m v (drop i row) stamps → IsStamping m v [] stamps
+pub stamping_ends : (row : List ℕ) {m : Net} {v i : ℕ} {stamps : Stamps} → length row ≤ i
+    → IsStamping m v (drop i row) stamps → IsStamping m v [] stamps
 stamping_ends row {m} {v} {i} {stamps} l h =
     subst (λ (left : List ℕ). IsStamping m v left stamps) (drop_all i row l) h
 
@@ -125,12 +132,14 @@ record Adds (m : Net) (v : ℕ) (x : Side) (w : ℕ) (f : Side) (left : List ℕ
   gone : has left f.0 ≡ false
   first : f.0 ≤ x.0
   itself : (f.0 ≡ x.0) ⊎ IsUpTo next x.0
-  others : (e : ℕ) (s : Side) → stamped stamps v w ≡ Some s → s.0 ≤ e → (s.0 ≡ e) ⊎ IsUpTo stamps.repeat e
+  others : (e : ℕ) (s : Side) → stamped stamps v w ≡ Some s → s.0 ≤ e
+      → (s.0 ≡ e) ⊎ IsUpTo stamps.repeat e
       → (f.0 ≤ e) × ((f.0 ≡ e) ⊎ IsUpTo next e)
   keeps : (e : ℕ) → IsUpTo stamps.repeat e → IsUpTo next e
   is_one : IfSome next (λ g. (g.0 < side_count m) × IsRepeat m g.0)
 
-module _ (m : Net) (v : ℕ) (x : Side) (w : ℕ) (left : List ℕ) (stamps : Stamps) (i : IsStamping m v (x.0 ∷ left) stamps) (at : w ≡ to m x.0) where
+module _ (m : Net) (v : ℕ) (x : Side) (w : ℕ) (left : List ℕ) (stamps : Stamps)
+    (i : IsStamping m v (x.0 ∷ left) stamps) (at : w ≡ to m x.0) where
   here_x : (x.0 < side_count m) × (m.from x.0 ≡ v)
   here_x = i.leave x.0 (has_head x.0 left)
 
@@ -174,7 +183,8 @@ module _ (m : Net) (v : ℕ) (x : Side) (w : ℕ) (left : List ℕ) (stamps : St
                 ],
               );
           keeps = λ e k. up_to_first stamps.repeat (Some x) e k;
-          is_one = lesser-either (λ g. (g < side_count m) × IsRepeat m g) stamps.repeat (Some x) i.is_one
+          is_one = lesser-either (λ g. (g < side_count m) × IsRepeat m g)
+              stamps.repeat (Some x) i.is_one
               (here_x.0, (s.0, lt, from ∙ sym here_x.1, ends ∙ at));
         }
 
@@ -201,7 +211,8 @@ module _ (m : Net) (v : ℕ) (x : Side) (w : ℕ) (left : List ℕ) (stamps : St
                 inr (up_to_second stamps.repeat (Some s) e (omega (arith, same, q_le))),
               );
           keeps = λ e k. up_to_first stamps.repeat (Some s) e k;
-          is_one = lesser-either (λ g. (g < side_count m) × IsRepeat m g) stamps.repeat (Some s) i.is_one
+          is_one = lesser-either (λ g. (g < side_count m) × IsRepeat m g)
+              stamps.repeat (Some s) i.is_one
               (l, (x.0, lt, here_x.1 ∙ sym from, sym (ends ∙ at)));
         }
 

@@ -66,7 +66,8 @@ loop-v-preserved c =
       | in-Some+else-not-is_fan w ↦
           let start = start_is known w.in-Some.start
           w.in-Some.is in
-          subst (IsFan (net_of c.as_slice.result.now)) start.1 (w.is_fan.ensures.0 w.if-not-is_fan.false)
+          subst (IsFan (net_of c.as_slice.result.now)) start.1
+          (w.is_fan.ensures.0 w.if-not-is_fan.false)
       | in_default-start w ↦
           unused_is known w.in_default-start.is
     ]))
