@@ -1,4 +1,4 @@
--- The laws of outcomes, each as a statement. Byte 10 is LF, 13 is CR, and 35 is `#`.
+-- The laws of outcomes, each as a statement.
 use Rattle.std.specs.Prelude.{◌≡◌, ℕ, ◌+◌, ◌-◌, ◌<◌, ◌≤◌, ℤ, pos, true, List, ◌∷◌, ◌++◌, length}
 use Rattle.std.specs.Prelude.{drop, codes, Option, None, Result, Ok}
 use Rattle.pm_base.specs.Place.{Place}
@@ -28,6 +28,7 @@ use Rattle.obj_fit.specs.Thin.{thin_count}
 use Rattle.obj_fit.specs.Texts.{output_text, note_line, notes_text, last_note}
 use Rattle.obj_fit.specs.Outcome.{Done, MakesPrepared, IsPreparedText, cut_in, overlapping_in}
 use Rattle.obj_fit.specs.Outcome.{fit_in, places_in, counts_in}
+use Rattle.pm_io.specs.Letters.{line_feed, carriage_return, hash_sign}
 
 -- A text has one outcome, and one place that decides it.
 abbrev pub OnePreparedText : Type 0
@@ -39,9 +40,9 @@ OnePreparedText = (size : Option ℕ) (bytes : List ℕ) (one other : Result Don
 pub record IsFitText (text : List ℕ) : Type 0 where
   pub mesh : Mesh
   pub line : List ℕ
-  pub line_is : until 10 line ≡ line
-  pub plain : until 13 line ≡ line
-  pub text_is : text ≡ (35 ∷ line) ++ 10 ∷ canonical_text 0 mesh
+  pub line_is : until line_feed line ≡ line
+  pub plain : until carriage_return line ≡ line
+  pub text_is : text ≡ (hash_sign ∷ line) ++ line_feed ∷ canonical_text 0 mesh
   pub formed : IsWellFormed mesh
   pub manifold : IsOrientedManifold (net_of mesh.faces)
   pub read : meaning_of 0 text ≡ Ok mesh

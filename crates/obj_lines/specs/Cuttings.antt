@@ -7,6 +7,7 @@ use Rattle.obj_lines.specs.declared.state.LineState.TheVariants as states
 use Rattle.obj_lines.specs.Text.{until, lines, content}
 use Rattle.obj_lines.specs.Feeding.{Feeding, begun, is_line, open_line, last_line, end_state}
 use Rattle.obj_lines.specs.Feeding.{fed_state, fed_used, fed, finished, number}
+use Rattle.pm_io.specs.Letters.{line_feed}
 
 -- A line as it comes out: its number from 1, and what is read of it.
 pub record Line : Type 0 where
@@ -16,7 +17,8 @@ pub record Line : Type 0 where
 -- These lines as they come out, the first of which has the number n.
 abbrev pub numbered : ℕ → List (List ℕ) → List Line
 numbered n [] = []
-numbered n (l ∷ ls) = record { number = n; text = content (until 10 l) } ∷ numbered (n + 1) ls
+numbered n (l ∷ ls) =
+    record { number = n; text = content (until line_feed l) } ∷ numbered (n + 1) ls
 
 -- The last whole line.
 abbrev pub line_out : Feeding → Line
@@ -46,7 +48,7 @@ AnyCutting = (pieces : List (List ℕ)) (ls : List Line) (g : Feeding) → Feeds
 
 -- A line has no more bytes before its LF than a line may have.
 abbrev pub IsShort : List ℕ → Type 0
-IsShort l = length (until 10 l) ≤ MOST_LINE_BYTES
+IsShort l = length (until line_feed l) ≤ MOST_LINE_BYTES
 
 -- Of the lines of the bytes, those came out that stand before the first with too many bytes, which
 -- has the number n.
@@ -57,7 +59,7 @@ pub record LinesStopAt (out : List Line) (n : ℕ) (bytes : List ℕ) : Type 0 w
   pub are : lines bytes ≡ before ++ long ∷ more
   pub came : out ≡ numbered 1 before
   pub short : All IsShort before
-  pub too_long : MOST_LINE_BYTES < length (until 10 long)
+  pub too_long : MOST_LINE_BYTES < length (until line_feed long)
   pub number : n ≡ length before + 1
 
 -- For any cutting, and whatever bytes follow, a line that is told to be too long is the first such

@@ -5,6 +5,7 @@ use Rattle.obj_lines.specs.declared.limits.TheConstants.{MOST_LINE_BYTES}
 use Rattle.obj_lines.specs.declared.state.LineState.{LineState}
 use Rattle.obj_lines.specs.declared.state.LineState.TheVariants as states
 use Rattle.obj_lines.specs.Text.{until, content, is_continued}
+use Rattle.pm_io.specs.Letters.{line_feed}
 
 -- The bytes of the open line, or of the last whole line where the last answer was that line; the
 -- last answer; how many lines were whole; how many bytes were taken.
@@ -65,17 +66,17 @@ line_state text = if is_continued (content text) then states.Continued else stat
 
 -- The line that goes on with this piece has too many bytes before its LF.
 abbrev pub is_too_long : List ℕ → List ℕ → Bool
-is_too_long line piece = nat_lt MOST_LINE_BYTES (length line + length (until 10 piece))
+is_too_long line piece = nat_lt MOST_LINE_BYTES (length line + length (until line_feed piece))
 
 -- An LF stands in the piece.
 abbrev pub has_end : List ℕ → Bool
-has_end piece = nat_lt (length (until 10 piece)) (length piece)
+has_end piece = nat_lt (length (until line_feed piece)) (length piece)
 
 -- What comes of a piece after the open line.
 unfoldable pub fed_state : List ℕ → List ℕ → LineState
 fed_state line piece =
     if is_too_long line piece then states.TooLong
-    else if has_end piece then line_state (line ++ until 10 piece)
+    else if has_end piece then line_state (line ++ until line_feed piece)
     else states.Partial
 
 -- How many bytes of the piece are taken: up to the first byte too many of the line, up to the LF,
@@ -83,7 +84,7 @@ fed_state line piece =
 unfoldable pub fed_used : List ℕ → List ℕ → ℕ
 fed_used line piece =
     if is_too_long line piece then MOST_LINE_BYTES + 1 - length line
-    else if has_end piece then length (until 10 piece) + 1
+    else if has_end piece then length (until line_feed piece) + 1
     else length piece
 
 -- What the end of input makes of the open line.
@@ -97,7 +98,9 @@ counted state whole = if is_line state then whole + 1 else whole
 -- A piece was fed.
 unfoldable pub fed : Feeding → List ℕ → Feeding
 fed f piece = record {
-  text = if is_too_long (open_line f) piece then open_line f else open_line f ++ until 10 piece;
+  text =
+      if is_too_long (open_line f) piece then open_line f
+      else open_line f ++ until line_feed piece;
   state = fed_state (open_line f) piece;
   whole = counted (fed_state (open_line f) piece) f.whole;
   taken = f.taken + fed_used (open_line f) piece;

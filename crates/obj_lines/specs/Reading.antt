@@ -8,6 +8,7 @@ use Rattle.obj_lines.specs.declared.step.Progress.{Progress}
 use Rattle.obj_lines.specs.Text.{until, lines}
 use Rattle.obj_lines.specs.Feeding.{Feeding, is_going, open_line}
 use Rattle.obj_lines.specs.Rules.{Rules, SoFar, reading, text_read}
+use Rattle.pm_io.specs.Letters.{line_feed}
 
 -- What the lines before the open one gave.
 abbrev pub so_far : {H : Type 0} → Progress → H → SoFar H
@@ -33,7 +34,7 @@ IsReading r h whole window left p now f =
 -- What holds between two steps of the reading.
 pub record IsBetween (f : Feeding) (p : Progress) : Type 0 where
   pub going : is_going f.state ≡ true
-  pub clean : until 10 (open_line f) ≡ open_line f
+  pub clean : until line_feed (open_line f) ≡ open_line f
   pub short : length (open_line f) ≤ MOST_LINE_BYTES
   pub at : p.start + length (open_line f) ≡ p.taken
   pub counted : f.taken ≡ p.taken

@@ -5,6 +5,7 @@ use Rattle.obj_lines.specs.declared.limits.TheConstants.{MOST_LINE_BYTES, MOST_T
 use Rattle.obj_lines.specs.declared.fault.LineFault.{LineFault}
 use Rattle.obj_lines.specs.Text.{until, lines}
 use Rattle.obj_lines.specs.Feeding.{has_end}
+use Rattle.pm_io.specs.Letters.{line_feed}
 
 -- What is held after the line with this number, which stands here without its LF, or its fault;
 -- what is wrong at the end, where the next line would have this number; and what is wrong with a
@@ -39,7 +40,7 @@ is_past bytes length = nat_lt MOST_TEXT_BYTES (bytes + min length (MOST_LINE_BYT
 
 -- The line has too many bytes before its LF.
 abbrev pub is_long : List ℕ → Bool
-is_long line = nat_lt MOST_LINE_BYTES (length (until 10 line))
+is_long line = nat_lt MOST_LINE_BYTES (length (until line_feed line))
 
 -- The number from 1 of the byte that shows a line's fault, after so many bytes: the one too many in
 -- the text or in the line, else the line's LF. The end of input shows it where there is none.
@@ -55,7 +56,7 @@ unfoldable pub judged : {H F : Type 0} → Rules H F → SoFar H → List ℕ �
 judged r s line =
     if is_past s.bytes (length line) then Err (record { fault = r.too_many; line = s.number })
     else if is_long line then Err (record { fault = r.too_long; line = s.number })
-    else r.take s.number s.held (until 10 line)
+    else r.take s.number s.held (until line_feed line)
 
 -- After one line more.
 abbrev pub and_line : {H : Type 0} → SoFar H → List ℕ → H → SoFar H

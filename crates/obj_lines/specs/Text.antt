@@ -1,8 +1,8 @@
--- The lines of a text, and what is read of a line. Byte 10 is LF, 13 is CR, 35 is `#`, and 92 is a
--- backslash.
+-- The lines of a text, and what is read of a line.
 use Rattle.std.specs.Prelude.{ℕ, ◌-◌, List, [], ◌∷◌, Bool, ◌==◌, length, take, slice_index_or}
 use Rattle.std.specs.Prelude.{if◌then◌else◌}
 use Rattle.pm_io.specs.Bytes.{onto}
+use Rattle.pm_io.specs.Letters.{line_feed, carriage_return, hash_sign, backslash}
 
 -- The bytes before the first that is this one.
 abbrev pub until : ℕ → List ℕ → List ℕ
@@ -12,7 +12,7 @@ until stop (b ∷ bs) = if b == stop then [] else b ∷ until stop bs
 -- The lines of the bytes, each with its LF. What follows the last LF is a line if it isn't empty.
 abbrev pub lines : List ℕ → List (List ℕ)
 lines [] = []
-lines (b ∷ bs) = if b == 10 then (10 ∷ []) ∷ lines bs else onto b (lines bs)
+lines (b ∷ bs) = if b == line_feed then (line_feed ∷ []) ∷ lines bs else onto b (lines bs)
 
 -- The last byte is this one, which isn't 0.
 abbrev pub ends_with : ℕ → List ℕ → Bool
@@ -20,12 +20,12 @@ ends_with b bytes = slice_index_or bytes (length bytes - 1) 0 == b
 
 -- Without one CR at the end.
 unfoldable pub without_cr : List ℕ → List ℕ
-without_cr bytes = if ends_with 13 bytes then take (length bytes - 1) bytes else bytes
+without_cr bytes = if ends_with carriage_return bytes then take (length bytes - 1) bytes else bytes
 
 -- What is read of a line that stands here without its LF: no CR at its end, and no comment.
 unfoldable pub content : List ℕ → List ℕ
-content text = until 35 (without_cr text)
+content text = until hash_sign (without_cr text)
 
 -- A backslash is the last byte.
 unfoldable pub is_continued : List ℕ → Bool
-is_continued bytes = ends_with 92 bytes
+is_continued bytes = ends_with backslash bytes

@@ -1,5 +1,4 @@
--- Numbers with decimals and an exponent, rounded to whole numbers of units. A unit is 10^-18. Byte
--- 69 is `E`, and 101 is `e`.
+-- Numbers with decimals and an exponent, rounded to whole numbers of units. A unit is 10^-18.
 use Rattle.std.specs.Prelude.{◌≡◌, ℕ, ◌+◌, ◌-◌, ◌*◌, ◌/◌, ◌^◌, ◌≤◌, pos, ◌-ℤ◌, unsigned_abs, List}
 use Rattle.std.specs.Prelude.{◌++◌, Bool, not, ◌==◌, ◌&&◌, ◌||◌, nat_lt, length, drop, ℤ, Result}
 use Rattle.std.specs.Prelude.{Ok, Err, if◌then◌else◌}
@@ -9,6 +8,7 @@ use Rattle.obj_read.specs.declared.fault.ObjFault.{ObjFault}
 use Rattle.obj_read.specs.declared.fault.ObjFault.TheVariants as faults
 use Rattle.obj_read.specs.Coordinates.{is_negative, without_sign, whole_part, decimals, is_number}
 use Rattle.obj_read.specs.Coordinates.{with_sign}
+use Rattle.pm_io.specs.Letters.{capital_e, letter_e}
 
 -- The whole number nearest to n / d, halves up: half a divisor more, and then what is over is left.
 unfoldable pub nearest : ℕ → ℕ → ℕ
@@ -26,7 +26,7 @@ pub record IsNearest (n d r : ℕ) : Type 0 where
 -- Of a number without its sign: what stands before the exponent; the exponent with its letter; and
 -- without it.
 unfoldable pub mantissa : List ℕ → List ℕ
-mantissa number = until 101 (until 69 number)
+mantissa number = until letter_e (until capital_e number)
 
 unfoldable pub exponent_part : List ℕ → List ℕ
 exponent_part number = drop (length (mantissa number)) number

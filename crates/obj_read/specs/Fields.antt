@@ -1,10 +1,11 @@
--- The fields of a line. Byte 32 is a space, and 9 is a tab.
+-- The fields of a line.
 use Rattle.std.specs.Prelude.{ℕ, List, [], ◌∷◌, Bool, true, false, ◌==◌, ◌||◌, if◌then◌else◌}
 use Rattle.pm_io.specs.Bytes.{onto}
+use Rattle.pm_io.specs.Letters.{tab, space}
 
 -- A space or a tab.
 abbrev pub is_blank : ℕ → Bool
-is_blank b = b == 32 || b == 9
+is_blank b = b == space || b == tab
 
 -- No field stands at the front.
 abbrev pub begins_blank : List ℕ → Bool

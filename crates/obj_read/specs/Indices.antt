@@ -1,4 +1,4 @@
--- The index of a vertex in a field of a line. Byte 47 is `/`.
+-- The index of a vertex in a field of a line.
 use Rattle.std.specs.Prelude.{ℕ, ◌-◌, List, Bool, not, ◌==◌, ◌&&◌, ◌||◌, nat_lt, length, drop}
 use Rattle.std.specs.Prelude.{Result, Ok, Err, if◌then◌else◌}
 use Rattle.pm_io.specs.Digits.{are_digits, value}
@@ -6,10 +6,11 @@ use Rattle.obj_lines.specs.Text.{until}
 use Rattle.obj_read.specs.declared.fault.ObjFault.{ObjFault}
 use Rattle.obj_read.specs.declared.fault.ObjFault.TheVariants as faults
 use Rattle.obj_read.specs.Coordinates.{is_negative}
+use Rattle.pm_io.specs.Letters.{slash}
 
 -- What is read of the field of a corner.
 unfoldable pub index_text : List ℕ → List ℕ
-index_text field = until 47 field
+index_text field = until slash field
 
 -- An index without its minus sign.
 unfoldable pub index_digits : List ℕ → List ℕ

@@ -1,4 +1,4 @@
--- A line judged alone: what it gives, or its first fault. Byte 118 is `v`, and 102 is `f`.
+-- A line judged alone: what it gives, or its first fault.
 use Rattle.std.specs.Prelude.{ℕ, List, [], ◌∷◌, ◌==◌, ◌||◌, nat_le, Result, Ok, Err, if◌then◌else◌}
 use Rattle.pm_base.specs.declared.limits.TheConstants.{MOST_FACES, MOST_VERTICES}
 use Rattle.obj_lines.specs.Text.{is_continued}
@@ -9,6 +9,7 @@ use Rattle.obj_read.specs.declared.found.Found.TheVariants as found
 use Rattle.obj_read.specs.Fields.{fields, is_letter}
 use Rattle.obj_read.specs.Coordinates.{coordinate}
 use Rattle.obj_read.specs.Indices.{index, index_text}
+use Rattle.pm_io.specs.Letters.{letter_f, letter_v}
 
 -- The first fault, or what follows from the value.
 infixl 10 ◌>>=◌
@@ -48,8 +49,8 @@ face_line vertices faces _ = Err faults.TooFewFields
 abbrev pub fields_found : ℕ → ℕ → ℕ → List (List ℕ) → Result Found ObjFault
 fields_found digits vertices faces [] = Ok found.Nothing
 fields_found digits vertices faces (keyword ∷ more) =
-    if is_letter 118 keyword then vertex_line digits vertices more
-    else if is_letter 102 keyword then face_line vertices faces more
+    if is_letter letter_v keyword then vertex_line digits vertices more
+    else if is_letter letter_f keyword then face_line vertices faces more
     else Ok found.Nothing
 
 -- What is read of a line after so many vertices and faces, with so many decimals a coordinate.

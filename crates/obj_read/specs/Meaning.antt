@@ -9,6 +9,7 @@ use Rattle.obj_read.specs.declared.fault.ObjFault.TheVariants as faults
 use Rattle.obj_read.specs.declared.found.Found.{Found}
 use Rattle.obj_read.specs.Judged.{line_found}
 use Rattle.obj_read.specs.Fits.{with_found}
+use Rattle.pm_io.specs.Letters.{line_feed}
 
 -- How many decimals a coordinate has, and what the lines before gave: how many bytes they have, the
 -- number of the next line, and the mesh so far.
@@ -28,7 +29,9 @@ unfoldable pub read_alone : SoFar → List ℕ → Result Found ObjFault
 read_alone s line =
     if is_past s.bytes (length line) then Err faults.TooMany
     else if is_long line then Err faults.LineTooLong
-    else line_found s.digits (length s.mesh.points) (length s.mesh.faces) (content (until 10 line))
+    else
+    line_found s.digits (length s.mesh.points) (length s.mesh.faces)
+    (content (until line_feed line))
 
 -- After one line more.
 unfoldable pub and_line : SoFar → List ℕ → Found → SoFar

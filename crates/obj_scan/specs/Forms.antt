@@ -1,16 +1,16 @@
--- The form of a text: how its lines end, and how it begins. Byte 13 is CR; 239, 187 and 191 are EF
--- BB BF; 254 and 255
--- are FE and FF.
+-- The form of a text: how its lines end, and how it begins. Bytes 239, 187 and 191 are EF
+-- BB BF; 254 and 255 are FE and FF.
 use Rattle.std.specs.Prelude.{ℕ, List, [], ◌∷◌, Bool, false, ◌==◌, ◌&&◌, ◌||◌, nat_lt, length}
 use Rattle.std.specs.Prelude.{drop, slice_index_or, Option, Some, None, if◌then◌else◌}
 use Rattle.obj_lines.specs.Text.{content}
 use Rattle.obj_scan.specs.declared.fault.ScanFault.{ScanFault}
 use Rattle.obj_scan.specs.declared.fault.ScanFault.TheVariants as faults
+use Rattle.pm_io.specs.Letters.{carriage_return}
 
 -- A CR stands before another byte of the line.
 abbrev pub has_lone_return : List ℕ → Bool
 has_lone_return [] = false
-has_lone_return (b ∷ text) = b == 13 && nat_lt 0 (length text) || has_lone_return text
+has_lone_return (b ∷ text) = b == carriage_return && nat_lt 0 (length text) || has_lone_return text
 
 -- A text begins with EF BB BF, the byte order mark of UTF-8.
 unfoldable pub is_marked : List ℕ → Bool

@@ -1,5 +1,4 @@
--- A line judged alone: what it gives, or its first fault. Byte 118 is `v`, and 102 is `f`. A unit
--- is 10^-18.
+-- A line judged alone: what it gives, or its first fault. A unit is 10^-18.
 use Rattle.std.specs.Prelude.{ℕ, ◌+◌, ◌-◌, ◌^◌, ℤ, pos, Bool, true, false, not, List, [], ◌∷◌, ◌++◌}
 use Rattle.std.specs.Prelude.{nat_le, nat_lt, length, Result, Ok, Err, if◌then◌else◌}
 use Rattle.std.specs.Ordering.{int_eq}
@@ -14,6 +13,7 @@ use Rattle.obj_read.specs.Judged.{◌>>=◌}
 use Rattle.obj_prepare.specs.Numbers.{decimal_coordinate}
 use Rattle.pm_ears.specs.declared.recut.Polygon.{Polygon}
 use Rattle.obj_scan.specs.Polygons.{triangles}
+use Rattle.pm_io.specs.Letters.{letter_f, letter_v}
 
 -- What the lines so far gave: points in units of 10^-18, triangles, where those of each face of
 -- more than three corners begin and how many they are, and how many vertices have a weight.
@@ -73,8 +73,8 @@ polygon_line vertices faces _ = Err faults.TooFewFields
 abbrev pub scanned_fields : ℕ → ℕ → List (List ℕ) → Result Found ObjFault
 scanned_fields vertices faces [] = Ok nothing
 scanned_fields vertices faces (keyword ∷ more) =
-    if is_letter 118 keyword then scanned_vertex_line vertices more
-    else if is_letter 102 keyword then polygon_line vertices faces more
+    if is_letter letter_v keyword then scanned_vertex_line vertices more
+    else if is_letter letter_f keyword then polygon_line vertices faces more
     else Ok nothing
 
 -- What is read of a line after so many vertices and triangles.

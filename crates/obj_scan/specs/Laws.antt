@@ -15,6 +15,7 @@ use Rattle.obj_scan.specs.Forms.{has_lone_return, is_marked, is_wide}
 use Rattle.obj_scan.specs.Judged.{Scanned}
 use Rattle.obj_scan.specs.Refusals.{Refused}
 use Rattle.obj_scan.specs.Meaning.{scan_meaning_of}
+use Rattle.pm_io.specs.Letters.{line_feed, carriage_return, hash_sign}
 
 -- A whole number in units.
 abbrev pub in_units : ℤ → ℤ
@@ -45,7 +46,7 @@ weights_in (Err r) = 0
 
 -- No line of a text has a CR that doesn't end it, and no byte order mark stands before the first.
 pub record IsFormed (bytes : List ℕ) : Type 0 where
-  pub ended : list_all (λ line. not (has_lone_return (until 10 line))) (lines bytes) ≡ true
+  pub ended : list_all (λ line. not (has_lone_return (until line_feed line))) (lines bytes) ≡ true
   pub unmarked : is_marked bytes ≡ false
   pub narrow : is_wide bytes ≡ false
 
@@ -63,6 +64,7 @@ ReadIsScanned = (bytes : List ℕ) (m : Mesh) → IsFormed bytes → mesh_meanin
 
 -- So is the canonical text of a mesh after a comment without a CR.
 abbrev pub CommentedIsScanned : Type 0
-CommentedIsScanned = (line : List ℕ) (m : Mesh) → until 10 line ≡ line → until 13 line ≡ line
+CommentedIsScanned = (line : List ℕ) (m : Mesh) → until line_feed line ≡ line
+    → until carriage_return line ≡ line
     → length line < MOST_LINE_BYTES → IsWellFormed m → All IsPlace m.points
-    → scan_meaning_of ((35 ∷ line) ++ 10 ∷ canonical_text 0 m) ≡ Ok (scanned_mesh m)
+    → scan_meaning_of ((hash_sign ∷ line) ++ line_feed ∷ canonical_text 0 m) ≡ Ok (scanned_mesh m)

@@ -16,6 +16,7 @@ use Rattle.obj_scan.specs.declared.fault.ScanFault.TheVariants as faults
 use Rattle.obj_scan.specs.Forms.{line_content, form_fault}
 use Rattle.obj_scan.specs.Refusals.{Refused}
 use Rattle.obj_scan.specs.Judged.{Scanned, Found, scanned_line, with_scanned}
+use Rattle.pm_io.specs.Letters.{line_feed, space}
 
 -- What the lines before gave: how many bytes they have, the number of the next line, how many of
 -- them it continues and what these say, and the points and triangles so far.
@@ -28,7 +29,7 @@ pub record ScannedSoFar : Type 0 where
 
 -- What stands here of the line and of those that it continues.
 unfoldable pub joined_text : ScannedSoFar → List ℕ → List ℕ
-joined_text s line = s.begun ++ line_content s.number (until 10 line)
+joined_text s line = s.begun ++ line_content s.number (until line_feed line)
 
 -- The first line of those that go together.
 abbrev pub first_number : ScannedSoFar → ℕ
@@ -40,7 +41,7 @@ and_continued s line = record {
   bytes = s.bytes + length line;
   number = s.number + 1;
   continued = s.continued + 1;
-  begun = take (length (joined_text s line) - 1) (joined_text s line) ++ 32 ∷ [];
+  begun = take (length (joined_text s line) - 1) (joined_text s line) ++ space ∷ [];
   scanned = s.scanned;
 }
 
@@ -77,7 +78,7 @@ judged_length s line =
       line = s.number;
       place = place s.bytes line;
     })
-    else or_refused (form_fault s.number (until 10 line)) s line
+    else or_refused (form_fault s.number (until line_feed line)) s line
     (if nat_lt MOST_LINE_BYTES (length (joined_text s line)) then Some
     (record {
       fault = faults.Line line_faults.LineTooLong;
@@ -92,7 +93,7 @@ then_found (Err e) s line = Err e
 -- A line judged after those before it: what they give together, or the first fault.
 unfoldable pub line_judged : ScannedSoFar → List ℕ → Result ScannedSoFar ObjFault
 line_judged s line =
-    if is_continued (line_content s.number (until 10 line)) then Ok (and_continued s line)
+    if is_continued (line_content s.number (until line_feed line)) then Ok (and_continued s line)
     else then_found
     (scanned_line (length s.scanned.points) (length s.scanned.faces) (joined_text s line)) s
     line

@@ -14,6 +14,7 @@ use Rattle.obj_scan.specs.Forms.{line_content, form_fault}
 use Rattle.obj_scan.specs.Judged.{Scanned, Found, scanned_line, with_scanned}
 use Rattle.obj_scan.specs.Meaning.{IsWithinLimits}
 use Rattle.obj_scan.specs.Fails.{scanned_of}
+use Rattle.pm_io.specs.Letters.{space}
 
 -- What is held between two lines: how many lines the next one continues, what these say, and what
 -- all lines gave.
@@ -56,7 +57,7 @@ taken h text =
     Ok (record {
       continued = h.continued + 1;
       begun =
-          take (length (h.begun ++ text) - 1) (h.begun ++ text) ++ 32 ∷ [];
+          take (length (h.begun ++ text) - 1) (h.begun ++ text) ++ space ∷ [];
       scanned = h.scanned;
     })
     else ended (scanned_after h.scanned (h.begun ++ text))

@@ -1,5 +1,4 @@
--- The fields that spell a view. They are separated by exactly one space, which is byte 32; byte 45
--- is a `-`.
+-- The fields that spell a view. They are separated by exactly one space.
 use Rattle.std.specs.Prelude.{ℕ, zero, suc, ℤ, pos, neg_ℤ, List, [], ◌∷◌, ◌==◌, Option, Some, None}
 use Rattle.std.specs.Prelude.{if◌then◌else◌}
 use Rattle.std.specs.Option.{option_map, option_and_then}
@@ -15,11 +14,12 @@ use Rattle.pm_view.specs.declared.fields.ViewKind.TheVariants as kinds
 use Rattle.pm_view.specs.declared.measure.Measure.TheVariants as measures
 use Rattle.pm_view.specs.Views.{View}
 use Rattle.pm_io.specs.Bytes.{onto}
+use Rattle.pm_io.specs.Letters.{space, minus_sign}
 
 -- The text cut at each space: n spaces make n + 1 fields, and some of them may be empty.
 abbrev pub spaced_fields : List ℕ → List (List ℕ)
 spaced_fields [] = [] ∷ []
-spaced_fields (b ∷ bs) = if b == 32 then [] ∷ spaced_fields bs else onto b (spaced_fields bs)
+spaced_fields (b ∷ bs) = if b == space then [] ∷ spaced_fields bs else onto b (spaced_fields bs)
 
 -- A number below 0, by what follows its sign: it isn't `-0`.
 abbrev pub negative : ℕ → Option ℤ
@@ -29,7 +29,7 @@ negative n = if n == 0 then None else Some (neg_ℤ (pos n))
 -- `-` that isn't 0.
 unfoldable pub signed_of : ℕ → List ℕ → Option ℤ
 signed_of most [] = None
-signed_of most (b ∷ bs) = if b == 45 then option_and_then negative (unsigned_of most bs)
+signed_of most (b ∷ bs) = if b == minus_sign then option_and_then negative (unsigned_of most bs)
     else option_map pos (unsigned_of most (b ∷ bs))
 
 -- The eye that three fields spell.
