@@ -8,7 +8,7 @@ ghost use Rattle.pm_forest.specs.Forest.{node_count, record_count, s_of};
 ghost use Rattle.pm_forest.specs.Faces.{face_count, first_face, inner_of, revealed_by};
 ghost use Rattle.pm_forest.specs.Rules.{HasShape};
 ghost use Rattle.pm_beyond.specs.Walks.{across, number_of, mate_of, expected};
-ghost use Rattle.pm_sides.specs.Tables.{AreFirstFaces, AreSplitNodes};
+ghost use Rattle.pm_sides.specs.Tables.{AreFirstFaces, AreSplitNodes, AreInnerCorners};
 
 use crate::OutOfMemory;
 use crate::inner::{inner_corners, is_left};
@@ -22,10 +22,7 @@ use std::marker::Model;
 #[derive(Drop)]
 pub struct IndexedHierarchy {
     hierarchy: Hierarchy,
-    first_faces: Vec<u32>,
-    split_nodes: Vec<u32>,
-    // The corner at which the inner side of each face begins: one byte a face.
-    inner_corners: Vec<u8>,
+    tables: Tables,
 }
 
 impl Model for IndexedHierarchy {
@@ -36,8 +33,37 @@ impl Model for IndexedHierarchy {
 
     ghost view = { λ i. i.hierarchy };
 
-    ghost invariant = { λ i. IsIndexed i.hierarchy i.first_faces.items i.split_nodes.items
-        i.inner_corners.items };
+    ghost invariant = { λ i. IsIndexed i.hierarchy i.tables.first_faces.items
+        i.tables.split_nodes.items i.tables.inner_corners.items };
+}
+
+// What is found of a hierarchy: the first face of each record, the node that it splits, and the
+// corner at which the inner side of each face begins, which is one byte a face.
+#[derive(Drop)]
+struct Tables {
+    first_faces: Vec<u32>,
+    split_nodes: Vec<u32>,
+    inner_corners: Vec<u8>,
+}
+
+impl Tables {
+    fn of(alloc: Global, h: &Hierarchy) -> Result<Tables, OutOfMemory>
+        ensures firsts { IfOk result
+            (λ t. AreFirstFaces h.now (record_count h.now) t.first_faces.items) }
+        ensures splits { IfOk result
+            (λ t. AreSplitNodes h.now (record_count h.now) t.split_nodes.items) }
+        ensures inners { IfOk result
+            (λ t. AreInnerCorners h.now (face_count h.now) t.inner_corners.items) }
+    {
+        let first_faces = first_faces(alloc, h)?;
+        let split_nodes = split_nodes(alloc, h)?;
+        let inner_corners = inner_corners(alloc, h, &first_faces)?;
+        Ok(Tables {
+            first_faces,
+            split_nodes,
+            inner_corners,
+        })
+    }
 }
 
 // How many faces a record brings in.
@@ -81,22 +107,15 @@ impl IndexedHierarchy {
         ensures { IfOk result (λ i. i ≡ hierarchy) }
     {
         hierarchy.invariant();
-        let first_faces = first_faces(alloc, &hierarchy)?;
-        let split_nodes = split_nodes(alloc, &hierarchy)?;
-        let inner_corners = inner_corners(alloc, &hierarchy, &first_faces)?;
-        Ok(IndexedHierarchy {
-            hierarchy,
-            first_faces,
-            split_nodes,
-            inner_corners,
-        })
+        let tables = Tables::of(alloc, &hierarchy)?;
+        Ok(IndexedHierarchy { hierarchy, tables })
     }
 
     /// The hierarchy has the right shape.
     pub fn invariant(&self)
         ensures { HasShape self.now }
     {
-        let _ = &self.first_faces;
+        let _ = &self.tables.first_faces;
     }
 
     /// The hierarchy that was indexed.
@@ -120,7 +139,7 @@ impl IndexedHierarchy {
         ensures value { result ≡ first_face self.now k }
         ensures few { result ≤ MOST_FACES }
     {
-        self.first_faces[k as usize]
+        self.tables.first_faces[k as usize]
     }
 
     /// The node that record `k` splits. O(1).
@@ -130,7 +149,7 @@ impl IndexedHierarchy {
         ensures value { result.0 ≡ s_of self.now k }
         ensures there { result.0 < node_count self.now }
     {
-        NodeId(self.split_nodes[k as usize])
+        NodeId(self.tables.split_nodes[k as usize])
     }
 
     /// The first face after those of record `k`. O(1).
@@ -158,7 +177,7 @@ impl IndexedHierarchy {
         ensures face_is { face_of result.0 ≡ face.0 }
         ensures few { result.0 < MOST_SIDES }
     {
-        face.side(u32::from(self.inner_corners[face.0 as usize]))
+        face.side(u32::from(self.tables.inner_corners[face.0 as usize]))
     }
 
     /// From one outer side of a record's face to the other. None for an inner side, and for one of
@@ -193,7 +212,7 @@ impl IndexedHierarchy {
             return None;
         }
         let first = self.first_face(k);
-        let other = FaceId(if is_left(&self.hierarchy, &self.first_faces, k, face) {
+        let other = FaceId(if is_left(&self.hierarchy, &self.tables.first_faces, k, face) {
             first + 1
         } else {
             first
@@ -216,7 +235,7 @@ impl IndexedHierarchy {
             return self.mate(k, face);
         }
         let change = self.hierarchy.record_at(k);
-        let told = if is_left(&self.hierarchy, &self.first_faces, k, face) {
+        let told = if is_left(&self.hierarchy, &self.tables.first_faces, k, face) {
             change.left
         } else {
             change.right
