@@ -2,5 +2,6 @@ pub mod Expansion
 pub mod PlaneBounds
 pub mod SumsBounds
 pub mod QuadricLaws
-mod Words
-mod ReadBack
+pub mod Words
+pub mod ReadBack
+pub mod Evaluated

@@ -1,10 +1,9 @@
 -- Machine integers at 128 bits, which goals show as bits that are read back.
 use Rattle.std.proofs.Common.{◌≡◌, ℕ, ◌*◌, ◌^◌, ◌≤◌, FitsSigned, to_z, of_z, ap, ◌∙◌, arith, lit<}
-use Rattle.std.proofs.lemmas.Grind.{common_steps}
 use mir.Syntax.{w128}
 use Rattle.std.specs.Prelude.{ℤ, ◌+ℤ◌, ◌*ℤ◌, unsigned_abs}
 use Rattle.std.proofs.lemmas.Nat.{mul-le}
-use Rattle.std.proofs.lemmas.Int.{fits_signed_from_abs, to_z-of_z, unsigned_abs-mul}
+use Rattle.std.proofs.lemmas.Int.{to_z-of_z, unsigned_abs-mul}
 use Rattle.pm_base.proofs.Squares.{abs_plus}
 use Rattle.pm_base.proofs.Range.{fits_abs}
 
@@ -12,6 +11,11 @@ use Rattle.pm_base.proofs.Range.{fits_abs}
 pub abs_read : (r v : ℤ) (n : ℕ) → FitsSigned w128 r → n ≡ unsigned_abs (to_z w128 (of_z w128 r))
     → r ≡ v → n ≡ unsigned_abs v
 abs_read r v n f e p = e ∙ ap unsigned_abs (to_z-of_z w128 r f ∙ p)
+
+-- A number that is far from the bound of 128 bits.
+pub read_small : (x : ℤ) (m : ℕ) → unsigned_abs x ≤ m → m ≤ 2 ^ 125
+    → unsigned_abs (to_z w128 (of_z w128 x)) ≤ m
+read_small x m p q = let f = fits_abs x m p (omega arith) in simp to_z-of_z p
 
 -- A product.
 pub at_most_product : (a b m n k : ℕ) → a ≤ m → b ≤ n → m * n ≤ k → a * b ≤ k
@@ -44,6 +48,21 @@ times_small a b fa fb h = rw (times_is a b fa fb h) (product_at_most a b (2 ^ 12
 abbrev pub sum_read : ℤ → ℤ → ℤ
 sum_read a b = to_z w128 (of_z w128 (to_z w128 (of_z w128 a) +ℤ to_z w128 (of_z w128 b)))
 
+sum_small : (a b : ℤ) (m : ℕ) → unsigned_abs a ≤ m → unsigned_abs b ≤ m → m ≤ 2 ^ 125
+    → FitsSigned w128 (a +ℤ b)
+sum_small a b m p q r = fits_abs (a +ℤ b) (2 * m) (omega (arith, abs_plus a b)) (omega arith)
+
+pub sum_fits : (a b : ℤ) (m : ℕ) → unsigned_abs a ≤ m → unsigned_abs b ≤ m → m ≤ 2 ^ 125
+    → FitsSigned w128 (to_z w128 (of_z w128 a) +ℤ to_z w128 (of_z w128 b))
+sum_fits a b m p q r =
+    let fa = fits_abs a m p (omega arith) in
+    let fb = fits_abs b m q (omega arith) in
+    simp to_z-of_z (sum_small a b m p q r)
+
 pub sum_is : (a b : ℤ) (m : ℕ) → unsigned_abs a ≤ m → unsigned_abs b ≤ m → m ≤ 2 ^ 125
     → sum_read a b ≡ a +ℤ b
-sum_is a b m p q r = grind (arith, common_steps, abs_plus, fits_signed_from_abs, to_z-of_z)
+sum_is a b m p q r =
+    let fa = fits_abs a m p (omega arith) in
+    let fb = fits_abs b m q (omega arith) in
+    let fs = sum_small a b m p q r in
+    simp to_z-of_z
