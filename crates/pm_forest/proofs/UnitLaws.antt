@@ -1,5 +1,5 @@
 -- What it means that a unit has no fault.
-use Rattle.std.proofs.Common.{◌≡◌, ◌≢◌, ℕ, zero, suc, ◌+◌, ◌-◌, ◌<◌, ◌≤◌, Bool, true}
+use Rattle.std.proofs.Common.{◌≡◌, ◌≢◌, ℕ, zero, suc, ◌+◌, ◌<◌, ◌≤◌, Bool, true}
 use Rattle.std.proofs.lemmas.Grind.{common_steps}
 use Rattle.std.proofs.Common.{false, cond, List, [], ◌∷◌, ◌++◌, length, sum}
 use Rattle.std.proofs.Common.{get_or, take, All, Option, None, Some, is_some, refl, subst}

@@ -59,6 +59,16 @@ impl Model for Growing {
     }) };
 }
 
+// An empty list that has room for `most` items.
+pub fn list_with_room<T: Copy>(alloc: Global, most: usize) -> Result<Items<T>, OutOfMemory>
+    ensures items { IfOk result (λ list. list.items ≡ []) }
+    ensures room { IfOk result (λ list. most ≤ list.spare) }
+{
+    let mut list = Items::new(alloc);
+    list.reserve(most)?;
+    Ok(list)
+}
+
 // Tables of `most` cells. The length is a parameter, so that no proof unfolds the list.
 fn no_intervals(alloc: Global, most: usize) -> Result<Vec<(u32, u32)>, OutOfMemory>
     ensures { IfOk result (λ v. v.items ≡ replicate most (0, 0)) }
@@ -136,26 +146,19 @@ impl Growing {
     {
         let nodes = counts.roots as usize + 2 * counts.records as usize;
         let faces = (counts.bases as usize + 2 * counts.records as usize).min(MOST_FACES as usize);
-        let mut growing = Growing {
+        Ok(Growing {
             counts,
-            roots: Roots::new(alloc),
-            bases: FaceList::new(alloc),
-            records: Records::new(alloc),
+            roots: list_with_room(alloc, counts.roots as usize)?,
+            bases: list_with_room(alloc, counts.bases as usize)?,
+            records: list_with_room(alloc, counts.records as usize)?,
             coming: None,
-            owners: Items::new(alloc),
+            owners: list_with_room(alloc, counts.leaves as usize)?,
             intervals: no_intervals(alloc, nodes)?,
             splitters: no_splitters(alloc, nodes)?,
             leaf_nodes: no_nodes(alloc, counts.leaves as usize)?,
-            faces: FaceList::new(alloc),
-            revealed: Items::new(alloc),
-        };
-        growing.roots.reserve(counts.roots as usize)?;
-        growing.bases.reserve(counts.bases as usize)?;
-        growing.records.reserve(counts.records as usize)?;
-        growing.owners.reserve(counts.leaves as usize)?;
-        growing.faces.reserve(faces)?;
-        growing.revealed.reserve(faces)?;
-        Ok(growing)
+            faces: list_with_room(alloc, faces)?,
+            revealed: list_with_room(alloc, faces)?,
+        })
     }
 
     /// Takes the next root in. It takes as many steps as the root has leaves.

@@ -20,7 +20,7 @@ ghost use Rattle.pm_forest.specs.Meshes.{
   input_mesh_of,
 };
 
-use crate::growing::no_nodes;
+use crate::growing::{list_with_room, no_nodes};
 use crate::{Face, Hierarchy, OutOfMemory};
 use pm_base::{Corners, FaceId, Items, Mesh, NodeId, Points, Triples};
 use std::alloc::Global;
@@ -70,8 +70,7 @@ fn leaf_points(h: &Hierarchy, alloc: Global) -> Result<Points, OutOfMemory>
     ensures { IfOk result
         (λ points. points.items ≡ map (leaf_place h.now) (range_with_len 0 (leaf_count h.now))) }
 {
-    let mut points = Points::new(alloc);
-    points.reserve(h.leaves() as usize)?;
+    let mut points = list_with_room(alloc, h.leaves() as usize)?;
     for leaf in 0..h.leaves() {
         points.push_within_room(h.place(h.leaf_node(leaf)));
     }
@@ -82,8 +81,7 @@ fn leaf_points(h: &Hierarchy, alloc: Global) -> Result<Points, OutOfMemory>
 fn leaf_faces(h: &Hierarchy, alloc: Global) -> Result<Triples, OutOfMemory>
     ensures { IfOk result (λ faces. faces.items ≡ map leaf_corners (faces_of h.now)) }
 {
-    let mut faces = Triples::new(alloc);
-    faces.reserve(h.faces() as usize)?;
+    let mut faces = list_with_room(alloc, h.faces() as usize)?;
     for f in 0..h.faces() {
         let Face { a, b, c, .. } = h.face_at(FaceId(f));
         faces.push_within_room(Corners { a, b, c });
@@ -96,8 +94,7 @@ fn leaf_faces(h: &Hierarchy, alloc: Global) -> Result<Triples, OutOfMemory>
 fn vertices_by_leaf(h: &Hierarchy, alloc: Global) -> Result<Items<u32>, OutOfMemory>
     ensures { IfOk result (λ vertices. AreInputVertices h.now vertices.items) }
 {
-    let mut vertices = Items::new(alloc);
-    vertices.reserve(h.leaves() as usize)?;
+    let mut vertices = list_with_room(alloc, h.leaves() as usize)?;
     for leaf in 0..h.leaves() {
         vertices.push_within_room(leaf_input(h, leaf) - 1);
     }
@@ -152,8 +149,7 @@ fn input_points(h: &Hierarchy, vertices: &[u32], alloc: Global) -> Result<Points
         (λ points. points.items ≡ map (input_place h.now) (range_with_len 0 (leaf_count h.now))) }
 {
     let leaves = leaves_by_input(h, vertices, alloc)?;
-    let mut points = Points::new(alloc);
-    points.reserve(leaves.len())?;
+    let mut points = list_with_room(alloc, leaves.len())?;
     for i in 0..leaves.len() {
         points.push_within_room(h.place(h.leaf_node(leaves[i])));
     }
@@ -183,8 +179,7 @@ fn input_faces(h: &Hierarchy, vertices: &[u32], alloc: Global) -> Result<Triples
         (λ faces. faces.items ≡ map (input_face h.now) (range_with_len 0 (face_count h.now))) }
 {
     let numbers = faces_by_input(h, alloc)?;
-    let mut faces = Triples::new(alloc);
-    faces.reserve(numbers.len())?;
+    let mut faces = list_with_room(alloc, numbers.len())?;
     for i in 0..numbers.len() {
         faces.push_within_room(input_corners(h, vertices, numbers[i]));
     }

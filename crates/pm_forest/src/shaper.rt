@@ -50,9 +50,9 @@ fn new_shaper(alloc: Global, counts: Counts) -> Result<Shaper, OutOfMemory>
     requires { counts_are_bad counts ≡ false }
     ensures { IfOk result (λ s. s ≡ nothing_in counts) }
 {
-    let forest = Growing::new(alloc, counts)?;
     let vertices_seen = unmarked(alloc, counts.leaves)?;
     let faces_seen = unmarked(alloc, MOST_FACES)?;
+    let forest = Growing::new(alloc, counts)?;
     Ok(Shaper {
         forest,
         left_due: false,
@@ -241,10 +241,10 @@ impl Shaper {
         ensures fault { IfErr result (λ e. past_fault self.h ≡ Some e) }
         ensures whole { IfOk result (λ h. h ≡ self.h) }
     {
-        if let Some(fault) = past_fault(&self.forest) {
-            return Err(fault);
-        }
         let Shaper { forest, .. } = self;
-        Ok(Hierarchy::new(forest))
+        match past_fault(&forest) {
+            Some(fault) => Err(fault),
+            None => Ok(Hierarchy::new(forest)),
+        }
     }
 }

@@ -24,4 +24,4 @@ new-requires-clause-shape c =
     counts_complete s.forest s.left_due s.right_due s.vertices_seen.items s.faces_seen.items
     c.self.invariant at.0 at.1 at.2 at.3 in
     shaped s.forest s.left_due s.right_due s.vertices_seen.items s.faces_seen.items c.self.invariant
-    counts (c.past_fault.ensures ∙ c.in_default.is)
+    counts (c.past_fault.ensures ∙ c.in-None.is)
