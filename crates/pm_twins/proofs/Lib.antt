@@ -5,8 +5,7 @@ pub mod Readers
 pub mod Decision
 pub mod Noted
 pub mod MeshLaws
-pub mod RowLaws
-pub mod RowFilling
+pub mod ListLaws
 pub mod StampLaws
 pub mod PairLaws
 pub mod RepeatLaws

@@ -17,7 +17,7 @@ use Rattle.pm_base.proofs.FanLaws.{unused_fan}
 use Rattle.pm_twins.specs.declared.fans.Vertex.{Vertex}
 use Rattle.pm_twins.specs.Walks.{begins_at, degree, IsStart, with_side, first_given, no_vertex}
 use Rattle.pm_twins.specs.Walks.{StartsSoFar, IsKnown}
-use Rattle.pm_twins.specs.SideRows.{IsWhole}
+use Rattle.pm_twins.specs.Whole.{IsWhole}
 
 pub known_none : (m : Net) (v : ℕ) → IsKnown m 0 v no_vertex
 known_none m v =

@@ -1,22 +1,21 @@
--- The sides that leave one vertex are stamped one by one.
-use Rattle.std.proofs.Common.{◌≡◌, ◌≢◌, ℕ, ◌+◌, ◌<◌, ◌≤◌, eqb, min, max, true, false, Option}
-use Rattle.std.proofs.Common.{Some, None, List, [], ◌∷◌, length, drop, slice_index_or, ◌⊎◌, inl}
+-- The sides that arrive at one vertex are stamped one by one.
+use Rattle.std.proofs.Common.{◌≡◌, ◌≢◌, ℕ, ◌+◌, ◌<◌, ◌≤◌, eqb, min, max, Option}
+use Rattle.std.proofs.Common.{Some, None, length, slice_index_or, ◌⊎◌, inl}
 use Rattle.std.proofs.Common.{inr}
 use Rattle.std.proofs.Common.{refl, sym, ap, ◌∙◌, subst, arith}
 use Rattle.std.specs.Option.{IfSome, option_map}
 use Rattle.std.proofs.Math.ListN.{set}
-use Rattle.std.proofs.lemmas.Bool.{cases_eq, cases_lt, cond-true, cond-false, eqb-true, eq-eqb}
-use Rattle.std.proofs.lemmas.Bool.{ne_eqb, or_cases, or_parts, false≢true}
-use Rattle.std.proofs.lemmas.List.{get_or-set_same, get_or-set_other, drop_all}
+use Rattle.std.proofs.lemmas.Bool.{cases_eq, cases_lt, cond-true, cond-false, eq-eqb}
+use Rattle.std.proofs.lemmas.Bool.{ne_eqb}
+use Rattle.std.proofs.lemmas.List.{get_or-set_same, get_or-set_other}
 use Rattle.std.proofs.lemmas.Option.{none-some, same_Some}
 use Rattle.pm_base.specs.declared.ids.Side.{Side}
-use Rattle.pm_base.specs.Sides.{Net, side_count, to}
-use Rattle.pm_links.specs.Lists.{has, IsOnce}
-use Rattle.pm_links.proofs.Members.{has_head, has_tail}
+use Rattle.pm_base.specs.Sides.{Net, side_count, next, prev, to, third}
+use Rattle.pm_base.proofs.Sides.{next-lt, next-next-next}
 use Rattle.pm_twins.specs.declared.stamps.TheConstants.{NOWHERE}
-use Rattle.pm_twins.specs.SideRows.{Rows, row_at, AreRows}
-use Rattle.pm_twins.proofs.RowLaws.{left_next}
-use Rattle.pm_twins.specs.Stamping.{no_stamp, side_from, stamped, in_order, lesser_of}
+use Rattle.pm_twins.specs.SideLists.{last_from}
+use Rattle.pm_twins.proofs.ListLaws.{past, walk_low, walk_meets}
+use Rattle.pm_twins.specs.Stamping.{no_stamp, side_to, stamped, in_order, lesser_of}
 use Rattle.pm_twins.specs.Stamping.{NoneStampedFrom, IsSideBetween, AreAllStamped, IsRepeat, IsUpTo}
 use Rattle.pm_twins.specs.Stamping.{IsLeastRepeat, Stamps, with_side}
 
@@ -42,26 +41,26 @@ lesser-either P (Some a) (Some b) p q =
     ]
 
 -- The stamps with one more.
-module _ (stamps : Stamps) (v w : ℕ) (f : Side) (next : Option Side)
+module _ (stamps : Stamps) (v w : ℕ) (f : Side) (next_repeat : Option Side)
     (low : w < length stamps.at) where
   abbrev with_stamp : Stamps
-  with_stamp = record { at = set stamps.at w (record { side = f; origin = v }); repeat = next }
+  with_stamp = record { at = set stamps.at w (record { side = f; target = v }); repeat = next_repeat }
 
-  same_stamp : slice_index_or with_stamp.at w no_stamp ≡ record { side = f; origin = v }
-  same_stamp = get_or-set_same stamps.at w (record { side = f; origin = v }) no_stamp low
+  same_stamp : slice_index_or with_stamp.at w no_stamp ≡ record { side = f; target = v }
+  same_stamp = get_or-set_same stamps.at w (record { side = f; target = v }) no_stamp low
 
   same_slot : stamped with_stamp v w ≡ Some f
-  same_slot = ap (side_from v) same_stamp ∙ cond-true (eqb v v) (Some f) None (eq-eqb v v refl)
+  same_slot = ap (side_to v) same_stamp ∙ cond-true (eqb v v) (Some f) None (eq-eqb v v refl)
 
   -- It hides what another vertex stamped there.
   hidden_slot : (u : ℕ) → v ≢ u → stamped with_stamp u w ≡ None
   hidden_slot u ne =
-      ap (side_from u) same_stamp ∙ cond-false (eqb v u) (Some f) None (ne_eqb v u ne)
+      ap (side_to u) same_stamp ∙ cond-false (eqb v u) (Some f) None (ne_eqb v u ne)
 
   other_slot : (u x : ℕ) → x ≢ w → stamped with_stamp u x ≡ stamped stamps u x
   other_slot u x ne =
-      ap (side_from u)
-      (get_or-set_other stamps.at w x (record { side = f; origin = v }) no_stamp ne)
+      ap (side_to u)
+      (get_or-set_other stamps.at w x (record { side = f; target = v }) no_stamp ne)
 
   none_later : (n : ℕ) → v < n → NoneStampedFrom n stamps → NoneStampedFrom n with_stamp
   none_later n lt none u x le past =
@@ -71,85 +70,82 @@ module _ (stamps : Stamps) (v w : ℕ) (f : Side) (next : Option Side)
         | inr ne ↦ other_slot u x ne ∙ none u x le past
       ]
 
--- For side e from v a side with the same vertices is stamped that isn't later, and that is e itself
+-- For side e to v a side with the same vertices is stamped that isn't later, and that is e itself
 -- unless a repeat up to e is known.
 abbrev pub IsStamped : Net → ℕ → Stamps → ℕ → Type 0
 IsStamped m v stamps e =
-    (s : Side) × (stamped stamps v (to m e) ≡ Some s) × (s.0 ≤ e)
+    (s : Side) × (stamped stamps v (m.from e) ≡ Some s) × (s.0 ≤ e)
     × ((s.0 ≡ e) ⊎ IsUpTo stamps.repeat e)
 
--- Of the sides that leave v these are still to be stamped.
-pub record IsStamping (m : Net) (v : ℕ) (left : List ℕ) (stamps : Stamps) : Type 0 where
-  pub once : IsOnce left
-  pub leave : (e : ℕ) → has left e ≡ true → (e < side_count m) × (m.from e ≡ v)
+-- The sides to v before those sides below k that leave v are still to be stamped.
+pub record IsStamping (m : Net) (v k : ℕ) (stamps : Stamps) : Type 0 where
   pub each : (w : ℕ) (s : Side) → stamped stamps v w ≡ Some s
-      → (s.0 < side_count m) × (m.from s.0 ≡ v) × (to m s.0 ≡ w) × (has left s.0 ≡ false)
+      → (s.0 < side_count m) × (m.from s.0 ≡ w) × (to m s.0 ≡ v) × (k ≤ next s.0)
   pub none : NoneStampedFrom (v + 1) stamps
-  pub passed : (e : ℕ) → e < side_count m → m.from e ≡ v
-      → (has left e ≡ true) ⊎ IsStamped m v stamps e
+  pub passed : (e : ℕ) → e < side_count m → to m e ≡ v → (next e < k) ⊎ IsStamped m v stamps e
   pub is_one : IfSome stamps.repeat (λ g. (g.0 < side_count m) × IsRepeat m g.0)
-  pub below : (e : ℕ) → e < side_count m → m.from e < v → IsRepeat m e → IsUpTo stamps.repeat e
+  pub below : (e : ℕ) → e < side_count m → to m e < v → IsRepeat m e → IsUpTo stamps.repeat e
 
-pub stamping_begins : (m : Net) (n v : ℕ) (rows : Rows) (stamps : Stamps)
-    → AreRows m n rows → v < n → v < NOWHERE → NoneStampedFrom v stamps
-    → IsLeastRepeat m v stamps.repeat
-    → IsStamping m v (row_at rows v) stamps
-stamping_begins m n v rows stamps are low past none r = record {
-  once = are.once v low;
-  leave = λ e h. (are.each v e low).0 h;
-  each = λ w s is. absurd (none-some s (sym (none v w (omega arith) past) ∙ is));
-  none = λ u w le. none u w (omega (arith, le));
-  passed = λ e l at. inl ((are.each v e low).1 (l, at));
-  is_one = r.is_one;
-  below = r.least;
-}
+-- A walk that comes to side `at` passes none over.
+pub stamping_skips : {m : Net} {v k : ℕ} {stamps : Stamps} (at : Option Side)
+    → option_map (λ s. s.0) at ≡ last_from m v k → IsStamping m v k stamps
+    → IsStamping m v (past at) stamps
+stamping_skips {m} {v} {k} at is i =
+    let low = walk_low m v k at is in
+    record {
+      each = λ w s there. (let (l, from, ends, out) =
+          i.each w s there in (l, from, ends, omega (arith, out, low)));
+      none = i.none;
+      passed = λ e l ends. elim (i.passed e l ends) [
+        | inl less ↦ inl (walk_meets m v k at is (next e) less ends)
+        | inr done ↦ inr done
+      ];
+      is_one = i.is_one;
+      below = i.below;
+    }
 
--- The next side of a row.
-pub stamping_next : (row : List ℕ) {m : Net} {v i : ℕ} {stamps : Stamps} → i < length row
-    → IsStamping m v (drop i row) stamps
-    → IsStamping m v (slice_index_or row i 0 ∷ drop (i + 1) row) stamps
-stamping_next row {m} {v} {i} {stamps} l h =
-    subst (λ (left : List ℕ). IsStamping m v left stamps) (left_next row i l) h
-
-pub stamping_low : (row : List ℕ) {m : Net} {v i : ℕ} {stamps : Stamps} → i < length row
-    → IsStamping m v (drop i row) stamps
-    → slice_index_or row i 0 < side_count m
-stamping_low row {m} {v} {i} l h =
-    ((stamping_next row l h).leave (slice_index_or row i 0)
-    (has_head (slice_index_or row i 0) (drop (i + 1) row))).0
-
-pub stamping_ends : (row : List ℕ) {m : Net} {v i : ℕ} {stamps : Stamps} → length row ≤ i
-    → IsStamping m v (drop i row) stamps → IsStamping m v [] stamps
-stamping_ends row {m} {v} {i} {stamps} l h =
-    subst (λ (left : List ℕ). IsStamping m v left stamps) (drop_all i row l) h
+pub stamping_begins : {m : Net} {v : ℕ} {stamps : Stamps} (at : Option Side)
+    → option_map (λ s. s.0) at ≡ last_from m v (side_count m) → v < NOWHERE
+    → NoneStampedFrom v stamps → IsLeastRepeat m v stamps.repeat
+    → IsStamping m v (past at) stamps
+stamping_begins {m} {v} {stamps} at is short none r =
+    stamping_skips at is (record {
+      each = λ w s there. absurd (none-some s (sym (none v w (omega arith) short) ∙ there));
+      none = λ u w le. none u w (omega (arith, le));
+      passed = λ e l ends. inl (next-lt m.faces e l);
+      is_one = r.is_one;
+      below = r.least;
+    })
 
 -- What stamping side f for side x at vertex w brings, with another least repeat.
-record Adds (m : Net) (v : ℕ) (x : Side) (w : ℕ) (f : Side) (left : List ℕ) (stamps : Stamps)
-    (next : Option Side) : Type 0 where
+record Adds (m : Net) (v : ℕ) (x : Side) (w : ℕ) (f : Side) (k : ℕ) (stamps : Stamps)
+    (next_repeat : Option Side) : Type 0 where
   is_side : f.0 < side_count m
-  leaves : m.from f.0 ≡ v
-  ends : to m f.0 ≡ w
-  gone : has left f.0 ≡ false
+  leaves : m.from f.0 ≡ w
+  ends : to m f.0 ≡ v
+  gone : k ≤ next f.0
   first : f.0 ≤ x.0
-  itself : (f.0 ≡ x.0) ⊎ IsUpTo next x.0
+  itself : (f.0 ≡ x.0) ⊎ IsUpTo next_repeat x.0
   others : (e : ℕ) (s : Side) → stamped stamps v w ≡ Some s → s.0 ≤ e
       → (s.0 ≡ e) ⊎ IsUpTo stamps.repeat e
-      → (f.0 ≤ e) × ((f.0 ≡ e) ⊎ IsUpTo next e)
-  keeps : (e : ℕ) → IsUpTo stamps.repeat e → IsUpTo next e
-  is_one : IfSome next (λ g. (g.0 < side_count m) × IsRepeat m g.0)
+      → (f.0 ≤ e) × ((f.0 ≡ e) ⊎ IsUpTo next_repeat e)
+  keeps : (e : ℕ) → IsUpTo stamps.repeat e → IsUpTo next_repeat e
+  is_one : IfSome next_repeat (λ g. (g.0 < side_count m) × IsRepeat m g.0)
 
-module _ (m : Net) (v : ℕ) (x : Side) (w : ℕ) (left : List ℕ) (stamps : Stamps)
-    (i : IsStamping m v (x.0 ∷ left) stamps) (at : w ≡ to m x.0) where
-  here_x : (x.0 < side_count m) × (m.from x.0 ≡ v)
-  here_x = i.leave x.0 (has_head x.0 left)
+-- Side x is the one before side k, which leaves v.
+module _ (m : Net) (v : ℕ) (x : Side) (w k : ℕ) (stamps : Stamps)
+    (i : IsStamping m v (k + 1) stamps) (at : w ≡ m.from x.0) (low_x : x.0 < side_count m)
+    (next_x : next x.0 ≡ k) (from_k : m.from k ≡ v) where
+  ends_x : to m x.0 ≡ v
+  ends_x = ap m.from next_x ∙ from_k
 
   -- No side with the same vertices is stamped.
-  adds_alone : stamped stamps v w ≡ None → Adds m v x w x left stamps (lesser_of stamps.repeat None)
+  adds_alone : stamped stamps v w ≡ None → Adds m v x w x k stamps (lesser_of stamps.repeat None)
   adds_alone none = record {
-    is_side = here_x.0;
-    leaves = here_x.1;
-    ends = sym at;
-    gone = i.once.0;
+    is_side = low_x;
+    leaves = sym at;
+    ends = ends_x;
+    gone = omega (arith, next_x);
     first = omega arith;
     itself = inl refl;
     others = λ e s is le way. absurd (none-some s (sym none ∙ is));
@@ -158,19 +154,18 @@ module _ (m : Net) (v : ℕ) (x : Side) (w : ℕ) (left : List ℕ) (stamps : St
   }
 
   module _ (s : Side) (is : stamped stamps v w ≡ Some s) where
-    there : (s.0 < side_count m) × (m.from s.0 ≡ v) × (to m s.0 ≡ w)
-        × (has (x.0 ∷ left) s.0 ≡ false)
+    there : (s.0 < side_count m) × (m.from s.0 ≡ w) × (to m s.0 ≡ v) × (k + 1 ≤ next s.0)
     there = i.each w s is
 
     -- An earlier one is.
-    adds_after : s.0 < x.0 → Adds m v x w s left stamps (lesser_of stamps.repeat (Some x))
+    adds_after : s.0 < x.0 → Adds m v x w s k stamps (lesser_of stamps.repeat (Some x))
     adds_after lt =
         let (l, from, ends, out) = there in
         record {
           is_side = l;
           leaves = from;
           ends = ends;
-          gone = (or_parts (eqb x.0 s.0) (has left s.0) out).1;
+          gone = omega (arith, out);
           first = omega (arith, lt);
           itself = inr (up_to_second stamps.repeat (Some x) x.0 (omega arith));
           others = λ e q here le way.
@@ -185,24 +180,23 @@ module _ (m : Net) (v : ℕ) (x : Side) (w : ℕ) (left : List ℕ) (stamps : St
           keeps = λ e k. up_to_first stamps.repeat (Some x) e k;
           is_one = lesser-either (λ g. (g < side_count m) × IsRepeat m g)
               stamps.repeat (Some x) i.is_one
-              (here_x.0, (s.0, lt, from ∙ sym here_x.1, ends ∙ at));
+              (low_x, (s.0, lt, from ∙ at, ends ∙ sym ends_x));
         }
 
     -- A later one is.
-    adds_before : x.0 ≤ s.0 → Adds m v x w x left stamps (lesser_of stamps.repeat (Some s))
+    adds_before : x.0 ≤ s.0 → Adds m v x w x k stamps (lesser_of stamps.repeat (Some s))
     adds_before le =
         let (l, from, ends, out) = there in
         let ne : s.0 ≢ x.0 =
-        λ same. false≢true
-        (sym out ∙ subst (λ (k : ℕ). has (x.0 ∷ left) k ≡ true) (sym same) (has_head x.0 left))
-        in
+        λ same. absurd (let nexts : next s.0 ≡ next x.0 = ap next same in
+        omega (arith, nexts, next_x, out)) in
         let lt : x.0 < s.0 =
         elim (cases_lt x.0 s.0) [ inl h ↦ h | inr h ↦ absurd (ne (omega (arith, h, le))) ] in
         record {
-          is_side = here_x.0;
-          leaves = here_x.1;
-          ends = sym at;
-          gone = i.once.0;
+          is_side = low_x;
+          leaves = sym at;
+          ends = ends_x;
+          gone = omega (arith, next_x);
           first = omega arith;
           itself = inl refl;
           others = λ e q here q_le way.
@@ -213,11 +207,11 @@ module _ (m : Net) (v : ℕ) (x : Side) (w : ℕ) (left : List ℕ) (stamps : St
           keeps = λ e k. up_to_first stamps.repeat (Some s) e k;
           is_one = lesser-either (λ g. (g < side_count m) × IsRepeat m g)
               stamps.repeat (Some s) i.is_one
-              (l, (x.0, lt, here_x.1 ∙ sym from, sym (ends ∙ at)));
+              (l, (x.0, lt, sym (from ∙ at), ends_x ∙ sym ends));
         }
 
   adds : (known : Option Side) → known ≡ stamped stamps v w
-      → Adds m v x w (in_order known x).first left stamps
+      → Adds m v x w (in_order known x).first k stamps
       (lesser_of stamps.repeat (in_order known x).later)
   adds None is = adds_alone (sym is)
   adds (Some s) is =
@@ -232,78 +226,88 @@ module _ (m : Net) (v : ℕ) (x : Side) (w : ℕ) (left : List ℕ) (stamps : St
             rw (least_is, most_is) (adds_before s (sym is) ge)
       ]
 
-  module _ (f : Side) (next : Option Side) (low : w < length stamps.at)
-      (a : Adds m v x w f left stamps next) where
+  module _ (f : Side) (next_repeat : Option Side) (low : w < length stamps.at)
+      (a : Adds m v x w f k stamps next_repeat) where
     abbrev now : Stamps
-    now = with_stamp stamps v w f next low
+    now = with_stamp stamps v w f next_repeat low
 
     f_there : stamped now v w ≡ Some f
-    f_there = same_slot stamps v w f next low
+    f_there = same_slot stamps v w f next_repeat low
 
     stamped_x : IsStamped m v now x.0
     stamped_x = (f, ap (stamped now v) (sym at) ∙ f_there, a.first, a.itself)
 
     stamped_still : (e : ℕ) → IsStamped m v stamps e → IsStamped m v now e
     stamped_still e (s, is, le, way) =
-        elim (cases_eq (to m e) w) [
+        elim (cases_eq (m.from e) w) [
           | inl same ↦
               (let (first, more) = a.others e s (ap (stamped stamps v) (sym same) ∙ is) le way in
               (f, ap (stamped now v) same ∙ f_there, first, more))
           | inr ne ↦ (
             s,
-            other_slot stamps v w f next low v (to m e) ne
+            other_slot stamps v w f next_repeat low v (m.from e) ne
                 ∙ is,
             le,
             elim way [ inl z ↦ inl z | inr z ↦ inr (a.keeps e z) ],
           )
         ]
 
-    stamping_adds : IsStamping m v left now
+    -- Only side x comes before side k.
+    only_x : (e : ℕ) → next e ≡ k → x.0 ≡ e
+    only_x e is =
+        sym (next-next-next x.0) ∙ ap (λ (j : ℕ). next (next j)) (next_x ∙ sym is)
+        ∙ next-next-next e
+
+    stamping_adds : IsStamping m v k now
     stamping_adds = record {
-      once = i.once.1;
-      leave = λ e h. i.leave e (has_tail x.0 left e h);
       each = λ u s is. elim (cases_eq u w) [
         | inl same ↦
             let is_f : f ≡ s = same_Some f s (sym f_there ∙ ap (stamped now v) (sym same) ∙ is) in
-            subst (λ (k : Side). (k.0 < side_count m) × (m.from k.0 ≡ v) × (to m k.0 ≡ u)
-            × (has left k.0 ≡ false)) is_f
-            (a.is_side, a.leaves, a.ends ∙ sym same, a.gone)
+            subst (λ (g : Side). (g.0 < side_count m) × (m.from g.0 ≡ u) × (to m g.0 ≡ v)
+            × (k ≤ next g.0)) is_f
+            (a.is_side, a.leaves ∙ sym same, a.ends, a.gone)
         | inr ne ↦ (let (l, from, ends, out) =
-            i.each u s (sym (other_slot stamps v w f next low v u ne) ∙ is) in
-            (l, from, ends, (or_parts (eqb x.0 s.0) (has left s.0) out).1))
+            i.each u s (sym (other_slot stamps v w f next_repeat low v u ne) ∙ is) in
+            (l, from, ends, omega (arith, out)))
       ];
-      none = none_later stamps v w f next low (v + 1) (omega arith) i.none;
-      passed = λ e l from. elim (i.passed e l from) [
-        | inl h ↦
-            elim (or_cases (eqb x.0 e) (has left e) h) [
-              | inl t ↦ inr (subst (IsStamped m v now) (eqb-true x.0 e t) stamped_x)
-              | inr t ↦ inl t
+      none = none_later stamps v w f next_repeat low (v + 1) (omega arith) i.none;
+      passed = λ e l ends. elim (i.passed e l ends) [
+        | inl less ↦
+            elim (cases_eq (next e) k) [
+              | inl same ↦ inr (subst (IsStamped m v now) (only_x e same) stamped_x)
+              | inr ne ↦ inl (omega (arith, less, ne))
             ]
         | inr old ↦ inr (stamped_still e old)
       ];
       is_one = a.is_one;
-      below = λ e l from r. a.keeps e (i.below e l from r);
+      below = λ e l ends r. a.keeps e (i.below e l ends r);
     }
 
--- One more side is stamped.
-pub stamping_more : {m : Net} {v w : ℕ} {x : Side} {left : List ℕ} {stamps : Stamps}
-    → IsStamping m v (x.0 ∷ left) stamps → w ≡ to m x.0 → w < length stamps.at
-    → IsStamping m v left (with_side stamps v w x)
-stamping_more {m} {v} {w} {x} {left} {stamps} i at low =
+-- The side before side y, which leaves v, is stamped.
+pub stamping_more : {m : Net} {v w : ℕ} {x y : Side} {stamps : Stamps}
+    → IsStamping m v (y.0 + 1) stamps → y.0 < side_count m → m.from y.0 ≡ v → x.0 ≡ prev y.0
+    → w ≡ third m y.0 → w < length stamps.at → IsStamping m v y.0 (with_side stamps v w x)
+stamping_more {m} {v} {w} {x} {y} {stamps} i l from before at low =
     let known = in_order (stamped stamps v w) x in
-    stamping_adds m v x w left stamps i at known.first (lesser_of stamps.repeat known.later) low
-    (adds m v x w left stamps i at (stamped stamps v w) refl)
+    let starts : w ≡ m.from x.0 = at ∙ ap m.from (sym before) in
+    let low_x : x.0 < side_count m = subst (λ (e : ℕ). e < side_count m) (sym before)
+    (next-lt m.faces (next y.0) (next-lt m.faces y.0 l)) in
+    let next_x : next x.0 ≡ y.0 = ap next before ∙ next-next-next y.0 in
+    stamping_adds m v x w y.0 stamps i starts low_x next_x from known.first
+    (lesser_of stamps.repeat known.later) low
+    (adds m v x w y.0 stamps i starts low_x next_x from (stamped stamps v w) refl)
 
 -- All are stamped.
-module _ (m : Net) (v : ℕ) (stamps : Stamps) (i : IsStamping m v [] stamps) where
-  all_passed : (e : ℕ) → e < side_count m → m.from e ≡ v → IsStamped m v stamps e
-  all_passed e l from = elim (i.passed e l from) [ inl h ↦ absurd (false≢true h) | inr done ↦ done ]
+module _ (m : Net) (v : ℕ) (stamps : Stamps) (i : IsStamping m v 0 stamps) where
+  all_passed : (e : ℕ) → e < side_count m → to m e ≡ v → IsStamped m v stamps e
+  all_passed e l ends =
+      elim (i.passed e l ends) [ inl less ↦ absurd (omega (arith, less)) | inr done ↦ done ]
 
   side_between : (w : ℕ) (r : Option Side) → stamped stamps v w ≡ r
-      → IsSideBetween m v w (option_map (λ s. s.0) r)
+      → IsSideBetween m w v (option_map (λ s. s.0) r)
   side_between w None is = λ e l from ends.
-      let (s, there, le, way) = all_passed e l from in
-      none-some s (sym is ∙ ap (stamped stamps v) (sym ends) ∙ there)
+      let (s, there, le, way) = all_passed e l ends in
+      none-some s (sym is ∙ ap (stamped stamps v) (sym from) ∙ there)
   side_between w (Some s) is = let (l, from, ends, out) = i.each w s is in (l, from, ends)
 
   pub all_stamped : AreAllStamped m v stamps
@@ -312,14 +316,14 @@ module _ (m : Net) (v : ℕ) (stamps : Stamps) (i : IsStamping m v [] stamps) wh
   pub least_more : IsLeastRepeat m (v + 1) stamps.repeat
   least_more = record {
     is_one = i.is_one;
-    least = λ e l low r. elim (cases_eq (m.from e) v) [
+    least = λ e l low r. elim (cases_eq (to m e) v) [
       | inr ne ↦ i.below e l (omega (arith, low, ne)) r
-      | inl from ↦
+      | inl ends ↦
           let (g, lt, gf, gt) = r in
-          let (s, is, le, way) = all_passed e l from in
-          let (q, q_is, q_le, q_way) = all_passed g (omega (arith, lt, l)) (gf ∙ from) in
+          let (s, is, le, way) = all_passed e l ends in
+          let (q, q_is, q_le, q_way) = all_passed g (omega (arith, lt, l)) (gt ∙ ends) in
           let same : q.0 ≡ s.0 =
-          ap (λ (k : Side). k.0) (same_Some q s (sym q_is ∙ ap (stamped stamps v) gt ∙ is)) in
+          ap (λ (k : Side). k.0) (same_Some q s (sym q_is ∙ ap (stamped stamps v) gf ∙ is)) in
           elim way [ inl z ↦ absurd (omega (arith, z, same, q_le, lt)) | inr z ↦ z ]
     ];
   }

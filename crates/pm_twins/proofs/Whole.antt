@@ -3,10 +3,10 @@ use Rattle.std.proofs.Common.{◌≡◌, ℕ, ◌<◌, Option, List, length, sym
 use Rattle.std.proofs.Common.{arith}
 use Rattle.pm_base.specs.declared.mesh.Corners.{Corners}
 use Rattle.pm_base.specs.Meshes.{Mesh, IsWellFormed}
-use Rattle.pm_base.specs.Sides.{Net, side_count, to, net_of, NoSideTwice}
+use Rattle.pm_base.specs.Sides.{Net, side_count, next, to, third, net_of, NoSideTwice}
 use Rattle.pm_base.proofs.Sides.{next-lt}
 use Rattle.pm_base.proofs.NetLaws.{mesh_side}
-use Rattle.pm_twins.specs.SideRows.{IsWhole}
+use Rattle.pm_twins.specs.Whole.{IsWhole}
 use Rattle.pm_twins.specs.Table.{AreTwinsOf}
 use Rattle.pm_twins.specs.Walks.{IsWalkable}
 
@@ -28,6 +28,9 @@ read_whole m {fs} {n} formed are is = rw (are, is) (mesh_whole m formed)
 
 pub to_within : (m : Net) (n : ℕ) → IsWhole m n → (e : ℕ) → e < side_count m → to m e < n
 to_within m n whole e l = whole.within _ (next-lt m.faces e l)
+
+pub third_within : (m : Net) (n : ℕ) → IsWhole m n → (e : ℕ) → e < side_count m → third m e < n
+third_within m n whole e l = to_within m n whole (next e) (next-lt m.faces e l)
 
 -- Lists that are those of a well-formed mesh and of its twins can be walked.
 pub mesh_walkable : (m : Mesh) (fs : List Corners) (twins table : List (Option ℕ)) → IsWellFormed m

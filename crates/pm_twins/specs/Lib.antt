@@ -1,6 +1,7 @@
 pub mod Table
 pub mod Faults
-pub mod SideRows
+pub mod Whole
+pub mod SideLists
 pub mod Stamping
 pub mod Walks
 pub mod Laws

@@ -4,7 +4,7 @@
 
 mod fans;
 mod half_edges;
-mod side_rows;
+mod side_lists;
 mod sides;
 mod stamps;
 mod surface;

@@ -1,33 +1,33 @@
-//! While a vertex is gone through, each side that leaves it is stamped at the vertex to which it
-//! runs. The twin of a side that arrives is then the stamp at the vertex from which it comes. A
-//! stamp that an earlier vertex left behind is told by its origin, where its side runs from, so the
+//! While a vertex is gone through, each side that arrives there is stamped at the vertex from which
+//! it comes. The twin of a side that leaves is then the stamp at the vertex to which it runs. A
+//! stamp that an earlier vertex left behind is told by its target, where its side runs to, so the
 //! stamps are never wiped.
 ghost use Rattle.std.specs.Prelude.{◌≡◌, ◌+◌, ◌<◌, length, IfOk};
 ghost use Rattle.pm_base.specs.Sides.{net_of};
-ghost use Rattle.pm_twins.specs.SideRows.{AreRows, IsWhole};
+ghost use Rattle.pm_twins.specs.Whole.{IsWhole};
+ghost use Rattle.pm_twins.specs.SideLists.{IsLast};
 ghost use Rattle.pm_twins.specs.Stamping.{no_stamps, stamped, with_side, in_order as ordered};
 ghost use Rattle.pm_twins.specs.Stamping.{lesser_of, NoneStampedFrom, AreAllStamped, IsLeastRepeat};
 ghost use Rattle.pm_twins.specs.Stamping.{ArePaired};
 
 use crate::OutOfMemory;
-use crate::side_rows::SideRows;
 use crate::sides::{third, to};
 use pm_base::{Corners, Side, SideMap};
 use std::alloc::Global;
 use std::marker::Model;
 
-// The origin where no side is stamped yet. No vertex has this number, since it is past
+// The target where no side is stamped yet. No vertex has this number, since it is past
 // `MOST_VERTICES`.
 const NOWHERE: u32 = u32::MAX;
 
-// A side, and beside it the vertex from which it runs, so that one look finds both.
+// A side, and beside it the vertex to which it runs, so that one look finds both.
 #[derive(Clone, Copy)]
 struct Stamp {
     side: Side,
-    origin: u32,
+    target: u32,
 }
 
-/// At some vertices a side that runs there, and the least side so far that runs between the same
+/// At some vertices a side that leaves them, and the least side so far that runs between the same
 /// vertices as an earlier one.
 #[derive(Drop)]
 pub(crate) struct Stamps {
@@ -50,7 +50,7 @@ impl Stamps {
     {
         let none = Stamp {
             side: Side(0),
-            origin: NOWHERE,
+            target: NOWHERE,
         };
         let at = vec![in alloc; none; vertices]?;
         Ok(Stamps { at, repeat: None })
@@ -63,28 +63,28 @@ impl Stamps {
         self.repeat
     }
 
-    // The stamped side from `vertex` to `end`, if there is one.
-    fn side(&self, vertex: u32, end: u32) -> Option<Side>
-        requires { end < length self.now.at }
-        ensures { result ≡ stamped self.now vertex end }
+    // The stamped side to `vertex` from `start`, if there is one.
+    fn side(&self, vertex: u32, start: u32) -> Option<Side>
+        requires { start < length self.now.at }
+        ensures { result ≡ stamped self.now vertex start }
     {
-        let stamp = self.at[end as usize];
-        if stamp.origin == vertex {
+        let stamp = self.at[start as usize];
+        if stamp.target == vertex {
             Some(stamp.side)
         } else {
             None
         }
     }
 
-    // Stamps a side from `vertex` at `end`. Of two such sides the earlier keeps the stamp.
-    fn add(&mut self, vertex: u32, end: u32, side: Side)
-        requires { end < length self.old.at }
-        ensures { self.new ≡ with_side self.old vertex end side }
+    // Stamps a side to `vertex` at `start`. Of two such sides the earlier keeps the stamp.
+    fn add(&mut self, vertex: u32, start: u32, side: Side)
+        requires { start < length self.old.at }
+        ensures { self.new ≡ with_side self.old vertex start side }
     {
-        let sides = in_order(self.side(vertex, end), side);
-        self.at[end as usize] = Stamp {
+        let sides = in_order(self.side(vertex, start), side);
+        self.at[start as usize] = Stamp {
             side: sides.first,
-            origin: vertex,
+            target: vertex,
         };
         self.repeat = lesser(self.repeat, sides.later);
     }
@@ -124,11 +124,18 @@ fn lesser(a: Option<Side>, b: Option<Side>) -> Option<Side>
     }
 }
 
-/// Stamps the sides that leave a vertex.
-pub(crate) fn stamp_leaving(faces: &[Corners], rows: &SideRows, vertex: u32, stamps: &mut Stamps)
+/// Stamps the sides that arrive at a vertex. Each is the one before a side that leaves it.
+pub(crate) fn stamp_arriving(
+    faces: &[Corners],
+    table: &SideMap,
+    last: Option<Side>,
+    vertex: u32,
+    stamps: &mut Stamps,
+)
     requires whole { IsWhole (net_of faces.now) (length stamps.old.at) }
-    requires rows { AreRows (net_of faces.now) (length stamps.old.at) rows.now }
     requires in_range { vertex < length stamps.old.at }
+    requires last { IsLast (net_of faces.now) vertex last }
+    requires paired { ArePaired (net_of faces.now) vertex table.now }
     requires none { NoneStampedFrom vertex stamps.old }
     requires repeat { IsLeastRepeat (net_of faces.now) vertex stamps.old.repeat }
     ensures len { length stamps.new.at ≡ length stamps.old.at }
@@ -136,32 +143,32 @@ pub(crate) fn stamp_leaving(faces: &[Corners], rows: &SideRows, vertex: u32, sta
     ensures all { AreAllStamped (net_of faces.now) vertex stamps.new }
     ensures repeat { IsLeastRepeat (net_of faces.now) (vertex + 1) stamps.new.repeat }
 {
-    let leaving = rows.row(vertex);
-    for number in leaving {
-        let side = Side(*number);
-        stamps.add(vertex, to(faces, side), side);
+    let mut at = last;
+    while let Some(side) = at {
+        stamps.add(vertex, third(faces, side), side.prev());
+        at = table.get(side);
     }
 }
 
-/// Notes the twin of each side that arrives at a vertex. The sides that leave it are stamped.
-pub(crate) fn pair_arriving(
+/// Notes the twin of each side that leaves a vertex, where its link stands, which is read before.
+/// The sides that arrive are stamped.
+pub(crate) fn pair_leaving(
     faces: &[Corners],
-    rows: &SideRows,
+    last: Option<Side>,
     vertex: u32,
     stamps: &Stamps,
-    twins: &mut SideMap,
+    table: &mut SideMap,
 )
     requires whole { IsWhole (net_of faces.now) (length stamps.now.at) }
-    requires rows { AreRows (net_of faces.now) (length stamps.now.at) rows.now }
     requires in_range { vertex < length stamps.now.at }
+    requires last { IsLast (net_of faces.now) vertex last }
     requires all { AreAllStamped (net_of faces.now) vertex stamps.now }
-    requires paired { ArePaired (net_of faces.now) vertex twins.old }
-    ensures paired { ArePaired (net_of faces.now) (vertex + 1) twins.new }
+    requires paired { ArePaired (net_of faces.now) vertex table.old }
+    ensures paired { ArePaired (net_of faces.now) (vertex + 1) table.new }
 {
-    let leaving = rows.row(vertex);
-    for number in leaving {
-        let side = Side(*number);
-        let twin = stamps.side(vertex, third(faces, side));
-        twins.set(side.prev(), twin);
+    let mut at = last;
+    while let Some(side) = at {
+        at = table.get(side);
+        table.set(side, stamps.side(vertex, to(faces, side)));
     }
 }

@@ -1,6 +1,6 @@
-//! The sides of a mesh are put into rows, each at the vertex from which it runs, and then the
-//! vertices are gone through. Of the sides that leave one, two that run to the same vertex are one
-//! side twice; and a side that arrives there has the one that runs back as its twin.
+//! The sides of a mesh are put into lists, each at the vertex that it leaves, and then the vertices
+//! are gone through. Of the sides that arrive at one, two that come from the same vertex are one
+//! side twice; and a side that leaves it has the one that runs back as its twin.
 ghost use Rattle.std.specs.Prelude.{◌≡◌, ◌<◌, ℕ, ◌↔◌, length, IfOk, IfErr, OnOk, MatchOption};
 ghost use Rattle.std.specs.Prelude.{IsTrue};
 ghost use Rattle.std.specs.Option.{option_map};
@@ -9,12 +9,13 @@ ghost use Rattle.pm_base.specs.Sides.{Net, net_of, side_count, NoSideTwice, IsTw
 ghost use Rattle.pm_base.specs.Sides.{IsBorder};
 ghost use Rattle.pm_twins.specs.Table.{twin_at, border_at, AreTwinsOf, IsBorderOf, IsTableOf};
 ghost use Rattle.pm_twins.specs.Faults.{IsTwinsFault};
-ghost use Rattle.pm_twins.specs.SideRows.{AreRows, IsWhole};
+ghost use Rattle.pm_twins.specs.Whole.{IsWhole};
+ghost use Rattle.pm_twins.specs.SideLists.{AreListed};
 
 use crate::OutOfMemory;
-use crate::side_rows::{SideRows, row_sides};
+use crate::side_lists::{SideLists, list_sides};
 use crate::sides::{from, to};
-use crate::stamps::{Stamps, pair_arriving, stamp_leaving};
+use crate::stamps::{Stamps, pair_leaving, stamp_arriving};
 use pm_base::{Corners, FaceId, Mesh, Side, SideMap};
 use std::alloc::Global;
 use std::marker::Model;
@@ -46,8 +47,8 @@ impl Model for Twins {
 
 impl Twins {
     /// The twins of a well-formed mesh. O(F + V) for F faces and V vertices, also where a side
-    /// stands twice and where many faces have one vertex: each side is put into a row, stamped and
-    /// paired once, with one look at a table for each.
+    /// stands twice and where many faces have one vertex: each side is put into a list, stamped
+    /// and paired once, with one look at a table for each.
     pub fn of(alloc: Global, mesh: &Mesh) -> Result<Twins, TwinsFail>
         requires { IsWellFormed (mesh_of mesh.now) }
         ensures twins { IfOk result
@@ -56,10 +57,10 @@ impl Twins {
     {
         let faces = mesh.faces.as_slice();
         let vertices = mesh.points.len();
-        let Ok(rows) = row_sides(alloc, faces, vertices) else {
+        let Ok(lists) = list_sides(alloc, faces, vertices) else {
             return Err(TwinsFail::OutOfMemory);
         };
-        let twins = pair_sides(alloc, faces, &rows, vertices)?;
+        let twins = pair_sides(alloc, faces, lists, vertices)?;
         let Ok(border) = mark_border(alloc, faces, vertices, &twins) else {
             return Err(TwinsFail::OutOfMemory);
         };
@@ -101,33 +102,36 @@ impl Twins {
     }
 }
 
-// The twin of each side. The vertices are gone through one by one: the sides that leave one are
-// stamped, and those that arrive look for their twins among them.
+// The twin of each side. The vertices are gone through one by one: the sides that arrive at one are
+// stamped, and those that leave it look for their twins among them.
 fn pair_sides(
     alloc: Global,
     faces: &[Corners],
-    rows: &SideRows,
+    lists: SideLists,
     vertices: usize,
 ) -> Result<SideMap, TwinsFail>
     requires whole { IsWhole (net_of faces.now) vertices }
-    requires rows { AreRows (net_of faces.now) vertices rows.now }
+    requires listed { AreListed (net_of faces.now) vertices (side_count (net_of faces.now))
+        lists.lasts.items lists.links }
     ensures twins { IfOk result (λ twins. AreTwinsOf (net_of faces.now) twins) }
     ensures once { OnOk result (NoSideTwice (net_of faces.now)) }
     ensures edge_twice { IfErr result (IsTwinsFault (net_of faces.now)) }
 {
-    let Ok(mut twins) = SideMap::new(alloc, 3 * faces.len() as u32) else {
-        return Err(TwinsFail::OutOfMemory);
-    };
+    let SideLists {
+        lasts,
+        links: mut table,
+    } = lists;
     let Ok(mut stamps) = Stamps::none(alloc, vertices) else {
         return Err(TwinsFail::OutOfMemory);
     };
     for vertex in 0..vertices as u32 {
-        stamp_leaving(faces, rows, vertex, &mut stamps);
-        pair_arriving(faces, rows, vertex, &stamps, &mut twins);
+        let last = lasts[vertex as usize].side();
+        stamp_arriving(faces, &table, last, vertex, &mut stamps);
+        pair_leaving(faces, last, vertex, &stamps, &mut table);
     }
     match stamps.repeat() {
         Some(side) => Err(TwinsFail::EdgeTwice(side.face())),
-        None => Ok(twins),
+        None => Ok(table),
     }
 }
 

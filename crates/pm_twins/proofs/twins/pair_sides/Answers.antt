@@ -9,13 +9,13 @@ returns-in-Some-clause-edge_twice c =
     (first_repeating _ _ c.requires.whole c.in-Some.side c.loop-vertex-test.false
     c.loop-vertex.invariant.repeat (sym c.repeat.ensures ∙ c.in-Some.is))
 
-pub returns-in-None-clause-once : goal.returns-in-None-clause-once
-returns-in-None-clause-once c =
+pub returns-clause-once : goal.returns-clause-once
+returns-clause-once c =
     none_twice _ _ c.requires.whole c.loop-vertex-test.false c.loop-vertex.invariant.repeat
     (sym c.repeat.ensures ∙ c.in-None.is)
 
-pub returns-in-None-clause-twins : goal.returns-in-None-clause-twins
-returns-in-None-clause-twins c =
+pub returns-clause-twins : goal.returns-clause-twins
+returns-clause-twins c =
     paired_all c.requires.whole
     (none_twice _ _ c.requires.whole c.loop-vertex-test.false c.loop-vertex.invariant.repeat
     (sym c.repeat.ensures ∙ c.in-None.is)) c.loop-vertex-test.false c.loop-vertex.invariant.paired

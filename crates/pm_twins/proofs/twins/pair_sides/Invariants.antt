@@ -8,5 +8,5 @@ invariant-loop-vertex l = record {
   len : length l.stamps.at ≡ l.vertices;
   none : NoneStampedFrom l.vertex l.stamps;
   repeat : IsLeastRepeat (net_of l.faces) l.vertex l.stamps.repeat;
-  paired : ArePaired (net_of l.faces) l.vertex l.twins;
+  paired : ArePaired (net_of l.faces) l.vertex l.table;
 }

@@ -2,8 +2,8 @@ use Rattle.pm_base.specs.Meshes.{mesh_of}
 use Rattle.pm_twins.proofs.Whole.{read_whole}
 use Rattle.pm_twins.proofs.twins.Twins.of.Goals as goal
 
-pub row_sides-requires : goal.row_sides-requires
-row_sides-requires c =
+pub list_sides-requires : goal.list_sides-requires
+list_sides-requires c =
     read_whole (mesh_of c.args.mesh.now) c.requires c.as_slice-faces.ensures c.len-vertices.ensures
 
 pub pair_sides-requires-clause-whole : goal.pair_sides-requires-clause-whole
