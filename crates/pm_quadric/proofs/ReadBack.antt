@@ -1,9 +1,9 @@
 -- The eleven numbers of a new quadric, read back from their bits.
-use Rattle.std.proofs.Common.{◌≡◌, ℕ, ◌+◌, ◌^◌, ◌≤◌, w64, FitsSigned, to_z, of_z, refl, ◌∙◌, ap}
-use Rattle.std.proofs.Common.{arith, lit≤, lit<}
+use Rattle.std.proofs.Common.{◌≡◌, ◌+◌, ◌^◌, ◌≤◌, w64, FitsSigned, to_z, of_z, refl, ◌∙◌, ap}
+use Rattle.std.proofs.Common.{lit≤, lit<}
 use mir.Syntax.{w128}
 use Rattle.std.specs.Prelude.{ℤ, pos, ◌+ℤ◌, ◌*ℤ◌, neg_ℤ, unsigned_abs}
-use Rattle.std.proofs.lemmas.Int.{to_z-of_z, fits_signed_from_abs}
+use Rattle.std.proofs.lemmas.Int.{to_z-of_z}
 use Rattle.pm_base.specs.Place.{Place}
 use Rattle.pm_base.specs.Geometry.{Direction}
 use Rattle.pm_base.proofs.Range.{abs_product, fits_abs}
@@ -55,13 +55,6 @@ pub offset_is : (r x y z : ℤ) (n : Direction) (p : Place)
     → r ≡ neg_ℤ (x *ℤ p.x +ℤ y *ℤ p.y +ℤ z *ℤ p.z) → x ≡ n.x → y ≡ n.y → z ≡ n.z
     → r ≡ (plane_through n p).d
 offset_is r x y z n p e ex ey ez = e ∙ rw (ex, ey, ez) refl
-
-pub kept_small : (r v : ℤ) (m : ℕ) → r ≡ v → unsigned_abs v ≤ m → m ≤ 2 ^ 50
-    → unsigned_abs (to_z w64 (of_z w64 r)) ≤ 2 ^ 50
-kept_small r v m e p q =
-    let s : unsigned_abs r ≤ 2 ^ 50 = omega (arith, ap unsigned_abs e) in
-    let f = fits_signed_from_abs w64 r (omega arith) in
-    simp to_z-of_z s
 
 pub twice_fits : (a b : ℤ) → unsigned_abs a ≤ 2 ^ 50 → unsigned_abs b ≤ 2 ^ 50
     → FitsSigned w128 (pos 2 *ℤ (a *ℤ b))

@@ -1,9 +1,10 @@
 -- Machine integers at 128 bits, which goals show as bits that are read back.
-use Rattle.std.proofs.Common.{◌≡◌, ℕ, ◌*◌, ◌^◌, ◌≤◌, FitsSigned, to_z, of_z, ap, ◌∙◌, arith, lit<}
+use Rattle.std.proofs.Common.{◌≡◌, ℕ, ◌*◌, ◌^◌, ◌≤◌, w64, FitsSigned, to_z, of_z, ap, ◌∙◌}
+use Rattle.std.proofs.Common.{arith, lit<}
 use mir.Syntax.{w128}
 use Rattle.std.specs.Prelude.{ℤ, ◌+ℤ◌, ◌*ℤ◌, unsigned_abs}
 use Rattle.std.proofs.lemmas.Nat.{mul-le}
-use Rattle.std.proofs.lemmas.Int.{to_z-of_z, unsigned_abs-mul}
+use Rattle.std.proofs.lemmas.Int.{fits_signed_from_abs, to_z-of_z, unsigned_abs-mul}
 use Rattle.pm_base.proofs.Squares.{abs_plus}
 use Rattle.pm_base.proofs.Range.{fits_abs}
 
@@ -16,6 +17,14 @@ abs_read r v n f e p = e ∙ ap unsigned_abs (to_z-of_z w128 r f ∙ p)
 pub read_small : (x : ℤ) (m : ℕ) → unsigned_abs x ≤ m → m ≤ 2 ^ 125
     → unsigned_abs (to_z w128 (of_z w128 x)) ≤ m
 read_small x m p q = let f = fits_abs x m p (omega arith) in simp to_z-of_z p
+
+-- The same at 64 bits, of a number that is another.
+pub kept_small : (r v : ℤ) (m n : ℕ) → r ≡ v → unsigned_abs v ≤ m → m ≤ n → n ≤ 2 ^ 62
+    → unsigned_abs (to_z w64 (of_z w64 r)) ≤ n
+kept_small r v m n e p q t =
+    let s : unsigned_abs r ≤ n = omega (arith, ap unsigned_abs e) in
+    let f = fits_signed_from_abs w64 r (omega arith) in
+    simp to_z-of_z s
 
 -- A product.
 pub at_most_product : (a b m n k : ℕ) → a ≤ m → b ≤ n → m * n ≤ k → a * b ≤ k

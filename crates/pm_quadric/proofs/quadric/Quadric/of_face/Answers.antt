@@ -2,69 +2,70 @@ use Rattle.std.proofs.Common.{◌∙◌, refl, sym, subst, w64, FitsSigned, lit�
 use Rattle.pm_base.specs.Geometry.{Direction, cross_of}
 use Rattle.pm_quadric.specs.Planes.{Plane, plane_of}
 use Rattle.pm_quadric.specs.Quadrics.{IsQuadric}
-use Rattle.pm_quadric.proofs.ReadBack.{kept_small, pair_is, double_is, offset_is, coefficients_are}
+use Rattle.pm_quadric.proofs.Words.{kept_small}
+use Rattle.pm_quadric.proofs.ReadBack.{pair_is, double_is, offset_is, coefficients_are}
 use Rattle.pm_quadric.proofs.Expansion.{sums-one}
 use Rattle.pm_quadric.proofs.QuadricLaws.{quadric_face}
 use Rattle.pm_quadric.proofs.quadric.Quadric.of_face.Goals as goal
 
 pub pair-requires : goal.pair-requires
 pair-requires c = record {
-  a_small = kept_small _ _ _ c.cross-n.ensures.x c.cross-n.ensures.small.0 (lit≤ tt);
-  b_small = kept_small _ _ _ c.cross-n.ensures.x c.cross-n.ensures.small.0 (lit≤ tt);
+  a_small = kept_small _ _ _ _ c.cross-n.ensures.x c.cross-n.ensures.small.0 (lit≤ tt) (lit≤ tt);
+  b_small = kept_small _ _ _ _ c.cross-n.ensures.x c.cross-n.ensures.small.0 (lit≤ tt) (lit≤ tt);
 }
 
 pub double-requires : goal.double-requires
 double-requires c = record {
-  a_small = kept_small _ _ _ c.cross-n.ensures.x c.cross-n.ensures.small.0 (lit≤ tt);
-  b_small = kept_small _ _ _ c.cross-n.ensures.y c.cross-n.ensures.small.1 (lit≤ tt);
+  a_small = kept_small _ _ _ _ c.cross-n.ensures.x c.cross-n.ensures.small.0 (lit≤ tt) (lit≤ tt);
+  b_small = kept_small _ _ _ _ c.cross-n.ensures.y c.cross-n.ensures.small.1 (lit≤ tt) (lit≤ tt);
 }
 
 pub double-requires-2 : goal.double-requires-2
 double-requires-2 c = record {
-  a_small = kept_small _ _ _ c.cross-n.ensures.x c.cross-n.ensures.small.0 (lit≤ tt);
-  b_small = kept_small _ _ _ c.cross-n.ensures.z c.cross-n.ensures.small.2 (lit≤ tt);
+  a_small = kept_small _ _ _ _ c.cross-n.ensures.x c.cross-n.ensures.small.0 (lit≤ tt) (lit≤ tt);
+  b_small = kept_small _ _ _ _ c.cross-n.ensures.z c.cross-n.ensures.small.2 (lit≤ tt) (lit≤ tt);
 }
 
 pub double-requires-3 : goal.double-requires-3
 double-requires-3 c = record {
-  a_small = kept_small _ _ _ c.cross-n.ensures.x c.cross-n.ensures.small.0 (lit≤ tt);
-  b_small = kept_small c.offset-d.result _ _ refl c.offset-d.ensures.small (lit≤ tt);
+  a_small = kept_small _ _ _ _ c.cross-n.ensures.x c.cross-n.ensures.small.0 (lit≤ tt) (lit≤ tt);
+  b_small = kept_small c.offset-d.result _ _ _ refl c.offset-d.ensures.small (lit≤ tt) (lit≤ tt);
 }
 
 pub pair-requires-2 : goal.pair-requires-2
 pair-requires-2 c = record {
-  a_small = kept_small _ _ _ c.cross-n.ensures.y c.cross-n.ensures.small.1 (lit≤ tt);
-  b_small = kept_small _ _ _ c.cross-n.ensures.y c.cross-n.ensures.small.1 (lit≤ tt);
+  a_small = kept_small _ _ _ _ c.cross-n.ensures.y c.cross-n.ensures.small.1 (lit≤ tt) (lit≤ tt);
+  b_small = kept_small _ _ _ _ c.cross-n.ensures.y c.cross-n.ensures.small.1 (lit≤ tt) (lit≤ tt);
 }
 
 pub double-requires-4 : goal.double-requires-4
 double-requires-4 c = record {
-  a_small = kept_small _ _ _ c.cross-n.ensures.y c.cross-n.ensures.small.1 (lit≤ tt);
-  b_small = kept_small _ _ _ c.cross-n.ensures.z c.cross-n.ensures.small.2 (lit≤ tt);
+  a_small = kept_small _ _ _ _ c.cross-n.ensures.y c.cross-n.ensures.small.1 (lit≤ tt) (lit≤ tt);
+  b_small = kept_small _ _ _ _ c.cross-n.ensures.z c.cross-n.ensures.small.2 (lit≤ tt) (lit≤ tt);
 }
 
 pub double-requires-5 : goal.double-requires-5
 double-requires-5 c = record {
-  a_small = kept_small _ _ _ c.cross-n.ensures.y c.cross-n.ensures.small.1 (lit≤ tt);
-  b_small = kept_small c.offset-d.result _ _ refl c.offset-d.ensures.small (lit≤ tt);
+  a_small = kept_small _ _ _ _ c.cross-n.ensures.y c.cross-n.ensures.small.1 (lit≤ tt) (lit≤ tt);
+  b_small = kept_small c.offset-d.result _ _ _ refl c.offset-d.ensures.small (lit≤ tt) (lit≤ tt);
 }
 
 pub pair-requires-3 : goal.pair-requires-3
 pair-requires-3 c = record {
-  a_small = kept_small _ _ _ c.cross-n.ensures.z c.cross-n.ensures.small.2 (lit≤ tt);
-  b_small = kept_small _ _ _ c.cross-n.ensures.z c.cross-n.ensures.small.2 (lit≤ tt);
+  a_small = kept_small _ _ _ _ c.cross-n.ensures.z c.cross-n.ensures.small.2 (lit≤ tt) (lit≤ tt);
+  b_small = kept_small _ _ _ _ c.cross-n.ensures.z c.cross-n.ensures.small.2 (lit≤ tt) (lit≤ tt);
 }
 
 pub double-requires-6 : goal.double-requires-6
 double-requires-6 c = record {
-  a_small = kept_small _ _ _ c.cross-n.ensures.z c.cross-n.ensures.small.2 (lit≤ tt);
-  b_small = kept_small c.offset-d.result _ _ refl c.offset-d.ensures.small (lit≤ tt);
+  a_small = kept_small _ _ _ _ c.cross-n.ensures.z c.cross-n.ensures.small.2 (lit≤ tt) (lit≤ tt);
+  b_small = kept_small c.offset-d.result _ _ _ refl c.offset-d.ensures.small (lit≤ tt) (lit≤ tt);
 }
 
 pub pair-requires-4 : goal.pair-requires-4
 pair-requires-4 c = record {
-  a_small = kept_small c.offset-d.result _ _ refl c.offset-d.ensures.small (lit≤ tt);
-  b_small = kept_small c.offset-d.result _ _ refl c.offset-d.ensures.small (lit≤ tt);
+  a_small = kept_small c.offset-d.result _ _ _ refl c.offset-d.ensures.small (lit≤ tt) (lit≤ tt);
+  b_small = kept_small c.offset-d.result _ _ _ refl c.offset-d.ensures.small (lit≤ tt) (lit≤ tt);
 }
 
 pub returns : goal.returns
