@@ -14,4 +14,5 @@ mod NearLaws
 mod NormalLaws
 mod QuotientLaws
 mod Words
+mod Products
 mod ReadBack

@@ -1,7 +1,8 @@
 use Rattle.std.proofs.Common.{◌≡◌, ◌∙◌, rules, arith, pos, ◌*◌, ◌*ℤ◌, ◌+◌, ◌≤◌, w64, FitsSigned}
-use Rattle.std.proofs.Common.{to_z, of_z, unsigned_abs}
+use Rattle.std.proofs.Common.{to_z, of_z, unsigned_abs, refl, lit≤}
 use Rattle.std.proofs.lemmas.Int.{to_z-of_z}
 use Rattle.pm_base.specs.Geometry.{Direction, square_of}
+use Rattle.pm_quadric.proofs.Words.{kept_small}
 use Rattle.pm_fine.specs.Rounded.{near}
 use Rattle.pm_fine.specs.Normals.{product_of, way_of}
 use Rattle.pm_fine.proofs.NormalLaws.{border_none, border_some}
@@ -13,6 +14,48 @@ returns-then-square-eq0-clause-value c =
     c.zero.ensures
     ∙ border_none c.args.a c.args.b n c.norm2-square.result c.norm2-square.ensures.value
     (omega arith)
+
+pub minor-requires : goal.minor-requires
+minor-requires c = record {
+  a_small =
+      kept_small c.above-y.result _ _ _ refl c.above-y.ensures.small (lit≤ tt) (lit≤ tt);
+  b_small =
+      kept_small c.above-z.result _ _ _ refl c.above-z.ensures.small (lit≤ tt) (lit≤ tt);
+  c_small = kept_small c.args.n.y _ _ _ refl c.requires.1 (lit≤ tt) (lit≤ tt);
+  d_small = kept_small c.args.n.z _ _ _ refl c.requires.2 (lit≤ tt) (lit≤ tt);
+}
+
+pub part-requires-clause-m_small : goal.part-requires-clause-m_small
+part-requires-clause-m_small c =
+    kept_small c.minor.result _ _ _ refl c.minor.ensures.small (lit≤ tt) (lit≤ tt)
+
+pub minor-requires-2 : goal.minor-requires-2
+minor-requires-2 c = record {
+  a_small =
+      kept_small c.above-z.result _ _ _ refl c.above-z.ensures.small (lit≤ tt) (lit≤ tt);
+  b_small =
+      kept_small c.above-x.result _ _ _ refl c.above-x.ensures.small (lit≤ tt) (lit≤ tt);
+  c_small = kept_small c.args.n.z _ _ _ refl c.requires.2 (lit≤ tt) (lit≤ tt);
+  d_small = kept_small c.args.n.x _ _ _ refl c.requires.0 (lit≤ tt) (lit≤ tt);
+}
+
+pub part-requires-2-clause-m_small : goal.part-requires-2-clause-m_small
+part-requires-2-clause-m_small c =
+    kept_small c.minor-2.result _ _ _ refl c.minor-2.ensures.small (lit≤ tt) (lit≤ tt)
+
+pub minor-requires-3 : goal.minor-requires-3
+minor-requires-3 c = record {
+  a_small =
+      kept_small c.above-x.result _ _ _ refl c.above-x.ensures.small (lit≤ tt) (lit≤ tt);
+  b_small =
+      kept_small c.above-y.result _ _ _ refl c.above-y.ensures.small (lit≤ tt) (lit≤ tt);
+  c_small = kept_small c.args.n.x _ _ _ refl c.requires.0 (lit≤ tt) (lit≤ tt);
+  d_small = kept_small c.args.n.y _ _ _ refl c.requires.1 (lit≤ tt) (lit≤ tt);
+}
+
+pub part-requires-3-clause-m_small : goal.part-requires-3-clause-m_small
+part-requires-3-clause-m_small c =
+    kept_small c.minor-3.result _ _ _ refl c.minor-3.ensures.small (lit≤ tt) (lit≤ tt)
 
 pub returns-clause-value : goal.returns-clause-value
 returns-clause-value c =

@@ -1,11 +1,37 @@
-use Rattle.std.proofs.Common.{ℕ, ◌≡◌, true, ◌/◌, ◌^◌, w32, to_z, of_z, ap, rules}
+use Rattle.std.proofs.Common.{ℕ, ◌≡◌, true, ◌/◌, ◌^◌, w32, FitsSigned, to_z, of_z, ap, rules}
+use mir.Syntax.{w128}
 use Rattle.std.specs.Prelude.{unsigned_abs}
 use Rattle.std.specs.Int.{int_shr}
 use Rattle.pm_fine.specs.declared.matrix.Vector.{Vector}
 use Rattle.pm_fine.specs.Rounded.{near}
 use Rattle.pm_fine.specs.Fourth.{is_near, digits_above}
+use Rattle.pm_fine.proofs.QuotientLaws.{quotient_small}
 use Rattle.pm_fine.proofs.FourthPlaces.{quotients_is}
 use Rattle.pm_fine.proofs.fourth.quotients_place.Goals as goal
+
+pub quotient-x-requires-clause-a_small : goal.quotient-x-requires-clause-a_small
+quotient-x-requires-clause-a_small c =
+    let near : c.is_near.result ≡ true = search rules in
+    let fits : FitsSigned w128 c.args.n.now.x = search rules in
+    quotient_small c.args.n.now.x c.args.det c.unsigned_abs-size.result
+    c.digits_above-digits.result fits (c.is_near.ensures.bounds near).0
+    c.unsigned_abs-size.ensures.value
+
+pub quotient-y-requires-clause-a_small : goal.quotient-y-requires-clause-a_small
+quotient-y-requires-clause-a_small c =
+    let near : c.is_near.result ≡ true = search rules in
+    let fits : FitsSigned w128 c.args.n.now.y = search rules in
+    quotient_small c.args.n.now.y c.args.det c.unsigned_abs-size.result
+    c.digits_above-digits.result fits (c.is_near.ensures.bounds near).1
+    c.unsigned_abs-size.ensures.value
+
+pub quotient-z-requires-clause-a_small : goal.quotient-z-requires-clause-a_small
+quotient-z-requires-clause-a_small c =
+    let near : c.is_near.result ≡ true = search rules in
+    let fits : FitsSigned w128 c.args.n.now.z = search rules in
+    quotient_small c.args.n.now.z c.args.det c.unsigned_abs-size.result
+    c.digits_above-digits.result fits (c.is_near.ensures.bounds near).2
+    c.unsigned_abs-size.ensures.value
 
 pub returns : goal.returns
 returns c =

@@ -1,10 +1,71 @@
-use Rattle.std.proofs.Common.{◌∙◌, sym, subst, w64, FitsSigned, rules}
+use Rattle.std.proofs.Common.{◌∙◌, sym, subst, w64, FitsSigned, lit≤, rules}
 use Rattle.pm_quadric.specs.Planes.{Plane}
 use Rattle.pm_quadric.proofs.Expansion.{sums-one}
+use Rattle.pm_quadric.proofs.Words.{kept_small}
 use Rattle.pm_fine.specs.FineSums.{IsFineQuadric}
 use Rattle.pm_fine.proofs.ReadBack.{pair_is, double_is, coefficients_are}
 use Rattle.pm_fine.proofs.FineLaws.{fine_one}
 use Rattle.pm_fine.proofs.fine_quadric.FineQuadric.of_plane.Goals as goal
+
+pub pair-requires : goal.pair-requires
+pair-requires c = record {
+  a_small = kept_small _ _ _ _ c.a-a.ensures.value c.a-a.ensures.in_range.a (lit≤ tt) (lit≤ tt);
+  b_small = kept_small _ _ _ _ c.a-a.ensures.value c.a-a.ensures.in_range.a (lit≤ tt) (lit≤ tt);
+}
+
+pub double-requires : goal.double-requires
+double-requires c = record {
+  a_small = kept_small _ _ _ _ c.a-a.ensures.value c.a-a.ensures.in_range.a (lit≤ tt) (lit≤ tt);
+  b_small = kept_small _ _ _ _ c.b-b.ensures.value c.b-b.ensures.in_range.b (lit≤ tt) (lit≤ tt);
+}
+
+pub double-requires-2 : goal.double-requires-2
+double-requires-2 c = record {
+  a_small = kept_small _ _ _ _ c.a-a.ensures.value c.a-a.ensures.in_range.a (lit≤ tt) (lit≤ tt);
+  b_small = kept_small _ _ _ _ c.c-c.ensures.value c.c-c.ensures.in_range.c (lit≤ tt) (lit≤ tt);
+}
+
+pub double-requires-3 : goal.double-requires-3
+double-requires-3 c = record {
+  a_small = kept_small _ _ _ _ c.a-a.ensures.value c.a-a.ensures.in_range.a (lit≤ tt) (lit≤ tt);
+  b_small = kept_small _ _ _ _ c.d-d.ensures.value c.d-d.ensures.in_range.d (lit≤ tt) (lit≤ tt);
+}
+
+pub pair-requires-2 : goal.pair-requires-2
+pair-requires-2 c = record {
+  a_small = kept_small _ _ _ _ c.b-b.ensures.value c.b-b.ensures.in_range.b (lit≤ tt) (lit≤ tt);
+  b_small = kept_small _ _ _ _ c.b-b.ensures.value c.b-b.ensures.in_range.b (lit≤ tt) (lit≤ tt);
+}
+
+pub double-requires-4 : goal.double-requires-4
+double-requires-4 c = record {
+  a_small = kept_small _ _ _ _ c.b-b.ensures.value c.b-b.ensures.in_range.b (lit≤ tt) (lit≤ tt);
+  b_small = kept_small _ _ _ _ c.c-c.ensures.value c.c-c.ensures.in_range.c (lit≤ tt) (lit≤ tt);
+}
+
+pub double-requires-5 : goal.double-requires-5
+double-requires-5 c = record {
+  a_small = kept_small _ _ _ _ c.b-b.ensures.value c.b-b.ensures.in_range.b (lit≤ tt) (lit≤ tt);
+  b_small = kept_small _ _ _ _ c.d-d.ensures.value c.d-d.ensures.in_range.d (lit≤ tt) (lit≤ tt);
+}
+
+pub pair-requires-3 : goal.pair-requires-3
+pair-requires-3 c = record {
+  a_small = kept_small _ _ _ _ c.c-c.ensures.value c.c-c.ensures.in_range.c (lit≤ tt) (lit≤ tt);
+  b_small = kept_small _ _ _ _ c.c-c.ensures.value c.c-c.ensures.in_range.c (lit≤ tt) (lit≤ tt);
+}
+
+pub double-requires-6 : goal.double-requires-6
+double-requires-6 c = record {
+  a_small = kept_small _ _ _ _ c.c-c.ensures.value c.c-c.ensures.in_range.c (lit≤ tt) (lit≤ tt);
+  b_small = kept_small _ _ _ _ c.d-d.ensures.value c.d-d.ensures.in_range.d (lit≤ tt) (lit≤ tt);
+}
+
+pub pair-requires-4 : goal.pair-requires-4
+pair-requires-4 c = record {
+  a_small = kept_small _ _ _ _ c.d-d.ensures.value c.d-d.ensures.in_range.d (lit≤ tt) (lit≤ tt);
+  b_small = kept_small _ _ _ _ c.d-d.ensures.value c.d-d.ensures.in_range.d (lit≤ tt) (lit≤ tt);
+}
 
 pub returns : goal.returns
 returns c =
