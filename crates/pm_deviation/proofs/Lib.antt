@@ -1,3 +1,4 @@
+pub mod WordLaws
 pub mod StepLaws
 pub mod SpreadLaws
 pub mod Products
