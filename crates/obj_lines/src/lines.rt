@@ -1,5 +1,5 @@
 //! The lines of a text that comes in pieces.
-ghost use Rattle.std.specs.Prelude.{◌≡◌, ◌+◌, ◌<◌, ◌≤◌, [], length, true, vec_capacity, IfOk};
+ghost use Rattle.std.specs.Prelude.{◌≡◌, ◌+◌, ◌<◌, ◌≤◌, length, true, vec_capacity, IfOk};
 ghost use Rattle.obj_lines.specs.declared.limits.TheConstants.{MOST_TEXT_BYTES};
 ghost use Rattle.obj_lines.specs.Text.{content};
 ghost use Rattle.obj_lines.specs.Feeding.{begun, is_going, is_line, opened, open_line, last_line};

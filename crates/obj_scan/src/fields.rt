@@ -1,5 +1,5 @@
 //! The fields of a line after its keyword.
-ghost use Rattle.std.specs.Prelude.{ℕ, List, ◌∷◌, ◌≡◌, ◌+◌, ◌-◌, ◌*◌, ◌^◌, ◌<◌, ◌≤◌, nat_le};
+ghost use Rattle.std.specs.Prelude.{ℕ, ◌∷◌, ◌≡◌, ◌+◌, ◌-◌, ◌*◌, ◌^◌, ◌<◌, ◌≤◌, nat_le};
 ghost use Rattle.std.specs.Prelude.{length, unsigned_abs, Ok, Err, OnOk, IfOk, IfErr, IfSome};
 ghost use Rattle.std.specs.List.{All};
 ghost use Rattle.obj_read.specs.declared.fault.ObjFault.TheVariants as faults;

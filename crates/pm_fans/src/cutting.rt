@@ -1,5 +1,5 @@
 //! The sides along which the surface is cut open, counted.
-ghost use Rattle.std.specs.Prelude.{◌≡◌, ◌*◌, ◌<◌, ◌≤◌, nat_lt, length, IfOk};
+ghost use Rattle.std.specs.Prelude.{◌≡◌, ◌*◌, ◌<◌, nat_lt, length, IfOk};
 ghost use Rattle.pm_base.specs.Counts.{count};
 ghost use Rattle.pm_base.specs.Sides.{Net, net_of, side_count};
 ghost use Rattle.pm_fans.specs.Splits.{IsCuttable};

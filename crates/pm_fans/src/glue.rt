@@ -2,9 +2,9 @@
 //! side that stands once is glued to the one that runs back, where that stands once too.
 ghost use Rattle.std.specs.Prelude.{◌≡◌, ◌+◌, ◌*◌, ◌<◌, ◌≤◌, ℕ, length, IfOk, OnOk, MatchOption};
 ghost use Rattle.pm_base.specs.declared.limits.TheConstants.{MOST_FACES, MOST_SIDES};
-ghost use Rattle.pm_base.specs.Sides.{Net, net_of, side_count, to as to_of};
+ghost use Rattle.pm_base.specs.Sides.{Net, net_of, side_count};
 ghost use Rattle.pm_fans.specs.Splits.{IsGlued, AreGlued, IsCuttable};
-ghost use Rattle.pm_fans.specs.Ends.{ends_key, ends_key_at, IsAloneWithKey, AreNoted};
+ghost use Rattle.pm_fans.specs.Ends.{ends_key, IsAloneWithKey, AreNoted};
 
 use crate::OutOfMemory;
 use crate::sides::{from, to};

@@ -1,6 +1,5 @@
 //! The planes at a corner of a face: that of the face, and those that stand on open sides.
-ghost use Rattle.std.specs.Prelude.{◌≡◌, ◌≤◌, ◌<◌, ◌^◌, ◌++◌, ℕ, List, IfSome, option_map};
-ghost use Rattle.pm_base.specs.Geometry.{Direction};
+ghost use Rattle.std.specs.Prelude.{◌≡◌, ◌≤◌, ◌<◌, ◌^◌, ◌++◌, List, IfSome, option_map};
 ghost use Rattle.pm_quadric.specs.Planes.{Plane};
 ghost use Rattle.pm_quadric.specs.Sums.{StandsFor};
 ghost use Rattle.pm_fine.specs.declared.fine_quadric.TheConstants.{MOST_FINE_PLANES};

@@ -1,7 +1,6 @@
 //! What the input's vertices are brought and take.
 ghost use Rattle.std.specs.Prelude.{◌≡◌, ◌*◌, ◌<◌, ◌≤◌, ◌+◌, ◌++◌, ℕ, length};
 ghost use Rattle.std.specs.Prelude.{slice_index_or, slice_set, IfOk};
-ghost use Rattle.pm_base.specs.Meshes.{mesh_of};
 ghost use Rattle.pm_base.specs.Sides.{net_of};
 ghost use Rattle.pm_quadric.specs.Sums.{StandsFor, plus_sums, sums_of};
 ghost use Rattle.pm_runs.specs.Surfaces.{surface_of};

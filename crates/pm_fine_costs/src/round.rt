@@ -1,5 +1,5 @@
 //! The planes that a vertex takes: those of the faces round it.
-ghost use Rattle.std.specs.Prelude.{◌≡◌, ◌≤◌, ◌*◌, true, length};
+ghost use Rattle.std.specs.Prelude.{◌≡◌, ◌≤◌, true};
 ghost use Rattle.pm_base.specs.Sides.{Stands};
 ghost use Rattle.pm_quadric.specs.Sums.{StandsFor};
 ghost use Rattle.pm_runs.specs.Surfaces.{is_live as is_live_in};

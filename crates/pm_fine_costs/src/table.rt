@@ -1,8 +1,7 @@
 //! The costs of the fine policy: two quadrics for each live vertex.
-ghost use Rattle.std.specs.Prelude.{◌≡◌, ◌+◌, ◌<◌, ◌≤◌, ℕ, Bool, [], IfOk};
-ghost use Rattle.pm_quadric.specs.Sums.{StandsFor};
+ghost use Rattle.std.specs.Prelude.{◌<◌, ℕ, Bool, [], IfOk};
 ghost use Rattle.pm_fine_costs.specs.FinePolicy.{fine_keeping};
-ghost use Rattle.pm_fine_costs.specs.FineCosts.{GoesByFine, quadrics_at};
+ghost use Rattle.pm_fine_costs.specs.FineCosts.{GoesByFine};
 
 use crate::first::first_quadrics;
 use crate::pair::BothQuadrics;

@@ -1,5 +1,5 @@
 //! What is wrong with the next unit, by the rules of shape, over a forest that has those before it.
-ghost use Rattle.std.specs.Prelude.{if◌then◌else◌, sum, OnOk, OnSome, IfNone, true, false, ◌≡◌};
+ghost use Rattle.std.specs.Prelude.{sum, OnOk, OnSome, IfNone, true, false, ◌≡◌};
 ghost use Rattle.std.specs.Prelude.{◌+◌, ◌-◌, ◌<◌, ◌≤◌, ◌||◌, ◌&&◌, length, None, Some, IfOk};
 ghost use Rattle.std.specs.Prelude.{IfErr, IfSome, is_some};
 ghost use Rattle.pm_base.specs.declared.limits.TheConstants.{MOST_NODES};

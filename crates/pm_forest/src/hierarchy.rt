@@ -1,9 +1,8 @@
 //! Hierarchies that are whole, and their readers.
 ghost use Rattle.std.specs.Prelude.{◌≡◌, ◌+◌, ◌≤◌, ◌<◌, ◌↔◌, None, IfSome, length, slice_index_or};
 ghost use Rattle.pm_base.specs.declared.limits.TheConstants.{MOST_FACES, MOST_NODES, MOST_VERTICES};
-ghost use Rattle.pm_base.specs.Place.{Place};
 ghost use Rattle.pm_forest.specs.Forest.{leaf_count, node_count, record_count, record_at, t_of};
-ghost use Rattle.pm_forest.specs.Forest.{u_of, interval_of, maker_of, splitter_of, no_record};
+ghost use Rattle.pm_forest.specs.Forest.{u_of, interval_of, maker_of, splitter_of};
 ghost use Rattle.pm_forest.specs.Faces.{faces_of, face_count, revealed_by, corners_of};
 ghost use Rattle.pm_forest.specs.Faces.{no_face_corners};
 ghost use Rattle.pm_forest.specs.Places.{place_of_node};

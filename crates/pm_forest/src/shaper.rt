@@ -1,6 +1,6 @@
 //! Takes a hierarchy in unit by unit, and refuses the first unit that breaks a rule of shape.
-ghost use Rattle.std.specs.Prelude.{true, false, ◌≡◌, ◌+◌, ◌≤◌, ◌⊎◌, length, [], ◌∷◌, ◌++◌, None};
-ghost use Rattle.std.specs.Prelude.{Some, is_some, OnOk, OnErr, IfOk, IfErr, IfSome};
+ghost use Rattle.std.specs.Prelude.{true, false, ◌≡◌, ◌+◌, ◌⊎◌, [], ◌∷◌, ◌++◌, None};
+ghost use Rattle.std.specs.Prelude.{Some, OnOk, OnErr, IfOk, IfErr, IfSome};
 ghost use Rattle.pm_forest.specs.declared.parts.Counts.{Counts};
 ghost use Rattle.pm_forest.specs.declared.parts.UnitKind.TheVariants as kinds;
 ghost use Rattle.pm_forest.specs.Rules.{counts_are_bad, root_fault, base_fault, head_fault};

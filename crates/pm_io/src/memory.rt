@@ -1,6 +1,6 @@
 //! Devices in memory, for tests and for callers that have their bytes already.
 ghost use Rattle.std.specs.Prelude.{◌≡◌, ◌+◌, ◌-◌, ◌^◌, ◌≤◌, ◌<◌, ◌||◌, ◌==◌, [], ◌++◌, min};
-ghost use Rattle.std.specs.Prelude.{length, take, drop, nat_le, if◌then◌else◌, false, IfOk, OnOk};
+ghost use Rattle.std.specs.Prelude.{length, take, drop, nat_le, if◌then◌else◌, false, IfOk};
 ghost use Rattle.std.specs.Prelude.{OnErr, Some, is_err};
 ghost use Rattle.pm_io.specs.Bytes.{Loses, Gains, AtEnd};
 ghost use Rattle.pm_io.specs.Causes.{HasCause};

@@ -5,8 +5,8 @@
 //! exchange is the only write that they need. Keys are kept for the first places alone, those of
 //! the items that have one.
 
-ghost use Rattle.std.specs.Prelude.{◌≡◌, ℕ, ◌+◌, ◌<◌, ◌≤◌, None, Some, length, replicate, is_some};
-ghost use Rattle.std.specs.Prelude.{slice_index, slice_set, IfNone, IfOk, IfSome};
+ghost use Rattle.std.specs.Prelude.{◌≡◌, ◌<◌, ◌≤◌, None, Some, length, replicate, is_some};
+ghost use Rattle.std.specs.Prelude.{slice_index, slice_set, IfOk};
 ghost use Rattle.pm_queue.specs.Entries.{key_at};
 ghost use Rattle.pm_queue.specs.Heap.{item_key, place_key, precedes};
 ghost use Rattle.pm_queue.specs.Tables.{entries_of, order, IsExchanged, IsKept, IsPlaced};

@@ -1,5 +1,5 @@
 //! A list of flags, 64 in a word, and searches in it.
-ghost use Rattle.std.specs.Prelude.{◌≡◌, ℕ, ◌+◌, ◌*◌, ◌/◌, ◌<◌, ◌≤◌, ◌↔◌, true, false, length};
+ghost use Rattle.std.specs.Prelude.{◌≡◌, ◌+◌, ◌*◌, ◌/◌, ◌<◌, ◌≤◌, true, false, length};
 ghost use Rattle.std.specs.Prelude.{replicate, slice_set, IfOk, IfSome, IfNone};
 ghost use Rattle.pm_base.specs.Counts.{set_of};
 ghost use Rattle.pm_sets.specs.Sets.{IsEmptySet, IsGap, IsFirst, IsLast};

@@ -1,5 +1,5 @@
 //! The bits of one word.
-ghost use Rattle.std.specs.Prelude.{ℕ, ◌≡◌, ◌≢◌, ◌<◌, ◌≤◌, true, false, IfSome, IfNone, ◌↔◌};
+ghost use Rattle.std.specs.Prelude.{ℕ, ◌≡◌, ◌≢◌, ◌<◌, ◌≤◌, true, false, IfSome, IfNone};
 ghost use Rattle.pm_sets.specs.Bits.{has_bit, IsBitGap};
 
 /// How many bits a word has.

@@ -1,7 +1,7 @@
 //! A face that turns over, looked for beside the pair's edge. Where many corners are at one vertex,
 //! as in the middle of a cap, a face that does is mostly a few steps away, and the list of corners
 //! would come to it late.
-ghost use Rattle.std.specs.Prelude.{◌≡◌, ◌≢◌, ◌<◌, ℕ, true, IfSome};
+ghost use Rattle.std.specs.Prelude.{◌≡◌, ◌<◌, true, IfSome};
 ghost use Rattle.pm_base.specs.Sides.{Stands, IsTwin};
 ghost use Rattle.pm_runs.specs.Surfaces.{is_live as is_live_in};
 ghost use Rattle.pm_shrink.specs.Shrinking.{net_at};

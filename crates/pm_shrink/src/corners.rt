@@ -21,7 +21,7 @@ pub(crate) struct OptionalCorners {
 }
 
 impl Model for OptionalCorners {
-    ghost use Rattle.std.specs.Prelude.{◌≡◌, Option, None, Some, cond, ◌==◌, unwrap_or};
+    ghost use Rattle.std.specs.Prelude.{◌≡◌, Option, unwrap_or};
     ghost use Rattle.pm_base.specs.declared.mesh.Corners.{Corners};
     ghost use Rattle.pm_shrink.specs.declared.corners.TheConstants.{NONE};
     ghost use Rattle.pm_shrink.specs.CornerNumbers.{none_numbers, held_by, given_back};

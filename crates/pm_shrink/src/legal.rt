@@ -1,7 +1,7 @@
 //! Which pairs may be collapsed: the link condition with its border cases (Dey, Edelsbrunner, Guha
 //! and Nekhayev 1999), and the test for faces that turn over. Only the faces at the two ends are
 //! looked at.
-ghost use Rattle.std.specs.Prelude.{◌≡◌, ◌≢◌, ◌<◌, ℕ, ◌↔◌, ◌&&◌, ◌≤ℤ◌, pos, true, IsTrue, is_none};
+ghost use Rattle.std.specs.Prelude.{◌≡◌, ◌≢◌, ◌↔◌, ◌&&◌, ◌≤ℤ◌, pos, true, IsTrue, is_none};
 ghost use Rattle.pm_base.specs.Geometry.{cross_of, dot_of};
 ghost use Rattle.pm_base.specs.Sides.{next as next_of, prev as prev_of, to as to_of};
 ghost use Rattle.pm_base.specs.Sides.{third as third_of, Stands, IsBorder, twin_of};

@@ -1,5 +1,5 @@
 //! The tables of a surface that shrinks, and what a collapse writes to them.
-ghost use Rattle.std.specs.Prelude.{◌≡◌, ◌+◌, ◌*◌, ◌<◌, ◌≤◌, ℕ, length, IfSome};
+ghost use Rattle.std.specs.Prelude.{◌≡◌, ◌+◌, ◌*◌, ◌<◌, ◌≤◌, length, IfSome};
 ghost use Rattle.pm_base.specs.declared.limits.TheConstants.{MOST_FACES, MOST_NODES, MOST_SIDES};
 ghost use Rattle.pm_links.specs.Lists.{list_of, IsSound};
 ghost use Rattle.pm_runs.specs.Runs.{IsStep};

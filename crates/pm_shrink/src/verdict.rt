@@ -1,9 +1,9 @@
 //! Whether a pair may be collapsed, and if not which face shows why.
-ghost use Rattle.std.specs.Prelude.{◌≡◌, ◌≢◌, ◌<◌, ℕ, true, IsTrue, IsFalse, MatchOption};
-ghost use Rattle.pm_base.specs.Sides.{to as to_of, third as third_of, Stands};
+ghost use Rattle.std.specs.Prelude.{◌≡◌, ◌<◌, true, IsTrue, IsFalse, MatchOption};
+ghost use Rattle.pm_base.specs.Sides.{Stands};
 ghost use Rattle.pm_runs.specs.Surfaces.{is_live as is_live_in};
 ghost use Rattle.pm_runs.specs.Pairs.{Joined, HaveCommonThirds, ShareNoTriangle, AreNotAlone};
-ghost use Rattle.pm_runs.specs.Pairs.{StaysUpright, StayUpright};
+ghost use Rattle.pm_runs.specs.Pairs.{StayUpright};
 ghost use Rattle.pm_shrink.specs.Shrinking.{net_at};
 ghost use Rattle.pm_shrink.specs.Obstacles.{Strays, TellsTriangle, IsAlone, TurnsOver, Hinders};
 ghost use Rattle.pm_shrink.specs.Obstacles.{VerdictTells};

@@ -1,6 +1,6 @@
 //! What stands beyond each side, in a table of four bytes a side. A move changes it beside the
 //! recorded neighbours.
-ghost use Rattle.std.specs.Prelude.{◌≡◌, ◌+◌, ◌*◌, ◌<◌, ℕ, true, length, slice_set, IfSome, Some};
+ghost use Rattle.std.specs.Prelude.{◌≡◌, ◌*◌, ◌<◌, ℕ, true, length, slice_set, IfSome, Some};
 ghost use Rattle.pm_base.specs.declared.limits.TheConstants.{MOST_SIDES};
 ghost use Rattle.pm_base.specs.Sides.{NoSideTwice, beside_side};
 ghost use Rattle.pm_twins.specs.Table.{IsTableOf};

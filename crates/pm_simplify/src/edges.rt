@@ -1,5 +1,5 @@
 //! What is known of the edges between two collapses.
-ghost use Rattle.std.specs.Prelude.{◌≡◌, ◌*◌, ◌<◌, ◌≤◌, ℕ, List, [], length, IfOk};
+ghost use Rattle.std.specs.Prelude.{◌≡◌, ◌*◌, ◌<◌, ◌≤◌, ℕ, List, length, IfOk};
 ghost use Rattle.pm_base.specs.declared.limits.TheConstants.{MOST_FACES, MOST_VERTICES};
 ghost use Rattle.pm_base.specs.declared.log.Collapse.{Collapse};
 ghost use Rattle.pm_base.specs.Meshes.{Mesh};

@@ -1,6 +1,6 @@
 //! The numbers of edges in the queue, and the sides of a face. An edge has the number of one of its
 //! sides: the lesser of the two where two faces have it.
-ghost use Rattle.std.specs.Prelude.{◌≡◌, ◌<◌, true};
+ghost use Rattle.std.specs.Prelude.{◌≡◌, ◌<◌};
 ghost use Rattle.pm_base.specs.Sides.{next as next_of, prev as prev_of, side_count, Stands};
 ghost use Rattle.pm_shrink.specs.Shrinking.{net_at};
 ghost use Rattle.pm_simplify.specs.Items.{item_of as item_in};

@@ -1,5 +1,5 @@
 //! One collapse, with what is known of each edge kept right.
-ghost use Rattle.std.specs.Prelude.{◌≡◌, ◌*◌, ◌++◌, ◌∷◌, [], ℕ, List, length};
+ghost use Rattle.std.specs.Prelude.{◌≡◌, ◌*◌, ◌++◌, ◌∷◌, [], List, length};
 ghost use Rattle.pm_base.specs.declared.log.Collapse.{Collapse as Entry};
 ghost use Rattle.pm_base.specs.Meshes.{Mesh};
 ghost use Rattle.pm_base.specs.Sides.{side_count};

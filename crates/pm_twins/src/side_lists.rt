@@ -1,7 +1,7 @@
 //! The sides of a mesh in lists: for each vertex those that leave it, from the last to the first.
 //! They are linked through the table that is to hold the twins, so that they take no memory but
 //! four bytes a vertex.
-ghost use Rattle.std.specs.Prelude.{◌≡◌, ◌*◌, ◌<◌, ◌≤◌, Some, None, length, replicate, slice_set};
+ghost use Rattle.std.specs.Prelude.{◌≡◌, ◌*◌, ◌<◌, Some, None, length, replicate, slice_set};
 ghost use Rattle.std.specs.Prelude.{slice_index_or, IfOk, IfSome};
 ghost use Rattle.pm_base.specs.Sides.{net_of, side_count};
 ghost use Rattle.pm_base.specs.declared.limits.TheConstants.{MOST_SIDES};

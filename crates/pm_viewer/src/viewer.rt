@@ -37,7 +37,7 @@ pub struct Viewer {
 }
 
 impl Model for Viewer {
-    ghost use Rattle.std.specs.Prelude.{◌≡◌, ◌≢◌, ◌≤◌, length};
+    ghost use Rattle.std.specs.Prelude.{◌≡◌, ◌≤◌, length};
     ghost use Rattle.pm_forest.specs.Forest.{node_count};
     ghost use Rattle.pm_session.specs.declared.grammar.Grammar.TheVariants as grammars;
     ghost use Rattle.pm_viewer.specs.Viewing.{Viewed};
