@@ -83,7 +83,6 @@ pub(crate) fn place_key(p: &Point) -> u64
 }
 
 /// The faces over joined vertices.
-#[tactic(auto, using(crate::proofs::JoiningLaws::renamed_more, crate::proofs::JoiningLaws::renamed_all))]
 pub(crate) fn joined_faces(
     alloc: Global,
     names: &[u32],

@@ -8,7 +8,6 @@ use pm_base::Corners;
 use std::alloc::Global;
 
 /// Of each vertex, whether a face names it. O(V + F) for V vertices and F faces.
-#[tactic(auto, using(crate::proofs::NamedLaws::one_more_named, crate::proofs::NamedLaws::corners_within))]
 pub(crate) fn named(
     alloc: Global,
     vertices: usize,
