@@ -88,6 +88,12 @@ times_small s k m small one =
           high,
     )
 
+pub part_in_sum : (s : Spread) → IsPart s → IsSum s
+part_in_sum s small = (omega (arith, small.0), omega (arith, small.1))
+
+pub one_small : (k : ℤ) → unsigned_abs k ≤ 1 → unsigned_abs k ≤ 65534
+one_small k one = omega arith
+
 sum_small : (a b c : ℤ) → unsigned_abs a ≤ 16384 → unsigned_abs b ≤ 16384 → unsigned_abs c ≤ 16384
     → unsigned_abs (a +ℤ b +ℤ c) ≤ 49152
 sum_small a b c p q r = omega (arith, ints)
