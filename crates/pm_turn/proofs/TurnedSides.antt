@@ -5,7 +5,7 @@ use Rattle.std.proofs.Common.{ap, ◌∙◌, subst, List, length, Bool, true, fa
 use Rattle.std.proofs.lemmas.Bool.{cases_Bool, cases_eq, cond-true, cond-false, eqb-true, eqb-false}
 use Rattle.std.proofs.lemmas.Bool.{ne_eqb, true≢false}
 use Rattle.pm_base.specs.declared.mesh.Corners.{Corners}
-use Rattle.pm_base.specs.Sides.{Net, face_of, to, net_of, corner_in, Stands}
+use Rattle.pm_base.specs.Sides.{Net, face_of, next, to, net_of, corner_in, Stands}
 use Rattle.pm_base.proofs.Sides.{next-lt, face_of-next}
 use Rattle.pm_base.proofs.NetLaws.{face_at, first_side, second_side, third_side}
 use Rattle.pm_fans.specs.Splits.{AllStand, IsGlued}
@@ -73,7 +73,15 @@ module _ (flags : List Bool) (fs : List Corners) where
     pub to_is : to n (moved flags e) ≡ m.from e
 
   runs : (e : ℕ) → e < 3 * length fs → flag_of flags (face_of e) ≡ false → Runs e
-  runs e l is = grind (arith, common_steps, face_of-next, from_not, moved_not, next-lt)
+  runs e l is =
+      let at = moved_not e is in
+      let next_is = ap (flag_of flags) (face_of-next e) ∙ is in
+      record {
+        unset = is;
+        from_is = ap n.from at ∙ from_not e l is;
+        to_is =
+            ap (to n) at ∙ from_not (next e) (next-lt (length fs) e l) next_is;
+      }
 
   runs_back : (e f : ℕ) → face_of e ≡ f → f < length fs → flag_of flags f ≡ true
       → (n.from (3 * f + (2 - e % 3)) ≡ to m e) × (to n (3 * f + (2 - e % 3)) ≡ m.from e)
@@ -101,7 +109,13 @@ module _ (flags : List Bool) (fs : List Corners) where
             )
         | inr r0 ↦
             elim (cases_eq (e % 3) 1) [
-              | inl r ↦ grind (arith, common_steps)
+              | inl r ↦
+                  let e' : e ≡ 3 * f + 1 = omega (arith, at, r) in
+                  let g' : 3 * f + (2 - e % 3) ≡ 3 * f + 1 = omega (arith, r) in (
+                    ap n.from g' ∙ tb2 ∙ kb ∙ sym c ∙ ap (to m) (sym e'),
+                    ap (to n) g' ∙ tc ∙ kc
+                        ∙ sym b2 ∙ ap m.from (sym e'),
+                  )
               | inr r1 ↦
                   let r : e % 3 ≡ 2 = omega (arith, r0, r1) in
                   let e' : e ≡ 3 * f + 2 = omega (arith, at, r) in
@@ -113,14 +127,17 @@ module _ (flags : List Bool) (fs : List Corners) where
             ]
       ]
 
+  runs_on : (e : ℕ) → e < 3 * length fs → flag_of flags (face_of e) ≡ true → RunsBack e
+  runs_on e l is =
+      let at = moved_on e is in
+      let (a, b) = runs_back e (face_of e) refl (omega arith) is in
+      record { set = is; from_is = ap n.from at ∙ a; to_is = ap (to n) at ∙ b }
+
   pub runs_cases : (e : ℕ) → e < 3 * length fs → Runs e ⊎ RunsBack e
   runs_cases e l =
       elim (cases_Bool (flag_of flags (face_of e))) [
         | inr is ↦ inl (runs e l is)
-        | inl is ↦
-            let at = moved_on e is in
-            let (a, b) = runs_back e (face_of e) refl (omega arith) is in
-            inr (record { set = is; from_is = ap n.from at ∙ a; to_is = ap (to n) at ∙ b })
+        | inl is ↦ inr (runs_on e l is)
       ]
 
   pub ends_moved : (e : ℕ) → e < 3 * length fs
@@ -155,6 +172,7 @@ module _ (flags : List Bool) (fs : List Corners) where
         → (n.from (moved flags k) ≡ to n (moved flags e))
         × (to n (moved flags k) ≡ n.from (moved flags e))
     twins e k a is =
+        let side : k < 3 * length fs = a.same.stands.is_side in
         elim (cases_Bool (clash m e k)) [
           | inl c ↦
               let same : m.from e ≡ m.from k = eqb-true _ _ c in
@@ -164,8 +182,12 @@ module _ (flags : List Bool) (fs : List Corners) where
                 | inr (b, d) ↦ absurd (a.stands.first (same ∙ b))
                 | inl (b, d) ↦
                     elim (runs_cases e a.stands.is_side) [
-                      | inl r ↦ grind (arith, common_steps, runs_cases)
-                      | inr r ↦ grind (arith, common_steps, runs_cases)
+                      | inl r ↦
+                          let q = runs_on k side (not_same ∙ ap not r.unset) in
+                          (q.from_is ∙ d ∙ sym r.to_is, q.to_is ∙ b ∙ sym r.from_is)
+                      | inr r ↦
+                          let q = runs k side (not_same ∙ ap not r.set) in
+                          (q.from_is ∙ b ∙ sym r.to_is, q.to_is ∙ d ∙ sym r.from_is)
                     ]
               ]
           | inr c ↦
@@ -176,8 +198,12 @@ module _ (flags : List Bool) (fs : List Corners) where
                 | inl (b, d) ↦ absurd (apart (sym b))
                 | inr (b, d) ↦
                     elim (runs_cases e a.stands.is_side) [
-                      | inl r ↦ grind (arith, common_steps, runs_cases)
-                      | inr r ↦ grind (arith, common_steps, runs_cases)
+                      | inl r ↦
+                          let q = runs k side (same ∙ r.unset) in
+                          (q.from_is ∙ b ∙ sym r.to_is, q.to_is ∙ d ∙ sym r.from_is)
+                      | inr r ↦
+                          let q = runs_on k side (same ∙ r.set) in
+                          (q.from_is ∙ d ∙ sym r.to_is, q.to_is ∙ b ∙ sym r.from_is)
                     ]
               ]
         ]
@@ -224,7 +250,17 @@ glued_mates m e k w =
     )
 
 pub mates_back : (m : Net) (e k : ℕ) → AreMates m e k → AreMates m k e
-mates_back m e k a = grind (arith, common_steps, ends_back, ends_on)
+mates_back m e k a =
+    record {
+      stands = a.same.stands;
+      differ = λ is. a.differ (sym is);
+      same = record { stands = a.stands; ends = ends_back a.same.ends };
+      alone = λ g s.
+          elim (a.alone g (record { stands = s.stands; ends = ends_on s.ends a.same.ends })) [
+            | inl is ↦ inr is
+            | inr is ↦ inl is
+          ];
+    }
 
 module _ (fs : List Corners) (flags : List Bool) (t : AgreeOnceTurned (net_of (kept_of fs)) flags)
   where
