@@ -1,3 +1,6 @@
+pub mod Words
+pub mod PlaneLaws
+pub mod Ends
 pub mod Premises
 pub mod Outside
 pub mod FacingLaws

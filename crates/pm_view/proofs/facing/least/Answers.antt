@@ -1,10 +1,35 @@
-use Rattle.std.proofs.Common.{◌≡◌, ℕ, ◌≤◌, FitsSigned, rules, arith}
+use Rattle.std.proofs.Common.{◌≡◌, ℕ, ◌≤◌, ◌^◌, w64, FitsSigned, rules, arith, lit<}
 use mir.Syntax.{w128}
 use Rattle.std.specs.Prelude.{ℤ, unsigned_abs}
 use Rattle.std.specs.Int.{int_min}
 use Rattle.std.proofs.lemmas.Int.{to_z-of_z, clamps}
 use borrow.Author.Differences.{ints}
+use Rattle.pm_view.proofs.Words.{fits_small, read_small}
 use Rattle.pm_view.proofs.facing.least.Goals as goal
+
+pub product-requires : goal.product-requires
+product-requires c = record {
+  a_small = read_small w64 c.args.a (2 ^ 34) c.requires.a_small (lit< tt);
+  b_small = read_small w64 c.args.c (2 ^ 40) c.requires.c_small (lit< tt);
+}
+
+pub product-requires-2 : goal.product-requires-2
+product-requires-2 c = record {
+  a_small = read_small w64 c.args.a (2 ^ 34) c.requires.a_small (lit< tt);
+  b_small = read_small w64 c.args.d (2 ^ 40) c.requires.d_small (lit< tt);
+}
+
+pub product-requires-3 : goal.product-requires-3
+product-requires-3 c = record {
+  a_small = read_small w64 c.args.b (2 ^ 34) c.requires.b_small (lit< tt);
+  b_small = read_small w64 c.args.c (2 ^ 40) c.requires.c_small (lit< tt);
+}
+
+pub product-requires-4 : goal.product-requires-4
+product-requires-4 c = record {
+  a_small = read_small w64 c.args.b (2 ^ 34) c.requires.b_small (lit< tt);
+  b_small = read_small w64 c.args.d (2 ^ 40) c.requires.d_small (lit< tt);
+}
 
 pub returns-clause-value : goal.returns-clause-value
 returns-clause-value c =
@@ -12,10 +37,10 @@ returns-clause-value c =
     let fb = c.ranges.b in
     let fc = c.ranges.c in
     let fd = c.ranges.d in
-    let p1 : FitsSigned w128 c.product.result = search rules in
-    let p2 : FitsSigned w128 c.product-2.result = search rules in
-    let p3 : FitsSigned w128 c.product-3.result = search rules in
-    let p4 : FitsSigned w128 c.product-4.result = search rules in
+    let p1 = fits_small w128 c.product.result (2 ^ 74) c.product.ensures.small (lit< tt) in
+    let p2 = fits_small w128 c.product-2.result (2 ^ 74) c.product-2.ensures.small (lit< tt) in
+    let p3 = fits_small w128 c.product-3.result (2 ^ 74) c.product-3.ensures.small (lit< tt) in
+    let p4 = fits_small w128 c.product-4.result (2 ^ 74) c.product-4.ensures.small (lit< tt) in
     let m1 : FitsSigned w128 c.min.result = search rules in
     let m2 : FitsSigned w128 c.min-2.result = search rules in
     let m3 : FitsSigned w128 c.min-3.result = search rules in
@@ -37,10 +62,10 @@ min_small r x y m e p q = omega (arith, ints, clamps)
 
 pub returns-clause-small : goal.returns-clause-small
 returns-clause-small c =
-    let p1 : FitsSigned w128 c.product.result = search rules in
-    let p2 : FitsSigned w128 c.product-2.result = search rules in
-    let p3 : FitsSigned w128 c.product-3.result = search rules in
-    let p4 : FitsSigned w128 c.product-4.result = search rules in
+    let p1 = fits_small w128 c.product.result (2 ^ 74) c.product.ensures.small (lit< tt) in
+    let p2 = fits_small w128 c.product-2.result (2 ^ 74) c.product-2.ensures.small (lit< tt) in
+    let p3 = fits_small w128 c.product-3.result (2 ^ 74) c.product-3.ensures.small (lit< tt) in
+    let p4 = fits_small w128 c.product-4.result (2 ^ 74) c.product-4.ensures.small (lit< tt) in
     let m1 : FitsSigned w128 c.min.result = search rules in
     let m2 : FitsSigned w128 c.min-2.result = search rules in
     let m3 : FitsSigned w128 c.min-3.result = search rules in

@@ -1,0 +1,27 @@
+-- The value of a plane at a place, as it is computed.
+use Rattle.std.proofs.Common.{◌≡◌, ◌^◌, ◌≤◌, w32, w64, to_z, of_z, refl, ◌∙◌, lit<}
+use Rattle.std.specs.Prelude.{ℤ, ◌+ℤ◌, ◌*ℤ◌, unsigned_abs}
+use Rattle.pm_view.proofs.Words.{read_is}
+
+pub term_is : (r a x y : ℤ) → r ≡ to_z w32 (of_z w32 a) *ℤ to_z w32 (of_z w32 y) → y ≡ x
+    → unsigned_abs a ≤ 32767 → unsigned_abs x ≤ 32767 → r ≡ a *ℤ x
+term_is r a x y e is p q =
+    e ∙ rw (is, read_is w32 a 32767 p (lit< tt), read_is w32 x 32767 q (lit< tt)) refl
+
+pub sum_is : (r p q s d p' q' s' : ℤ)
+    → r ≡ to_z w64 (of_z w64 p) +ℤ to_z w64 (of_z w64 q) +ℤ to_z w64 (of_z w64 s)
+    +ℤ to_z w64 (of_z w64 d)
+    → unsigned_abs p ≤ 2 ^ 31 → unsigned_abs q ≤ 2 ^ 31 → unsigned_abs s ≤ 2 ^ 31
+    → unsigned_abs d ≤ 2 ^ 42 → unsigned_abs r ≤ 2 ^ 43 → p ≡ p' → q ≡ q' → s ≡ s'
+    → to_z w64 (of_z w64 r) ≡ p' +ℤ q' +ℤ s' +ℤ d
+sum_is r p q s d p' q' s' e sp sq ss sd sr ep eq es =
+    read_is w64 r (2 ^ 43) sr (lit< tt)
+    ∙ (e ∙ rw (
+      read_is w64 p (2 ^ 31) sp (lit< tt),
+      read_is w64 q (2 ^ 31) sq (lit< tt),
+      read_is w64 s (2 ^ 31) ss (lit< tt),
+      read_is w64 d (2 ^ 42) sd (lit< tt),
+      ep,
+      eq,
+      es,
+    ) refl)

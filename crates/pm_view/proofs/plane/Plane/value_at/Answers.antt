@@ -1,0 +1,61 @@
+use Rattle.std.proofs.Common.{◌≡◌, ◌≤◌, ◌^◌, w32, w64, to_z, of_z, lit<}
+use Rattle.std.specs.Prelude.{ℤ, unsigned_abs}
+use Rattle.pm_view.proofs.Words.{read_small}
+use Rattle.pm_view.proofs.PlaneLaws.{term_is, sum_is}
+use Rattle.pm_view.proofs.ViewLaws.{small_plane}
+use Rattle.pm_view.proofs.plane.Plane.value_at.Goals as goal
+
+coordinate_small : (r x : ℤ) → r ≡ x → unsigned_abs x ≤ 32767
+    → unsigned_abs (to_z w32 (of_z w32 r)) ≤ 32767
+coordinate_small r x e p = rw e (read_small w32 x 32767 p (lit< tt))
+
+pub component-requires : goal.component-requires
+component-requires c = record {
+  a_small = read_small w32 c.args.self.now.a 32767 (small_plane c.args.self.now c.requires).a (lit< tt);
+  x_small = coordinate_small c.x.result c.args.p.x c.x.ensures.value c.x.ensures.in_range.0;
+}
+
+pub component-requires-2 : goal.component-requires-2
+component-requires-2 c = record {
+  a_small = read_small w32 c.args.self.now.b 32767 (small_plane c.args.self.now c.requires).b (lit< tt);
+  x_small = coordinate_small c.y.result c.args.p.y c.y.ensures.value c.y.ensures.in_range.1;
+}
+
+pub component-requires-3 : goal.component-requires-3
+component-requires-3 c = record {
+  a_small = read_small w32 c.args.self.now.c 32767 (small_plane c.args.self.now c.requires).c (lit< tt);
+  x_small = coordinate_small c.z.result c.args.p.z c.z.ensures.value c.z.ensures.in_range.2;
+}
+
+pub add_four-requires-clause-a_small : goal.add_four-requires-clause-a_small
+add_four-requires-clause-a_small c =
+    read_small w64 c.component.result (2 ^ 31) c.component.ensures.small (lit< tt)
+
+pub add_four-requires-clause-b_small : goal.add_four-requires-clause-b_small
+add_four-requires-clause-b_small c =
+    read_small w64 c.component-2.result (2 ^ 31) c.component-2.ensures.small (lit< tt)
+
+pub add_four-requires-clause-c_small : goal.add_four-requires-clause-c_small
+add_four-requires-clause-c_small c =
+    read_small w64 c.component-3.result (2 ^ 31) c.component-3.ensures.small (lit< tt)
+
+pub add_four-requires-clause-d_small : goal.add_four-requires-clause-d_small
+add_four-requires-clause-d_small c =
+    read_small w64 c.args.self.now.d (2 ^ 42) (small_plane c.args.self.now c.requires).d (lit< tt)
+
+pub returns-clause-value : goal.returns-clause-value
+returns-clause-value c =
+    let small = small_plane c.args.self.now c.requires in
+    sum_is c.add_four.result c.component.result c.component-2.result c.component-3.result
+    c.args.self.now.d _ _ _ c.add_four.ensures.value c.component.ensures.small
+    c.component-2.ensures.small c.component-3.ensures.small small.d c.add_four.ensures.small
+    (term_is c.component.result c.args.self.now.a c.args.p.x c.x.result c.component.ensures.value
+    c.x.ensures.value small.a c.x.ensures.in_range.0)
+    (term_is c.component-2.result c.args.self.now.b c.args.p.y c.y.result
+    c.component-2.ensures.value c.y.ensures.value small.b c.y.ensures.in_range.1)
+    (term_is c.component-3.result c.args.self.now.c c.args.p.z c.z.result
+    c.component-3.ensures.value c.z.ensures.value small.c c.z.ensures.in_range.2)
+
+pub returns-clause-small : goal.returns-clause-small
+returns-clause-small c =
+    read_small w64 c.add_four.result (2 ^ 43) c.add_four.ensures.small (lit< tt)

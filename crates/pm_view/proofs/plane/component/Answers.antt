@@ -1,0 +1,21 @@
+use Rattle.std.proofs.Common.{◌^◌, w32, w64, to_z, of_z, lit<, lit≤}
+use Rattle.std.specs.Prelude.{◌*ℤ◌}
+use Rattle.pm_view.proofs.Words.{Computes, computed_small, wide_product}
+use Rattle.pm_view.proofs.plane.component.Goals as goal
+
+product_is : (c : goal.After-from-2)
+    → Computes w64 (to_z w64 (of_z w64 c.from.result) *ℤ to_z w64 (of_z w64 c.from-2.result))
+    (c.args.a *ℤ c.args.x) (2 ^ 31)
+product_is c =
+    wide_product w32 w64 c.from.result c.from-2.result c.args.a c.args.x 32767 32767 (2 ^ 31)
+    c.ranges.a c.ranges.x c.from.ensures c.from-2.ensures c.requires.a_small c.requires.x_small
+    (lit< tt) (lit< tt) (lit≤ tt) (lit< tt)
+
+pub overflow_mul-result : goal.overflow_mul-result
+overflow_mul-result c = (product_is c).fits
+
+pub returns-clause-value : goal.returns-clause-value
+returns-clause-value c = (product_is c).value
+
+pub returns-clause-small : goal.returns-clause-small
+returns-clause-small c = computed_small _ _ _ _ (product_is c)
