@@ -1,10 +1,11 @@
 -- The ends of a point box less the eye, on one axis, as they are computed.
 use Rattle.std.proofs.Common.{◌≡◌, ℕ, ◌^◌, ◌≤◌, w32, w64, FitsSigned, to_z, of_z, refl, ◌∙◌}
 use Rattle.std.proofs.Common.{arith, lit<, lit≤}
+use Rattle.std.proofs.Math.Nat.{le_trans}
 use mir.Syntax.{w128}
 use Rattle.std.specs.Prelude.{ℤ, pos, ◌+ℤ◌, ◌-ℤ◌, unsigned_abs}
 use Rattle.std.proofs.lemmas.Int.{to_z-of_z, to_z_pos}
-use Rattle.pm_view.proofs.Words.{Computes, read_is, widened, sum_computes, difference_computes}
+use Rattle.pm_view.proofs.Words.{Computes, read_is, read_small, widened, sum_computes, difference_computes}
 
 abbrev pub read_below : ℤ → ℕ → ℤ
 read_below at radius = to_z w64 (of_z w64 at) -ℤ to_z w64 radius
@@ -68,3 +69,8 @@ on_axis_is product r a b c d c' d' e sa sb sc sd sr ec ed =
       ec,
       ed,
     ) refl)
+
+-- A side of a normal box, read back.
+pub side_small : (a : ℤ) → unsigned_abs a ≤ 8589410312
+    → unsigned_abs (to_z w64 (of_z w64 a)) ≤ 2 ^ 34
+side_small a p = read_small w64 a (2 ^ 34) (le_trans p (lit≤ tt)) (lit< tt)

@@ -1,5 +1,5 @@
 -- Machine integers, which goals show as bits that are read back.
-use Rattle.std.proofs.Common.{◌≡◌, ℕ, ◌+◌, ◌*◌, ◌^◌, ◌<◌, ◌≤◌, FitsSigned, to_z, of_z, refl, ◌∙◌}
+use Rattle.std.proofs.Common.{◌≡◌, ℕ, ◌+◌, ◌*◌, ◌^◌, ◌<◌, ◌≤◌, FitsSigned, to_z, of_z, refl}
 use Rattle.std.proofs.Common.{arith}
 use Rattle.std.proofs.Math.Nat.{le_trans}
 use mir.Syntax.{Width}
@@ -21,6 +21,11 @@ read_is w z m p q = to_z-of_z w z (fits_small w z m p q)
 pub read_small : (w : Width) (z : ℤ) (m : ℕ) → unsigned_abs z ≤ m → m < 2 ^ hbits w
     → unsigned_abs (to_z w (of_z w z)) ≤ m
 read_small w z m p q = rw (read_is w z m p q) p
+
+-- The same of a number that is known by another.
+pub equal_small : (w : Width) (r z : ℤ) (m : ℕ) → r ≡ z → unsigned_abs z ≤ m → m < 2 ^ hbits w
+    → unsigned_abs (to_z w (of_z w r)) ≤ m
+equal_small w r z m e p q = rw e (read_small w z m p q)
 
 -- A number in a wider word.
 pub widened : (w v : Width) (z r : ℤ) (m : ℕ) → FitsSigned w z → r ≡ to_z w (of_z w z)

@@ -1,30 +1,28 @@
-use Rattle.std.proofs.Common.{◌≡◌, ◌≤◌, ◌^◌, w32, w64, to_z, of_z, lit<}
-use Rattle.std.specs.Prelude.{ℤ, unsigned_abs}
-use Rattle.pm_view.proofs.Words.{read_small}
+use Rattle.std.proofs.Common.{◌^◌, w32, w64, lit<}
+use Rattle.pm_view.proofs.Words.{read_small, equal_small}
 use Rattle.pm_view.proofs.PlaneLaws.{term_is, sum_is}
 use Rattle.pm_view.proofs.ViewLaws.{small_plane}
 use Rattle.pm_view.proofs.plane.Plane.value_at.Goals as goal
 
-coordinate_small : (r x : ℤ) → r ≡ x → unsigned_abs x ≤ 32767
-    → unsigned_abs (to_z w32 (of_z w32 r)) ≤ 32767
-coordinate_small r x e p = rw e (read_small w32 x 32767 p (lit< tt))
-
 pub component-requires : goal.component-requires
 component-requires c = record {
   a_small = read_small w32 c.args.self.now.a 32767 (small_plane c.args.self.now c.requires).a (lit< tt);
-  x_small = coordinate_small c.x.result c.args.p.x c.x.ensures.value c.x.ensures.in_range.0;
+  x_small = equal_small w32 c.x.result c.args.p.x 32767 c.x.ensures.value c.x.ensures.in_range.0
+      (lit< tt);
 }
 
 pub component-requires-2 : goal.component-requires-2
 component-requires-2 c = record {
   a_small = read_small w32 c.args.self.now.b 32767 (small_plane c.args.self.now c.requires).b (lit< tt);
-  x_small = coordinate_small c.y.result c.args.p.y c.y.ensures.value c.y.ensures.in_range.1;
+  x_small = equal_small w32 c.y.result c.args.p.y 32767 c.y.ensures.value c.y.ensures.in_range.1
+      (lit< tt);
 }
 
 pub component-requires-3 : goal.component-requires-3
 component-requires-3 c = record {
   a_small = read_small w32 c.args.self.now.c 32767 (small_plane c.args.self.now c.requires).c (lit< tt);
-  x_small = coordinate_small c.z.result c.args.p.z c.z.ensures.value c.z.ensures.in_range.2;
+  x_small = equal_small w32 c.z.result c.args.p.z 32767 c.z.ensures.value c.z.ensures.in_range.2
+      (lit< tt);
 }
 
 pub add_four-requires-clause-a_small : goal.add_four-requires-clause-a_small

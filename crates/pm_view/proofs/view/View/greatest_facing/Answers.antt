@@ -1,17 +1,65 @@
-use Rattle.std.proofs.Common.{◌≡◌, refl, FitsSigned, w32, w64, rules, subst}
+use Rattle.std.proofs.Common.{◌≡◌, ◌^◌, refl, FitsSigned, w32, w64, rules, subst, lit<}
 use mir.Syntax.{w128}
 use Rattle.std.proofs.lemmas.Int.{to_z-of_z}
 use Rattle.pm_view.specs.Views.{View}
 use Rattle.pm_view.specs.Wanted.{greatest_facing}
+use Rattle.pm_view.proofs.Words.{fits_small, read_small, equal_small}
+use Rattle.pm_view.proofs.Ends.{side_small}
 use Rattle.pm_view.proofs.view.View.greatest_facing.Goals as goal
+
+pub greatest_on_axis-x-requires : goal.greatest_on_axis-x-requires
+greatest_on_axis-x-requires c = record {
+  low_small = side_small c.args.normals.low.x c.requires.box_small.0.0;
+  high_small = side_small c.args.normals.high.x c.requires.box_small.1.0;
+  at_small =
+      equal_small w32 c.x.result c.args.place.x 32767 c.x.ensures.value
+      c.x.ensures.in_range.0 (lit< tt);
+  radius_small = c.requires.radius_small;
+  eye_small =
+      read_small w32 c.self.inside.ex 16777215 c.self.invariant.eye_x (lit< tt);
+}
+
+pub greatest_on_axis-y-requires : goal.greatest_on_axis-y-requires
+greatest_on_axis-y-requires c = record {
+  low_small = side_small c.args.normals.low.y c.requires.box_small.0.1;
+  high_small = side_small c.args.normals.high.y c.requires.box_small.1.1;
+  at_small =
+      equal_small w32 c.y.result c.args.place.y 32767 c.y.ensures.value
+      c.y.ensures.in_range.1 (lit< tt);
+  radius_small = c.requires.radius_small;
+  eye_small =
+      read_small w32 c.self.inside.ey 16777215 c.self.invariant.eye_y (lit< tt);
+}
+
+pub greatest_on_axis-z-requires : goal.greatest_on_axis-z-requires
+greatest_on_axis-z-requires c = record {
+  low_small = side_small c.args.normals.low.z c.requires.box_small.0.2;
+  high_small = side_small c.args.normals.high.z c.requires.box_small.1.2;
+  at_small =
+      equal_small w32 c.z.result c.args.place.z 32767 c.z.ensures.value
+      c.z.ensures.in_range.2 (lit< tt);
+  radius_small = c.requires.radius_small;
+  eye_small =
+      read_small w32 c.self.inside.ez 16777215 c.self.invariant.eye_z (lit< tt);
+}
+
+pub add_three-requires : goal.add_three-requires
+add_three-requires c = record {
+  a_small =
+      read_small w128 c.greatest_on_axis-x.result (2 ^ 74) c.greatest_on_axis-x.ensures.small (lit< tt);
+  b_small =
+      read_small w128 c.greatest_on_axis-y.result (2 ^ 74) c.greatest_on_axis-y.ensures.small (lit< tt);
+  c_small =
+      read_small w128 c.greatest_on_axis-z.result (2 ^ 74) c.greatest_on_axis-z.ensures.small (lit< tt);
+}
 
 pub returns : goal.returns
 unfolding greatest_facing
 returns c error deviation =
     let sum : FitsSigned w128 c.add_three.result = search rules in
-    let rx : FitsSigned w128 c.greatest_on_axis-x.result = search rules in
-    let ry : FitsSigned w128 c.greatest_on_axis-y.result = search rules in
-    let rz : FitsSigned w128 c.greatest_on_axis-z.result = search rules in
+    let rx = fits_small w128 c.greatest_on_axis-x.result (2 ^ 74) c.greatest_on_axis-x.ensures.small (lit< tt) in
+    let ry = fits_small w128 c.greatest_on_axis-y.result (2 ^ 74) c.greatest_on_axis-y.ensures.small (lit< tt) in
+    let rz = fits_small w128 c.greatest_on_axis-z.result (2 ^ 74) c.greatest_on_axis-z.ensures.small (lit< tt) in
     let lx : FitsSigned w64 c.args.normals.low.x = search rules in
     let ly : FitsSigned w64 c.args.normals.low.y = search rules in
     let lz : FitsSigned w64 c.args.normals.low.z = search rules in
