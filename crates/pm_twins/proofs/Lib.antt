@@ -6,6 +6,7 @@ pub mod Decision
 pub mod Noted
 pub mod MeshLaws
 pub mod ListLaws
+pub mod OneStamp
 pub mod StampLaws
 pub mod PairLaws
 pub mod RepeatLaws

@@ -1,74 +1,20 @@
 -- The sides that arrive at one vertex are stamped one by one.
-use Rattle.std.proofs.Common.{◌≡◌, ◌≢◌, ℕ, ◌+◌, ◌<◌, ◌≤◌, eqb, min, max, Option}
-use Rattle.std.proofs.Common.{Some, None, length, slice_index_or, ◌⊎◌, inl}
-use Rattle.std.proofs.Common.{inr}
-use Rattle.std.proofs.Common.{refl, sym, ap, ◌∙◌, subst, arith}
+use Rattle.std.proofs.Common.{◌≡◌, ◌≢◌, ℕ, ◌+◌, ◌<◌, ◌≤◌, min, max, Option, Some, None, length}
+use Rattle.std.proofs.Common.{◌⊎◌, inl, inr, refl, sym, ap, ◌∙◌, subst, arith}
 use Rattle.std.specs.Option.{IfSome, option_map}
-use Rattle.std.proofs.Math.ListN.{set}
-use Rattle.std.proofs.lemmas.Bool.{cases_eq, cases_lt, cond-true, cond-false, eq-eqb}
-use Rattle.std.proofs.lemmas.Bool.{ne_eqb}
-use Rattle.std.proofs.lemmas.List.{get_or-set_same, get_or-set_other}
+use Rattle.std.proofs.lemmas.Bool.{cases_eq, cases_lt}
 use Rattle.std.proofs.lemmas.Option.{none-some, same_Some}
 use Rattle.pm_base.specs.declared.ids.Side.{Side}
 use Rattle.pm_base.specs.Sides.{Net, side_count, next, prev, to, third}
 use Rattle.pm_base.proofs.Sides.{next-lt, next-next-next}
 use Rattle.pm_twins.specs.declared.stamps.TheConstants.{NOWHERE}
 use Rattle.pm_twins.specs.SideLists.{last_from}
+use Rattle.pm_twins.specs.Stamping.{stamped, in_order, lesser_of, NoneStampedFrom, IsSideBetween}
+use Rattle.pm_twins.specs.Stamping.{AreAllStamped, IsRepeat, IsUpTo, IsLeastRepeat, Stamps}
+use Rattle.pm_twins.specs.Stamping.{with_side}
 use Rattle.pm_twins.proofs.ListLaws.{past, walk_low, walk_meets}
-use Rattle.pm_twins.specs.Stamping.{no_stamp, side_to, stamped, in_order, lesser_of}
-use Rattle.pm_twins.specs.Stamping.{NoneStampedFrom, IsSideBetween, AreAllStamped, IsRepeat, IsUpTo}
-use Rattle.pm_twins.specs.Stamping.{IsLeastRepeat, Stamps, with_side}
-
--- The lesser of two sides.
-up_to_first : (a b : Option Side) (e : ℕ) → IsUpTo a e → IsUpTo (lesser_of a b) e
-up_to_first None b e l = absurd l
-up_to_first (Some a) None e l = l
-up_to_first (Some a) (Some b) e l = omega (arith, l)
-
-up_to_second : (a b : Option Side) (e : ℕ) → IsUpTo b e → IsUpTo (lesser_of a b) e
-up_to_second None b e l = l
-up_to_second (Some a) None e l = absurd l
-up_to_second (Some a) (Some b) e l = omega (arith, l)
-
-lesser-either : (P : ℕ → Type 0) (a b : Option Side) → IfSome a (λ g. P g.0) → IfSome b (λ g. P g.0)
-    → IfSome (lesser_of a b) (λ g. P g.0)
-lesser-either P None b p q = q
-lesser-either P (Some a) None p q = p
-lesser-either P (Some a) (Some b) p q =
-    elim (cases_lt a.0 b.0) [
-      | inl lt ↦ (let is : min a.0 b.0 ≡ a.0 = omega (arith, lt) in subst P (sym is) p)
-      | inr ge ↦ (let is : min a.0 b.0 ≡ b.0 = omega (arith, ge) in subst P (sym is) q)
-    ]
-
--- The stamps with one more.
-module _ (stamps : Stamps) (v w : ℕ) (f : Side) (next_repeat : Option Side)
-    (low : w < length stamps.at) where
-  abbrev with_stamp : Stamps
-  with_stamp = record { at = set stamps.at w (record { side = f; target = v }); repeat = next_repeat }
-
-  same_stamp : slice_index_or with_stamp.at w no_stamp ≡ record { side = f; target = v }
-  same_stamp = get_or-set_same stamps.at w (record { side = f; target = v }) no_stamp low
-
-  same_slot : stamped with_stamp v w ≡ Some f
-  same_slot = ap (side_to v) same_stamp ∙ cond-true (eqb v v) (Some f) None (eq-eqb v v refl)
-
-  -- It hides what another vertex stamped there.
-  hidden_slot : (u : ℕ) → v ≢ u → stamped with_stamp u w ≡ None
-  hidden_slot u ne =
-      ap (side_to u) same_stamp ∙ cond-false (eqb v u) (Some f) None (ne_eqb v u ne)
-
-  other_slot : (u x : ℕ) → x ≢ w → stamped with_stamp u x ≡ stamped stamps u x
-  other_slot u x ne =
-      ap (side_to u)
-      (get_or-set_other stamps.at w x (record { side = f; target = v }) no_stamp ne)
-
-  none_later : (n : ℕ) → v < n → NoneStampedFrom n stamps → NoneStampedFrom n with_stamp
-  none_later n lt none u x le past =
-      elim (cases_eq x w) [
-        | inl same ↦ ap (stamped with_stamp u) same
-            ∙ hidden_slot u (λ is. absurd (omega (arith, is, lt, le)))
-        | inr ne ↦ other_slot u x ne ∙ none u x le past
-      ]
+use Rattle.pm_twins.proofs.OneStamp.{up_to_first, up_to_second, lesser-either, with_stamp}
+use Rattle.pm_twins.proofs.OneStamp.{same_slot, other_slot, none_later}
 
 -- For side e to v a side with the same vertices is stamped that isn't later, and that is e itself
 -- unless a repeat up to e is known.

@@ -6,7 +6,6 @@ use Rattle.std.specs.Option.{IfSome, option_map}
 use Rattle.pm_base.specs.declared.ids.Side.{Side}
 use Rattle.pm_base.specs.Sides.{Net, side_count, to, beside_side}
 use Rattle.pm_twins.specs.SideLists.{link_of}
-use Rattle.pm_twins.specs.declared.stamps.Ordered.{Ordered}
 use Rattle.pm_twins.specs.declared.stamps.Stamp.{Stamp}
 use Rattle.pm_twins.specs.declared.stamps.TheConstants.{NOWHERE}
 
@@ -43,6 +42,11 @@ lesser g e = record { 0 = min g.0 e.0 }
 abbrev pub greater : Side → Side → Side
 greater g e = record { 0 = max g.0 e.0 }
 
+-- Two sides that run between the same vertices, or one alone.
+pub record Ordered : Type 0 where
+  pub first : Side
+  pub later : Option Side
+
 -- Side e with the one that was stamped before, if any, the earlier first.
 abbrev pub in_order : Option Side → Side → Ordered
 in_order None e = record { first = e; later = None }
@@ -50,8 +54,8 @@ in_order (Some g) e = record { first = lesser g e; later = Some (greater g e) }
 
 -- The lesser of two sides, where there are two.
 abbrev pub lesser_of : Option Side → Option Side → Option Side
-lesser_of None b = b
-lesser_of (Some a) None = Some a
+lesser_of a None = a
+lesser_of None (Some b) = Some b
 lesser_of (Some a) (Some b) = Some (lesser a b)
 
 -- The stamps with side e to vertex v from vertex w.

@@ -6,7 +6,7 @@ ghost use Rattle.std.specs.Prelude.{◌≡◌, ◌+◌, ◌<◌, length, IfOk};
 ghost use Rattle.pm_base.specs.Sides.{net_of};
 ghost use Rattle.pm_twins.specs.Whole.{IsWhole};
 ghost use Rattle.pm_twins.specs.SideLists.{IsLast};
-ghost use Rattle.pm_twins.specs.Stamping.{no_stamps, stamped, with_side, in_order as ordered};
+ghost use Rattle.pm_twins.specs.Stamping.{no_stamps, stamped, with_side};
 ghost use Rattle.pm_twins.specs.Stamping.{lesser_of, NoneStampedFrom, AreAllStamped, IsLeastRepeat};
 ghost use Rattle.pm_twins.specs.Stamping.{ArePaired};
 
@@ -81,46 +81,27 @@ impl Stamps {
         requires { start < length self.old.at }
         ensures { self.new ≡ with_side self.old vertex start side }
     {
-        let sides = in_order(self.side(vertex, start), side);
+        let first = match self.side(vertex, start) {
+            None => side,
+            Some(other) => {
+                self.repeat = lesser(self.repeat, other.max(side));
+                other.min(side)
+            }
+        };
         self.at[start as usize] = Stamp {
-            side: sides.first,
+            side: first,
             target: vertex,
         };
-        self.repeat = lesser(self.repeat, sides.later);
     }
 }
 
-// Two sides that run between the same vertices, or one alone.
-#[derive(Clone, Copy)]
-struct Ordered {
-    first: Side,
-    later: Option<Side>,
-}
-
-// A side with the one that was stamped before, the earlier first.
-fn in_order(stamped: Option<Side>, side: Side) -> Ordered
-    ensures { result ≡ ordered stamped side }
+// The lesser of two sides, or the second alone.
+fn lesser(known: Option<Side>, side: Side) -> Option<Side>
+    ensures { result ≡ lesser_of known (Some side) }
 {
-    match stamped {
-        None => Ordered {
-            first: side,
-            later: None,
-        },
-        Some(other) => Ordered {
-            first: other.min(side),
-            later: Some(other.max(side)),
-        },
-    }
-}
-
-// The lesser of two sides, where there are two.
-fn lesser(a: Option<Side>, b: Option<Side>) -> Option<Side>
-    ensures { result ≡ lesser_of a b }
-{
-    match (a, b) {
-        (Some(first), Some(second)) => Some(first.min(second)),
-        (None, second) => second,
-        (first, None) => first,
+    match known {
+        Some(other) => Some(other.min(side)),
+        None => Some(side),
     }
 }
 
