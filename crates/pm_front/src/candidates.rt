@@ -1,7 +1,7 @@
 //! The records of which the next moves of a front are made, kept with each move, so that none has
 //! to be looked for.
 ghost use Rattle.std.specs.Prelude.{ℕ, ◌≡◌, ◌<◌, ◌≤◌, ◌+◌, ◌^◌, ◌∷◌, [], true, false, length};
-ghost use Rattle.std.specs.Prelude.{replicate, slice_index_or, IfOk, IfSome};
+ghost use Rattle.std.specs.Prelude.{Bool, replicate, slice_index_or, IfOk, IfSome};
 ghost use Rattle.std.specs.List.{All};
 ghost use Rattle.pm_forest.specs.Forest.{node_count, record_count, splitter_of};
 ghost use Rattle.pm_forest.specs.Fronts.{no_records, with, without};
@@ -119,6 +119,36 @@ fn clear_splitter(waiting: &mut NumberSet, h: &Hierarchy, node: NodeId)
     }
 }
 
+// Once record `k` is split, the records that split its children wait, and it waits no more.
+fn wait_below(waiting: &mut NumberSet, h: &Hierarchy, k: u32)
+    requires record { k < record_count h.now }
+    requires len { length waiting.old ≡ record_count h.now }
+    ensures { (T : ℕ → Bool) → IsClosed h.now T → T k ≡ false
+        → AreAnswers h.now (may_try h.now T) waiting.old
+        → AreAnswers h.now (may_try h.now (with T k)) waiting.new }
+{
+    h.invariant();
+    let (t, u) = h.children(k);
+    add_splitter(waiting, h, t);
+    add_splitter(waiting, h, u);
+    waiting.remove(k);
+}
+
+// Once record `k` is collapsed, it waits, and the records that split its children don't.
+fn wait_above(waiting: &mut NumberSet, h: &Hierarchy, k: u32)
+    requires record { k < record_count h.now }
+    requires len { length waiting.old ≡ record_count h.now }
+    ensures { (T : ℕ → Bool) → IsClosed h.now T → T k ≡ true
+        → AreAnswers h.now (may_try h.now T) waiting.old
+        → AreAnswers h.now (may_try h.now (without T k)) waiting.new }
+{
+    h.invariant();
+    let (t, u) = h.children(k);
+    clear_splitter(waiting, h, t);
+    clear_splitter(waiting, h, u);
+    waiting.insert(k);
+}
+
 // Puts the records that split a root in.
 fn add_roots(waiting: &mut NumberSet, h: &Hierarchy)
     requires { waiting.old ≡ replicate (record_count h.now) false }
@@ -166,13 +196,9 @@ impl Candidates {
         ensures { AreCandidates before.now.h (with (set_of before.now.flags) k) self.new }
     {
         before.invariant();
-        let h = before.hierarchy();
         need_all(&mut self.needs, &mut self.unneeded, needed);
         self.unneeded.insert(k);
-        let (t, u) = h.children(k);
-        add_splitter(&mut self.waiting, h, t);
-        add_splitter(&mut self.waiting, h, u);
-        self.waiting.remove(k);
+        wait_below(&mut self.waiting, before.hierarchy(), k);
     }
 
     /// Those after record `k`, which needs these, is collapsed in these tables.
@@ -186,13 +212,9 @@ impl Candidates {
         ensures { AreCandidates before.now.h (without (set_of before.now.flags) k) self.new }
     {
         before.invariant();
-        let h = before.hierarchy();
         free_all(&mut self.needs, &mut self.unneeded, needed);
         self.unneeded.remove(k);
-        let (t, u) = h.children(k);
-        clear_splitter(&mut self.waiting, h, t);
-        clear_splitter(&mut self.waiting, h, u);
-        self.waiting.insert(k);
+        wait_above(&mut self.waiting, before.hierarchy(), k);
     }
 
     /// How often record `k` is needed.

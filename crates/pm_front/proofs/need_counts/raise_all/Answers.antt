@@ -1,5 +1,5 @@
 use Rattle.std.proofs.Common.{◌<◌, length, arith}
-use Rattle.pm_front.proofs.RaisedLaws.{room_for}
+use Rattle.pm_front.proofs.RaisedLaws.{room_for, raised_more}
 use Rattle.pm_front.proofs.need_counts.raise_all.Goals as goal
 
 pub raise-requires-clause-room : goal.raise-requires-clause-room
@@ -8,3 +8,9 @@ raise-requires-clause-room c =
     omega (arith, c.loop-need-test.true) in
     room_for c.args.needs.now c.loop-need.needs c.args.needed.now c.loop-need.need-index at
     c.loop-need.invariant c.requires.there c.requires.room
+
+pub loop-need-preserved : goal.loop-need-preserved
+loop-need-preserved c =
+    let at : c.loop-need.need-index < length c.args.needed.now =
+    omega (arith, c.loop-need-test.true) in
+    raised_more c.args.needed.now c.loop-need.need-index at _ _ _ c.loop-need.invariant c.raise.ensures

@@ -1,12 +1,11 @@
 use Rattle.std.proofs.Common.{sym, subst}
-use Rattle.pm_forest.specs.Forest.{Hierarchy, splitter_of, t_of, u_of}
+use Rattle.pm_forest.specs.Forest.{Hierarchy}
 use Rattle.pm_forest.specs.Fronts.{without}
 use Rattle.pm_base.specs.Counts.{set_of}
 use Rattle.pm_forest.specs.Moves.{may_try}
-use Rattle.pm_beyond.specs.Moves.{is_at}
+use Rattle.pm_beyond.specs.Moves.{IsClosed}
 use Rattle.pm_front.specs.Needed.{is_unneeded, AreNeedCounts}
-use Rattle.pm_front.specs.Candidates.{AreAnswers, AreCleared, AreCandidates}
-use Rattle.pm_front.proofs.WaitingLaws.{waiting-without}
+use Rattle.pm_front.specs.Candidates.{AreAnswers, AreCandidates}
 use Rattle.pm_beyond.proofs.PlanSteps.{without-same}
 use Rattle.pm_front.proofs.UnneededLaws.{with-without, unneeded-without}
 use Rattle.pm_front.proofs.CountedLaws.{needs_counted, counts_without}
@@ -35,28 +34,20 @@ returns c =
     let counts =
     counts_without h (without T k) k c.requires.record (without-same T k) c.args.needed.now
     c.requires.needed.times _ _ put c.free_all.ensures.counts in
-    let first = subst
-    (λ (x : Hierarchy). AreCleared c.self.inside.waiting c.clear_splitter.new.waiting
-    (λ j. is_at j (splitter_of x (t_of x k)))) c.hierarchy-h.ensures
-    (subst (λ v. AreCleared c.self.inside.waiting c.clear_splitter.new.waiting
-    (λ j. is_at j (splitter_of c.hierarchy-h.result.now v))) c.children.ensures.t
-    c.clear_splitter.ensures) in
-    let second =
-    subst (λ (x : Hierarchy). AreCleared c.clear_splitter.new.waiting
-    c.clear_splitter-2.new.waiting (λ j. is_at j (splitter_of x (u_of x k))))
-    c.hierarchy-h.ensures
-    (subst (λ v. AreCleared c.clear_splitter.new.waiting c.clear_splitter-2.new.waiting
-    (λ j. is_at j (splitter_of c.hierarchy-h.result.now v))) c.children.ensures.u
-    c.clear_splitter-2.ensures) in
-    let waiting =
-    waiting-without h c.invariant.ensures.shape T c.requires.closed k c.requires.record
-    c.requires.is_split _ _ _ before.waiting first second in
+    let waiting : AreAnswers h (may_try h (without T k)) c.wait_above.new.waiting =
+    subst (λ (x : Hierarchy). AreAnswers x (may_try x (without T k)) c.wait_above.new.waiting)
+    c.hierarchy.ensures
+    (c.wait_above.ensures T
+    (subst (λ (x : Hierarchy). IsClosed x T) (sym c.hierarchy.ensures) c.requires.closed)
+    c.requires.is_split
+    (subst (λ (x : Hierarchy). AreAnswers x (may_try x T) c.self.inside.waiting)
+    (sym c.hierarchy.ensures) before.waiting)) in
     let unneeded =
     unneeded-without h c.invariant.ensures.shape T c.requires.closed k c.requires.record
     c.requires.is_split _ _ c.args.needed.now c.requires.needed.times c.free_all.new.needs counts
     before.unneeded c.free_all.ensures.unneeded in
     record {
       counts = counts;
-      waiting = subst (AreAnswers h (may_try h (without T k))) (sym c.insert.ensures) waiting;
+      waiting = waiting;
       unneeded = subst (AreAnswers h (is_unneeded h (without T k))) (sym c.remove.ensures) unneeded;
     }

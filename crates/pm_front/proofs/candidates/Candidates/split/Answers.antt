@@ -1,12 +1,11 @@
 use Rattle.std.proofs.Common.{sym, subst}
-use Rattle.pm_forest.specs.Forest.{Hierarchy, splitter_of, t_of, u_of}
+use Rattle.pm_forest.specs.Forest.{Hierarchy}
 use Rattle.pm_forest.specs.Fronts.{with}
 use Rattle.pm_base.specs.Counts.{set_of}
 use Rattle.pm_forest.specs.Moves.{may_try}
-use Rattle.pm_beyond.specs.Moves.{is_at}
+use Rattle.pm_beyond.specs.Moves.{IsClosed}
 use Rattle.pm_front.specs.Needed.{is_unneeded}
-use Rattle.pm_front.specs.Candidates.{AreAnswers, AreAdded, AreCandidates}
-use Rattle.pm_front.proofs.WaitingLaws.{waiting-with}
+use Rattle.pm_front.specs.Candidates.{AreAnswers, AreCandidates}
 use Rattle.pm_front.proofs.UnneededLaws.{unneeded-with}
 use Rattle.pm_front.proofs.CountedLaws.{room_left, counts_with}
 use Rattle.pm_front.proofs.candidates.Candidates.split.Goals as goal
@@ -25,20 +24,14 @@ returns c =
     let T = set_of c.args.before.now.flags in
     let k = c.args.k in
     let before = subst (AreCandidates h T) (sym c.self.view_is) c.requires.candidates in
-    let first = subst (λ (x : Hierarchy). AreAdded c.self.inside.waiting c.add_splitter.new.waiting
-    (λ j. is_at j (splitter_of x (t_of x k)))) c.hierarchy-h.ensures
-    (subst (λ v. AreAdded c.self.inside.waiting c.add_splitter.new.waiting
-    (λ j. is_at j (splitter_of c.hierarchy-h.result.now v))) c.children.ensures.t
-    c.add_splitter.ensures) in
-    let second =
-    subst (λ (x : Hierarchy). AreAdded c.add_splitter.new.waiting c.add_splitter-2.new.waiting
-    (λ j. is_at j (splitter_of x (u_of x k)))) c.hierarchy-h.ensures
-    (subst (λ v. AreAdded c.add_splitter.new.waiting c.add_splitter-2.new.waiting
-    (λ j. is_at j (splitter_of c.hierarchy-h.result.now v))) c.children.ensures.u
-    c.add_splitter-2.ensures) in
-    let waiting =
-    waiting-with h c.invariant.ensures.shape T c.requires.closed k c.requires.record
-    c.requires.unsplit _ _ _ before.waiting first second in
+    let waiting : AreAnswers h (may_try h (with T k)) c.wait_below.new.waiting =
+    subst (λ (x : Hierarchy). AreAnswers x (may_try x (with T k)) c.wait_below.new.waiting)
+    c.hierarchy.ensures
+    (c.wait_below.ensures T
+    (subst (λ (x : Hierarchy). IsClosed x T) (sym c.hierarchy.ensures) c.requires.closed)
+    c.requires.unsplit
+    (subst (λ (x : Hierarchy). AreAnswers x (may_try x T) c.self.inside.waiting)
+    (sym c.hierarchy.ensures) before.waiting)) in
     let unneeded =
     unneeded-with h c.invariant.ensures.shape T c.requires.closed k c.requires.record
     c.requires.unsplit _ _ c.args.needed.now c.requires.needed.times before.unneeded
@@ -46,6 +39,6 @@ returns c =
     record {
       counts = counts_with h T k c.requires.record c.requires.unsplit c.args.needed.now
           c.requires.needed.times _ _ before.counts c.need_all.ensures.counts;
-      waiting = subst (AreAnswers h (may_try h (with T k))) (sym c.remove.ensures) waiting;
+      waiting = waiting;
       unneeded = subst (AreAnswers h (is_unneeded h (with T k))) (sym c.insert.ensures) unneeded;
     }
