@@ -1,3 +1,4 @@
+pub mod WordLaws
 pub mod Rows
 pub mod Counting
 pub mod Taking

@@ -1,0 +1,38 @@
+use Rattle.std.proofs.Common.{◌*◌, ◌^◌, ◌+ℤ◌, FitsSigned, w64, lit<}
+use Rattle.std.proofs.lemmas.Int.{to_z-of_z}
+use Rattle.pm_ears.proofs.WordLaws.{fits_within, two_small, three_small}
+use Rattle.pm_ears.proofs.spots.add_three.Goals as goal
+
+pub overflow_add-result : goal.overflow_add-result
+overflow_add-result c =
+    let fa = c.ranges.a in
+    let fb = c.ranges.b in
+    let small = two_small c.args.a c.args.b c.requires.a_small c.requires.b_small in
+    simp to_z-of_z (fits_within (c.args.a +ℤ c.args.b) (2 ^ 32) small (lit< tt))
+
+pub overflow_add-result-2 : goal.overflow_add-result-2
+overflow_add-result-2 c =
+    let fa = c.ranges.a in
+    let fb = c.ranges.b in
+    let fc = c.ranges.c in
+    let two = two_small c.args.a c.args.b c.requires.a_small c.requires.b_small in
+    let f : FitsSigned w64 (c.args.a +ℤ c.args.b) =
+    fits_within (c.args.a +ℤ c.args.b) (2 ^ 32) two (lit< tt) in
+    let three = three_small c.args.a c.args.b c.args.c c.requires.a_small c.requires.b_small
+    c.requires.c_small in
+    simp to_z-of_z
+    (fits_within (c.args.a +ℤ c.args.b +ℤ c.args.c) (3 * 2 ^ 31) three (lit< tt))
+
+pub returns : goal.returns
+returns c =
+    let fa = c.ranges.a in
+    let fb = c.ranges.b in
+    let fc = c.ranges.c in
+    let two = two_small c.args.a c.args.b c.requires.a_small c.requires.b_small in
+    let f : FitsSigned w64 (c.args.a +ℤ c.args.b) =
+    fits_within (c.args.a +ℤ c.args.b) (2 ^ 32) two (lit< tt) in
+    let three = three_small c.args.a c.args.b c.args.c c.requires.a_small c.requires.b_small
+    c.requires.c_small in
+    let g : FitsSigned w64 (c.args.a +ℤ c.args.b +ℤ c.args.c) =
+    fits_within (c.args.a +ℤ c.args.b +ℤ c.args.c) (3 * 2 ^ 31) three (lit< tt) in
+    simp to_z-of_z
