@@ -2,19 +2,19 @@
 use Rattle.std.specs.List.{range_with_len}
 use Rattle.std.proofs.lemmas.Grind.{common_steps}
 use Rattle.std.proofs.Common.{◌≡◌, ℕ, ◌*◌, ◌<◌, List, map, length, get_or, refl, ap, ◌∙◌}
-use Rattle.std.proofs.Common.{subst, arith}
+use Rattle.std.proofs.Common.{Result, Ok, Err, IfOk, subst, arith}
 use Rattle.std.proofs.lemmas.List.{get_or-map, length-map}
 use Rattle.std.proofs.lemmas.List.FromFn.{length-range_with_len}
 use Rattle.pm_base.specs.declared.mesh.Corners.{Corners}
 use Rattle.pm_base.specs.Meshes.{Mesh}
-use Rattle.pm_base.specs.Sides.{net_of}
+use Rattle.pm_base.specs.Sides.{net_of, NoSideTwice}
 use Rattle.pm_twins.specs.Table.{Table, IsTableOf}
 use Rattle.pm_forest.specs.Forest.{Hierarchy, leaf_count}
 use Rattle.pm_forest.specs.Faces.{faces_of, face_count, from_leaf}
 use Rattle.pm_forest.specs.Meshes.{leaf_place, leaf_corners, leaf_mesh_of}
 use Rattle.pm_forest.proofs.FaceLists.{corners_of-faces_of, length-faces_of}
 use Rattle.pm_beyond.specs.Walks.{leaf_net}
-use Rattle.pm_deviation.proofs.SameNet.{IsSameNet, table_same}
+use Rattle.pm_deviation.proofs.SameNet.{IsSameNet, once_back, table_same}
 
 leaf_faces : (h : Hierarchy) → (leaf_mesh_of h).faces ≡ map leaf_corners (faces_of h)
 unfolding leaf_mesh_of
@@ -43,3 +43,15 @@ leaf_table h m t is table =
     let points = ap (λ (n : Mesh). length n.points) is ∙ leaf_points h in
     subst (λ n. IsTableOf (leaf_net h) n t) points
     (table_same (net_of m.faces) (leaf_net h) same (length m.points) t table)
+
+pub leaf_tables : {E : Type 0} (h : Hierarchy) (m : Mesh) (r : Result Table E) → m ≡ leaf_mesh_of h
+    → IfOk r (IsTableOf (net_of m.faces) (length m.points))
+    → IfOk r (IsTableOf (leaf_net h) (leaf_count h))
+leaf_tables h m (Ok t) is table = leaf_table h m t is table
+leaf_tables h m (Err e) is table = tt
+
+pub leaf_once : (h : Hierarchy) (m : Mesh) → m ≡ leaf_mesh_of h → NoSideTwice (leaf_net h)
+    → NoSideTwice (net_of m.faces)
+leaf_once h m is once =
+    once_back (net_of m.faces) (leaf_net h) (leaf_same h m.faces (ap (λ (n : Mesh). n.faces) is))
+    once

@@ -3,7 +3,7 @@ ghost use Rattle.std.specs.Prelude.{◌≡◌, ◌<◌, true, length, slice_inde
 ghost use Rattle.pm_deviation.specs.Tables.{is_axis};
 
 /// An axis, whose numbers are -1, 0 and 1, not all 0.
-#[derive(Clone, Copy, Debug, PartialEq, Eq)]
+#[derive(Clone, Copy)]
 pub struct Axis {
     pub x: i32,
     pub y: i32,

@@ -1,7 +1,8 @@
 //! Which nodes are at the border of the leaf mesh.
 ghost use Rattle.std.specs.Prelude.{◌≡◌, ℕ, ◌<◌, ◌||◌, false, None, IfOk, replicate, length};
 ghost use Rattle.std.specs.Prelude.{slice_index_or};
-ghost use Rattle.pm_base.specs.Sides.{NoSideTwice};
+ghost use Rattle.pm_base.specs.Meshes.{mesh_of, IsWellFormed};
+ghost use Rattle.pm_base.specs.Sides.{net_of, NoSideTwice};
 ghost use Rattle.pm_twins.specs.Table.{IsTableOf};
 ghost use Rattle.pm_forest.specs.Forest.{node_count, leaf_count, record_count, splitter_of, t_of};
 ghost use Rattle.pm_forest.specs.Forest.{u_of};
@@ -11,22 +12,31 @@ ghost use Rattle.pm_deviation.specs.Tables.{AreBorders, AreOwnBorders};
 
 use crate::OutOfMemory;
 use crate::nodes::nodes_of;
+use pm_base::Mesh;
 use pm_forest::Hierarchy;
 use pm_twins::{Twins, TwinsFail};
 use std::alloc::{AllocError, Global};
 
-// The twins of the leaf mesh. No directed side stands twice in it, so memory alone can be wanting.
+// The twins of a mesh in which no directed side stands twice, so that memory alone can be wanting.
+fn twins_of(alloc: Global, mesh: &Mesh) -> Result<Twins, OutOfMemory>
+    requires formed { IsWellFormed (mesh_of mesh.now) }
+    requires once { NoSideTwice (net_of mesh.now.faces.items) }
+    ensures { IfOk result
+        (IsTableOf (net_of mesh.now.faces.items) (length mesh.now.points.items)) }
+{
+    match Twins::of(alloc, mesh) {
+        Ok(twins) => Ok(twins),
+        Err(TwinsFail::EdgeTwice(_) | TwinsFail::OutOfMemory) => Err(AllocError),
+    }
+}
+
+// The twins of the leaf mesh.
 fn leaf_twins(alloc: Global, h: &Hierarchy) -> Result<Twins, OutOfMemory>
     requires { NoSideTwice (leaf_net h.now) }
     ensures { IfOk result (IsTableOf (leaf_net h.now) (leaf_count h.now)) }
 {
-    let Ok(mesh) = h.leaf_mesh(alloc) else {
-        return Err(AllocError);
-    };
-    match Twins::of(alloc, &mesh) {
-        Ok(twins) => Ok(twins),
-        Err(TwinsFail::EdgeTwice(_) | TwinsFail::OutOfMemory) => Err(AllocError),
-    }
+    let mesh = h.leaf_mesh(alloc)?;
+    twins_of(alloc, &mesh)
 }
 
 // As many flags as there are nodes, none of them set. The length is a parameter, so that no proof

@@ -6,7 +6,7 @@ use pm_base::NodeId;
 use pm_forest::Hierarchy;
 
 /// The node that a record splits, and its two children.
-#[derive(Clone, Copy, Debug, PartialEq, Eq)]
+#[derive(Clone, Copy)]
 pub struct Nodes {
     pub s: NodeId,
     pub t: NodeId,

@@ -6,7 +6,7 @@ ghost use Rattle.pm_deviation.specs.Spreads.{joined, join, mirrored, no_spread};
 ghost use Rattle.pm_deviation.specs.Tables.{IsPart};
 
 /// The numbers from `low` to `high`: parts of 1 / 16,384 of normals' lengths along an axis.
-#[derive(Clone, Copy, Debug, PartialEq, Eq)]
+#[derive(Clone, Copy)]
 pub struct Spread {
     pub low: i32,
     pub high: i32,

@@ -6,7 +6,7 @@ ghost use Rattle.pm_deviation.specs.Tables.{IsSum};
 use crate::spread::Spread;
 
 /// On each axis the parts that normals have along it.
-#[derive(Clone, Copy, Debug, PartialEq, Eq)]
+#[derive(Clone, Copy)]
 pub struct UnitBox {
     pub x: Spread,
     pub y: Spread,
