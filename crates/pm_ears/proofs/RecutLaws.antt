@@ -135,3 +135,21 @@ below_has n fan all = λ i d l. let f = all i d l in record { a = f.a; b = f.b; 
 pub corners_below : (n : ℕ) (fan : List Corners) → All (AreBelow n) fan
     → All (λ (v : ℕ). v < n) (corners_of fan)
 corners_below n fan all = corners_have (λ v. v < n) fan (below_has n fan all)
+
+-- What becomes of a fan, by how the polygon of its corners is cut.
+pub pieces_at : (places : List Place) (fan : List Corners) (corners : List ℕ) (at : List Place)
+    → corners ≡ corners_of fan → at ≡ places_of places corners
+    → pieces_of (spots_of at) ≡ pieces_over places fan
+pieces_at places fan corners at are placed =
+    ap (λ (l : List Place). pieces_of (spots_of l)) (placed ∙ ap (places_of places) are)
+
+module _ (places : List Place) (fan : List Corners) where
+  pub fan_stays : (pieces_over places fan).kind ≡ kinds.Fan
+      → (gives_way places fan ≡ false) × (stays_overlapping places fan ≡ false)
+  unfolding gives_way stays_overlapping
+  fan_stays is = rw is (refl, refl)
+
+  pub ears_come : (pieces_over places fan).kind ≡ kinds.Ears → names_three fan ≡ true
+      → (gives_way places fan ≡ true) × (stays_overlapping places fan ≡ false)
+  unfolding gives_way stays_overlapping
+  ears_come is three = rw (is, three) (refl, refl)

@@ -108,7 +108,7 @@ fn by_corners(
 }
 
 // What becomes of a fan over placed vertices.
-#[tactic(auto, unfolding(crate::specs::Recutting::gives_way, crate::specs::Recutting::stays_overlapping), using(crate::proofs::RecutLaws::corners_few, crate::proofs::RecutLaws::corners_below, crate::proofs::RecutLaws::cut_below))]
+#[tactic(auto, unfolding(crate::specs::Recutting::gives_way, crate::specs::Recutting::stays_overlapping))]
 fn judge(alloc: Global, places: &[Point], fan: &[Corners]) -> Result<Fate, OutOfMemory>
     requires below { All (AreBelow (length places.now)) fan.now }
     requires few { length fan.now ≤ MOST_FACES }
