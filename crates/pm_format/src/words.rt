@@ -1,5 +1,5 @@
 //! The 32-bit little-endian words of a text, one after the other.
-ghost use Rattle.std.specs.Prelude.{◌≡◌, ◌∷◌, [], MatchOption};
+ghost use Rattle.std.specs.Prelude.{◌≡◌, ◌<◌, ◌∷◌, ◌++◌, [], length, MatchOption};
 ghost use Rattle.pm_format.specs.Words.{words_of};
 
 use byteorder::{ByteOrder, LittleEndian};
@@ -38,5 +38,16 @@ impl<'a> Words<'a> {
         let word = LittleEndian::read_u32(self.rest);
         self.rest = &self.rest[4..];
         Some(word)
+    }
+
+    /// The next words, as many as asked for, where they are all left.
+    pub fn next_words<const N: usize>(&mut self) -> Option<[u32; N]>
+        ensures { MatchOption result (length self.old < N) (λ ws. self.old ≡ ws ++ self.new) }
+    {
+        let mut words = [0; N];
+        for i in 0..N {
+            words[i] = self.next_word()?;
+        }
+        Some(words)
     }
 }
