@@ -1,7 +1,7 @@
 use Rattle.std.proofs.Common.{◌∷◌, [], ◌++◌, ◌∙◌, sym, ap, List, ℕ, take, arith}
 use Rattle.std.proofs.Common.{append_assoc}
 use Rattle.std.proofs.lemmas.Grind.{common_steps}
-use Rattle.std.proofs.lemmas.List.{take_more_set, take_all}
+use Rattle.std.proofs.lemmas.List.{take_more_set}
 use Rattle.pm_format.proofs.words.Words.next_words.Goals as goal
 
 pub loop-i-preserved : goal.loop-i-preserved
