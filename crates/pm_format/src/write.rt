@@ -194,6 +194,22 @@ fn put_records<K: Sink>(h: &Hierarchy, page: &mut Page, out: &mut K) -> Result<(
     Ok(())
 }
 
+// Puts the whole text; its last bytes stay in the page.
+fn put_text<K: Sink>(
+    h: &Hierarchy,
+    digits: u32,
+    page: &mut Page,
+    out: &mut K,
+) -> Result<(), WriteFault>
+    requires { digits ≤ 4 }
+    ensures { PutsThrough K.Sink out.old out.new page.old page.new (stream digits h.now) result }
+{
+    put_header(h, digits, page, out)?;
+    put_roots(h, page, out)?;
+    put_bases(h, page, out)?;
+    put_records(h, page, out)
+}
+
 /// Writes the stream text of a hierarchy whose coordinates have so many decimals, at most four.
 /// After a fault the sink has gained a part of the text from its front, and not the whole. It takes
 /// no memory, and time linear in the text. The text is put in pages of 4,096 bytes, of which the
@@ -203,10 +219,7 @@ pub fn encode<K: Sink>(h: &Hierarchy, digits: u32, out: &mut K) -> Result<(), Wr
     ensures { Puts K.Sink out.old out.new (stream digits h.now) result }
 {
     let mut page = Page::new();
-    put_header(h, digits, &mut page, out)?;
-    put_roots(h, &mut page, out)?;
-    put_bases(h, &mut page, out)?;
-    put_records(h, &mut page, out)?;
+    put_text(h, digits, &mut page, out)?;
     page.flush(out)?;
     Ok(())
 }
