@@ -5,6 +5,10 @@ ghost use Rattle.pm_io.specs.Causes.{Rose};
 ghost use Rattle.pm_io.specs.Puts.{Puts};
 ghost use Rattle.pm_forest.specs.Forest.{record_count};
 ghost use Rattle.pm_base.specs.Counts.{set_of};
+ghost use Rattle.pm_base.specs.Sides.{NoSideTwice};
+ghost use Rattle.pm_forest.specs.Fronts.{no_records};
+ghost use Rattle.pm_morph.specs.Marks.{AreMarksOf};
+ghost use Rattle.pm_beyond.specs.Walks.{leaf_net};
 ghost use Rattle.pm_beyond.specs.Valid.{IsValid};
 ghost use Rattle.pm_beyond.specs.Moves.{split_fault, collapse_fault};
 ghost use Rattle.pm_load.specs.Faults.{IsLoadFault};
@@ -27,7 +31,8 @@ ghost use Rattle.pm_session.specs.Script.{
 };
 ghost use Rattle.pm_view.specs.Views.{View as Seen};
 ghost use Rattle.pm_session.specs.Level.{level_reply};
-ghost use Rattle.pm_session.specs.Session.{LineEnds, LineCounts, state_of};
+ghost use Rattle.pm_session.specs.Session.{LineEnds, LineCounts, AreToolsOf, HasItsMeasures};
+ghost use Rattle.pm_session.specs.Session.{state_of};
 
 use crate::command::{Command, command_of};
 use crate::ending::{LineFail, Next, after_reply};
@@ -47,7 +52,7 @@ use pm_morph::Marker;
 use pm_pick::{Hit, Ray};
 use pm_refine::Adapted;
 use pm_view::View;
-use std::alloc::Global;
+use std::alloc::{AllocError, Global};
 use std::marker::Model;
 
 /// A hierarchy that is being shown. Contracts see it, which lines a script may have, which records
@@ -77,6 +82,23 @@ impl Model for Session {
     ghost invariant = { λ s. IsFitting s.front.h s.grammar s.tools s.marker };
 }
 
+// What a session over a hierarchy works with, and its marks.
+fn outfit(
+    alloc: Global,
+    h: &Hierarchy,
+    grammar: Grammar,
+) -> Result<(Tools, Marker), AllocError>
+    requires { NoSideTwice (leaf_net h.now) }
+    ensures tools { IfOk result (λ o. AreToolsOf h.now o.0) }
+    ensures serve { IfOk result (λ o. HasItsMeasures grammar o.0.measures) }
+    ensures marks { IfOk result (λ o. AreMarksOf h.now o.1) }
+    ensures base { IfOk result (λ o. set_of o.1 ≡ no_records) }
+{
+    let tools = Tools::new(alloc, h, grammar)?;
+    let marker = Marker::new(alloc, h)?;
+    Ok((tools, marker))
+}
+
 impl Session {
     /// A session that shows the base front of a valid hierarchy. It is refused as `open_front`
     /// says. All the memory that a script can want is taken here.
@@ -95,10 +117,7 @@ impl Session {
     {
         let front = open_front(alloc, h)?;
         front.invariant();
-        let Ok(tools) = Tools::new(alloc, front.hierarchy(), grammar) else {
-            return Err(LoadFail::OutOfMemory);
-        };
-        let Ok(marker) = Marker::new(alloc, front.hierarchy()) else {
+        let Ok((tools, marker)) = outfit(alloc, front.hierarchy(), grammar) else {
             return Err(LoadFail::OutOfMemory);
         };
         Ok(Session {

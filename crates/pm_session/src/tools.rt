@@ -1,8 +1,9 @@
 //! What a session works with beside its front.
-ghost use Rattle.std.specs.Prelude.{◌≡◌, ◌<◌, ◌≤◌, true, length, IfOk, IfErr, OnOk, OnErr};
+ghost use Rattle.std.specs.Prelude.{◌≡◌, ◌*◌, ◌<◌, ◌≤◌, true, length, IfOk, IfErr, OnOk, OnErr};
 ghost use Rattle.pm_base.specs.declared.limits.TheConstants.{MOST_FACES, MOST_NODES, MOST_SIDES};
 ghost use Rattle.pm_io.specs.Puts.{Puts};
 ghost use Rattle.pm_forest.specs.Forest.{record_count};
+ghost use Rattle.pm_forest.specs.Faces.{face_count};
 ghost use Rattle.pm_base.specs.Counts.{set_of};
 ghost use Rattle.pm_front.specs.Shown.{active_nodes, kept_faces};
 ghost use Rattle.pm_base.specs.Sides.{NoSideTwice};
@@ -12,10 +13,12 @@ ghost use Rattle.pm_view.specs.declared.measure.Measure.TheVariants as judges;
 ghost use Rattle.pm_view.specs.Wanted.{Serves};
 ghost use Rattle.pm_manifold.specs.Measure.{nodes_shown, edges_shown, faces_shown, loops_shown};
 ghost use Rattle.pm_pick.specs.Picks.{pick_of};
+ghost use Rattle.pm_pick.specs.Lists.{AreListsOf};
 ghost use Rattle.pm_strips.specs.Shown.{strips_text};
 ghost use Rattle.pm_morph.specs.Marks.{AreMarksOf};
 ghost use Rattle.pm_change.specs.Texts.{change_text};
 ghost use Rattle.pm_change.specs.Changes.{change_of};
+ghost use Rattle.pm_change.specs.Room.{room_of};
 ghost use Rattle.pm_change.specs.Arrays.{sizes_of_change, ChangeFits, BeginWith};
 ghost use Rattle.pm_session.specs.Script.{adapted_to, after_view};
 ghost use Rattle.pm_session.specs.Level.{split_count, greatest_error, greatest_deviation};
@@ -45,10 +48,7 @@ use std::sync::ledger::{Blank, Ledger};
 pub(crate) struct Tools {
     measures: Measures,
     refiner: Refiner,
-    tracer: Tracer,
-    picker: Picker,
-    stripper: Stripper,
-    changer: Changer,
+    readers: Readers,
 }
 
 impl Model for Tools {
@@ -59,11 +59,42 @@ impl Model for Tools {
     ghost view = { λ t. record {
       measures = t.measures;
       room = t.refiner;
-      marks = t.tracer;
-      lists = t.picker;
-      flags = t.stripper;
-      sets = t.changer;
+      marks = t.readers.tracer;
+      lists = t.readers.picker;
+      flags = t.readers.stripper;
+      sets = t.readers.changer;
     } };
+}
+
+// What reads the mesh that a front shows: measures it, picks its faces, writes its strips and what
+// changed of it.
+#[derive(Drop)]
+struct Readers {
+    tracer: Tracer,
+    picker: Picker,
+    stripper: Stripper,
+    changer: Changer,
+}
+
+impl Readers {
+    // Those for a hierarchy.
+    fn new(alloc: Global, h: &Hierarchy) -> Result<Readers, AllocError>
+        ensures marks { IfOk result (λ r. r.tracer ≡ 3 * face_count h.now) }
+        ensures lists { IfOk result (λ r. AreListsOf h.now r.picker) }
+        ensures flags { IfOk result (λ r. r.stripper ≡ face_count h.now) }
+        ensures sets { IfOk result (λ r. r.changer ≡ room_of h.now) }
+    {
+        let tracer = Tracer::new(alloc, h)?;
+        let picker = Picker::new(alloc, h)?;
+        let stripper = Stripper::new(alloc, h)?;
+        let changer = Changer::new(alloc, h)?;
+        Ok(Readers {
+            tracer,
+            picker,
+            stripper,
+            changer,
+        })
+    }
 }
 
 // What views of a script of this grammar are judged by: a script of `view` has none by deviation.
@@ -112,17 +143,11 @@ impl Tools {
     {
         let measures = measures_for(alloc, h, grammar)?;
         let refiner = Refiner::new(alloc, h)?;
-        let tracer = Tracer::new(alloc, h)?;
-        let picker = Picker::new(alloc, h)?;
-        let stripper = Stripper::new(alloc, h)?;
-        let changer = Changer::new(alloc, h)?;
+        let readers = Readers::new(alloc, h)?;
         Ok(Tools {
             measures,
             refiner,
-            tracer,
-            picker,
-            stripper,
-            changer,
+            readers,
         })
     }
 
@@ -152,7 +177,7 @@ impl Tools {
         requires { AreToolsOf h.now self.now }
         ensures { result ≡ pick_of h.now ray.now }
     {
-        pick_face::<Brand>(&self.picker, h, self.measures.bounds(), ray, Blank::new(1))
+        pick_face::<Brand>(&self.readers.picker, h, self.measures.bounds(), ray, Blank::new(1))
     }
 
     /// The nodes, edges, faces and border loops of the mesh that a front shows.
@@ -166,7 +191,7 @@ impl Tools {
             × (result.faces ≤ MOST_FACES) }
         ensures same { self.new ≡ self.old }
     {
-        self.tracer.measure(front)
+        self.readers.tracer.measure(front)
     }
 
     /// The level of detail that a front shows.
@@ -194,7 +219,7 @@ impl Tools {
             (strips_text front.now.h (set_of front.now.flags)) result }
         ensures same { self.new ≡ self.old }
     {
-        self.stripper.write_strips(front, out)
+        self.readers.stripper.write_strips(front, out)
     }
 
     /// Writes what changed since a marked front.
@@ -211,7 +236,7 @@ impl Tools {
             Puts K.Sink out.old out.new text result }
         ensures same { self.new ≡ self.old }
     {
-        self.changer.write(front, marks, out)
+        self.readers.changer.write(front, marks, out)
     }
 
     /// Writes the same change to the front of the arrays, where it fits.
@@ -252,7 +277,7 @@ impl Tools {
             × (put_corners.new ≡ put_corners.old)) }
         ensures same { self.new ≡ self.old }
     {
-        self.changer.store(
+        self.readers.changer.store(
             front,
             marks,
             gone_faces,

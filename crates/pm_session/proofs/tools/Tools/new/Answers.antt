@@ -4,8 +4,8 @@ pub returns-clause-are : goal.returns-clause-are
 returns-clause-are c = record {
   are_its_measures = c.in_ok-measures.ensures.are;
   room_fits = c.in_ok-refiner.ensures;
-  marks_fit = c.in_ok-tracer.ensures;
-  are_its_lists = c.in_ok-picker.ensures;
-  flags_fit = c.in_ok-stripper.ensures;
-  sets_fit = c.in_ok-changer.ensures;
+  marks_fit = c.in_ok-readers.ensures.marks;
+  are_its_lists = c.in_ok-readers.ensures.lists;
+  flags_fit = c.in_ok-readers.ensures.flags;
+  sets_fit = c.in_ok-readers.ensures.sets;
 }
