@@ -10,7 +10,7 @@ ghost use Rattle.pm_bounds.specs.Leaves.{is_leaf_corner};
 ghost use Rattle.pm_deviation.specs.declared.axes.Axis.{Axis};
 ghost use Rattle.pm_deviation.specs.Spreads.{along, join};
 ghost use Rattle.pm_deviation.specs.Normals.{direction_of};
-ghost use Rattle.pm_deviation.specs.Tables.{IsSum, IsUnitBox, is_axis, AreFaceBoxes, AreOwnSpreads};
+ghost use Rattle.pm_deviation.specs.Tables.{IsUnitBox, is_axis, AreFaceBoxes, AreOwnSpreads};
 ghost use Rattle.pm_deviation.specs.Tables.{AreSpreads};
 
 use crate::OutOfMemory;

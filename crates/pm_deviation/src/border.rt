@@ -1,13 +1,12 @@
 //! Which nodes are at the border of the leaf mesh.
-ghost use Rattle.std.specs.Prelude.{◌≡◌, ℕ, ◌<◌, ◌||◌, false, None, IfOk, replicate, length};
+ghost use Rattle.std.specs.Prelude.{◌≡◌, ◌<◌, ◌||◌, false, IfOk, replicate, length};
 ghost use Rattle.std.specs.Prelude.{slice_index_or};
 ghost use Rattle.pm_base.specs.Meshes.{mesh_of, IsWellFormed};
 ghost use Rattle.pm_base.specs.Sides.{net_of, NoSideTwice};
 ghost use Rattle.pm_twins.specs.Table.{IsTableOf};
-ghost use Rattle.pm_forest.specs.Forest.{node_count, leaf_count, record_count, splitter_of, t_of};
+ghost use Rattle.pm_forest.specs.Forest.{node_count, leaf_count, record_count, t_of};
 ghost use Rattle.pm_forest.specs.Forest.{u_of};
 ghost use Rattle.pm_beyond.specs.Walks.{leaf_net};
-ghost use Rattle.pm_deviation.specs.Borders.{is_at_border};
 ghost use Rattle.pm_deviation.specs.Tables.{AreBorders, AreOwnBorders};
 
 use crate::OutOfMemory;

@@ -1,6 +1,6 @@
 //! How steeply the faces under each node stand to the axis that they look along most alike.
 ghost use Rattle.std.specs.Prelude.{◌≡◌, ℕ, ◌<◌, ◌≤◌, true, None, max, IfOk, IfSome, replicate};
-ghost use Rattle.std.specs.Prelude.{length, slice_index_or, slice_set, unsigned_abs};
+ghost use Rattle.std.specs.Prelude.{length, slice_index_or, unsigned_abs};
 ghost use Rattle.pm_forest.specs.Forest.{node_count};
 ghost use Rattle.pm_forest.specs.Faces.{face_count};
 ghost use Rattle.pm_deviation.specs.Normals.{above_zero, length_of, least_cosine, cosine_by};

@@ -1,6 +1,5 @@
 //! Spreads: the whole numbers from one to another.
-ghost use Rattle.std.specs.Prelude.{◌≡◌, ◌≤◌, unsigned_abs};
-ghost use Rattle.std.specs.Int.{int_min, int_max};
+ghost use Rattle.std.specs.Prelude.{◌≡◌};
 ghost use Rattle.std.specs.Option.{unwrap_or};
 ghost use Rattle.pm_deviation.specs.Spreads.{joined, join, mirrored, no_spread};
 ghost use Rattle.pm_deviation.specs.Tables.{IsPart};

@@ -1,5 +1,5 @@
 //! The header of a stream text that comes in pieces.
-ghost use Rattle.std.specs.Prelude.{◌≡◌, ◌≤◌, ◌<◌, ◌-◌, ◌⊎◌, ◌++◌, length, take, min, Some, None};
+ghost use Rattle.std.specs.Prelude.{◌≡◌, ◌≤◌, ◌<◌, ◌-◌, ◌⊎◌, ◌++◌, length, take, min, Some};
 ghost use Rattle.std.specs.Prelude.{Ok, Err};
 ghost use Rattle.pm_format.specs.Faults.{magic_is_bad};
 ghost use Rattle.pm_format.specs.Standing.{header_bytes, JudgesHeader, stage_of};

@@ -2,7 +2,6 @@
 ghost use Rattle.std.specs.Prelude.{◌≡◌, ◌≤◌, ◌<◌, ◌^◌, length, Some};
 ghost use Rattle.std.specs.List.{flat_map};
 ghost use Rattle.pm_io.specs.Puts.{Puts, PutsThrough};
-ghost use Rattle.pm_forest.specs.Forest.{leaf_count, record_count};
 ghost use Rattle.pm_forest.specs.Rules.{word_of};
 ghost use Rattle.pm_format.specs.Words.{spelled, AreWords};
 ghost use Rattle.pm_format.specs.Stream.{header_words, root_words, base_words, head_words};
