@@ -1,11 +1,12 @@
 //! The hierarchy of a grid and what adapts its fronts. All memory of a summary is taken here.
 ghost use Rattle.std.specs.Prelude.{◌≡◌, ◌+◌, ◌≤◌, ◌<◌, length, IfOk};
-ghost use Rattle.pm_base.specs.Meshes.{mesh_of};
+ghost use Rattle.pm_base.specs.Meshes.{mesh_of, IsWellFormed};
 ghost use Rattle.pm_grid.specs.Grid.{grid as grid_of};
 ghost use Rattle.pm_io.specs.Puts.{Puts};
 ghost use Rattle.pm_forest.specs.Fronts.{no_records};
 ghost use Rattle.pm_base.specs.Counts.{set_of};
 ghost use Rattle.pm_beyond.specs.Valid.{IsValid};
+ghost use Rattle.pm_runs.specs.Runs.{IsRunTo};
 ghost use Rattle.pm_front.specs.Shown.{active_nodes, kept_faces};
 ghost use Rattle.pm_refine.specs.Adapting.{view_target, view_plan};
 ghost use Rattle.pm_demo.specs.Scene.{AreSceneTools};
@@ -13,6 +14,7 @@ ghost use Rattle.pm_demo.specs.Summary.{IsOfGrid, view_line};
 
 use crate::OutOfMemory;
 use crate::lines::put_settled;
+use pm_base::{Log, Mesh};
 use pm_beyond::plans_are_sound;
 use pm_deviation::Measures;
 use pm_forest::Hierarchy;
@@ -22,8 +24,7 @@ use pm_io::{Line, Sink, WriteFault, put_all};
 use pm_load::{LoadFail, open_front};
 use pm_number::from_log;
 use pm_refine::{Adapted, Refiner};
-use pm_simplify::simplify_surface;
-use pm_twins::Surface;
+use pm_simplify::simplify;
 use pm_view::{Measure, Steps, View};
 use std::alloc::{AllocError, Global};
 use std::marker::{Brand, Model};
@@ -47,6 +48,18 @@ impl Model for Scene {
     ghost invariant = { λ s. AreSceneTools s.front.h s.measures s.refiner };
 }
 
+// The run of a mesh, as far as pairs may be collapsed.
+fn run_of(alloc: Global, mesh: &Mesh) -> Result<Log, OutOfMemory>
+    requires { IsWellFormed (mesh_of mesh.now) }
+    ensures { IfOk result (λ log. IsRunTo (mesh_of mesh.now) 0 log.items) }
+{
+    // A grid is an oriented manifold, so it is refused for want of memory alone.
+    match simplify(alloc, mesh, 0) {
+        Ok(log) => Ok(log),
+        Err(_) => Err(AllocError),
+    }
+}
+
 // The hierarchy of a grid that is simplified as far as pairs may be collapsed.
 fn simplified_grid(alloc: Global, n: u32) -> Result<Hierarchy, OutOfMemory>
     requires some { 1 ≤ n }
@@ -56,11 +69,7 @@ fn simplified_grid(alloc: Global, n: u32) -> Result<Hierarchy, OutOfMemory>
 {
     grids_are_sound();
     let mesh = grid(alloc, n)?;
-    // A grid is an oriented manifold, so it is refused for want of memory alone.
-    let Ok(surface) = Surface::of(alloc, mesh.copy(alloc)?) else {
-        return Err(AllocError);
-    };
-    let log = simplify_surface(alloc, surface, 0)?;
+    let log = run_of(alloc, &mesh)?;
     from_log(alloc, &mesh, &log)
 }
 
@@ -94,6 +103,23 @@ fn settle<L: Ledger>(
     }
 }
 
+// The base front of the simplified grid of n times n cells.
+fn base_front(alloc: Global, n: u32) -> Result<Front, OutOfMemory>
+    requires some { 1 ≤ n }
+    requires most { n ≤ 256 }
+    ensures of_grid { IfOk result (λ front. IsOfGrid n front.h) }
+    ensures base { IfOk result (λ front. set_of front.flags ≡ no_records) }
+{
+    let h = simplified_grid(alloc, n)?;
+    match open_front(alloc, h) {
+        Ok(front) => Ok(front),
+        Err(LoadFail::OutOfMemory) => Err(AllocError),
+        // The hierarchy of a run is valid.
+        Err(LoadFail::EdgeTwice(_)) => unreachable!(),
+        Err(LoadFail::BadNeighbour(_)) => unreachable!(),
+    }
+}
+
 impl Scene {
     /// The base front of the simplified grid of n times n cells, n from 1 to 256.
     pub fn open(alloc: Global, n: u32) -> Result<Scene, OutOfMemory>
@@ -102,14 +128,7 @@ impl Scene {
         ensures of_grid { IfOk result (λ s. IsOfGrid n s.h) }
         ensures base { IfOk result (λ s. set_of s.flags ≡ no_records) }
     {
-        let h = simplified_grid(alloc, n)?;
-        let front = match open_front(alloc, h) {
-            Ok(front) => front,
-            Err(LoadFail::OutOfMemory) => return Err(AllocError),
-            // The hierarchy of a run is valid.
-            Err(LoadFail::EdgeTwice(_)) => unreachable!(),
-            Err(LoadFail::BadNeighbour(_)) => unreachable!(),
-        };
+        let front = base_front(alloc, n)?;
         let measures = Measures::of(alloc, front.hierarchy())?;
         let refiner = Refiner::new(alloc, front.hierarchy())?;
         Ok(Scene {
