@@ -1,12 +1,13 @@
 //! A polygon cut into triangles.
-ghost use Rattle.std.specs.Prelude.{◌≤◌, ◌+◌, length, IfOk};
+ghost use Rattle.std.specs.Prelude.{◌≡◌, ◌≤◌, ◌+◌, length, map, IfOk};
 ghost use Rattle.pm_base.specs.declared.limits.TheConstants.{MOST_FACES};
-ghost use Rattle.pm_ears.specs.Cutting.{IsCutOf};
+ghost use Rattle.pm_ears.specs.Cutting.{IsCutOf, named, pieces_of};
 
 use crate::OutOfMemory;
 use crate::ears::few_ears;
 use crate::fan::{fan, overlaps};
 use crate::plane::{largest_plane, spots};
+use crate::spots::Spot;
 use pm_base::{Point, Triples};
 use std::alloc::Global;
 
@@ -34,6 +35,34 @@ pub struct Cut {
     pub triangles: Triples,
 }
 
+// Cuts a polygon whose corners stand on a plane.
+fn cut_spots(alloc: Global, spots: &[Spot]) -> Result<Cut, OutOfMemory>
+    ensures kind { IfOk result (λ cut. cut.kind ≡ (pieces_of spots.now).kind) }
+    ensures triangles { IfOk result
+        (λ cut. cut.triangles.items ≡ map named (pieces_of spots.now).triangles) }
+{
+    if !overlaps(spots) {
+        let triangles = fan(alloc, spots)?;
+        return Ok(Cut {
+            kind: CutKind::Fan,
+            triangles,
+        });
+    }
+    match few_ears(alloc, spots)? {
+        Some(triangles) => Ok(Cut {
+            kind: CutKind::Ears,
+            triangles,
+        }),
+        None => {
+            let triangles = fan(alloc, spots)?;
+            Ok(Cut {
+                kind: CutKind::OverlappingFan,
+                triangles,
+            })
+        }
+    }
+}
+
 /// Cuts a polygon with corners at these places into triangles, two fewer than corners, each of
 /// which keeps the polygon's order. The polygon is looked at along the axis on which its area is
 /// greatest, the first of equal ones, and from the side on which the area isn't below 0.
@@ -50,24 +79,5 @@ pub fn cut_polygon(alloc: Global, places: &[Point]) -> Result<Cut, OutOfMemory>
     ensures { IfOk result (IsCutOf places.now) }
 {
     let spots = spots(alloc, largest_plane(places), places)?;
-    if !overlaps(&spots) {
-        let triangles = fan(alloc, &spots)?;
-        return Ok(Cut {
-            kind: CutKind::Fan,
-            triangles,
-        });
-    }
-    match few_ears(alloc, &spots)? {
-        Some(triangles) => Ok(Cut {
-            kind: CutKind::Ears,
-            triangles,
-        }),
-        None => {
-            let triangles = fan(alloc, &spots)?;
-            Ok(Cut {
-                kind: CutKind::OverlappingFan,
-                triangles,
-            })
-        }
-    }
+    cut_spots(alloc, &spots)
 }
