@@ -9,6 +9,18 @@ use Rattle.pm_fine.proofs.QuotientLaws.{quotient_small}
 use Rattle.pm_fine.proofs.FourthPlaces.{quotients_is}
 use Rattle.pm_fine.proofs.fourth.quotients_place.Goals as goal
 
+pub quotient-x-requires-clause-digits : goal.quotient-x-requires-clause-digits
+quotient-x-requires-clause-digits c = c.digits_above-digits.ensures.small
+
+pub quotient-x-requires-clause-some : goal.quotient-x-requires-clause-some
+quotient-x-requires-clause-some c =
+    let near : c.is_near.result ≡ true = search rules in
+    c.digits_above-digits.ensures.first
+    (rw c.unsigned_abs-size.ensures.value (c.is_near.ensures.some near))
+
+pub quotient-x-requires-clause-kept : goal.quotient-x-requires-clause-kept
+quotient-x-requires-clause-kept c = c.digits_above-digits.ensures.kept
+
 pub quotient-x-requires-clause-a_small : goal.quotient-x-requires-clause-a_small
 quotient-x-requires-clause-a_small c =
     let near : c.is_near.result ≡ true = search rules in
@@ -17,6 +29,18 @@ quotient-x-requires-clause-a_small c =
     c.digits_above-digits.result fits (c.is_near.ensures.bounds near).0
     c.unsigned_abs-size.ensures.value
 
+pub quotient-y-requires-clause-digits : goal.quotient-y-requires-clause-digits
+quotient-y-requires-clause-digits c = c.digits_above-digits.ensures.small
+
+pub quotient-y-requires-clause-some : goal.quotient-y-requires-clause-some
+quotient-y-requires-clause-some c =
+    let near : c.is_near.result ≡ true = search rules in
+    c.digits_above-digits.ensures.first
+    (rw c.unsigned_abs-size.ensures.value (c.is_near.ensures.some near))
+
+pub quotient-y-requires-clause-kept : goal.quotient-y-requires-clause-kept
+quotient-y-requires-clause-kept c = c.digits_above-digits.ensures.kept
+
 pub quotient-y-requires-clause-a_small : goal.quotient-y-requires-clause-a_small
 quotient-y-requires-clause-a_small c =
     let near : c.is_near.result ≡ true = search rules in
@@ -24,6 +48,18 @@ quotient-y-requires-clause-a_small c =
     quotient_small c.args.n.now.y c.args.det c.unsigned_abs-size.result
     c.digits_above-digits.result fits (c.is_near.ensures.bounds near).1
     c.unsigned_abs-size.ensures.value
+
+pub quotient-z-requires-clause-digits : goal.quotient-z-requires-clause-digits
+quotient-z-requires-clause-digits c = c.digits_above-digits.ensures.small
+
+pub quotient-z-requires-clause-some : goal.quotient-z-requires-clause-some
+quotient-z-requires-clause-some c =
+    let near : c.is_near.result ≡ true = search rules in
+    c.digits_above-digits.ensures.first
+    (rw c.unsigned_abs-size.ensures.value (c.is_near.ensures.some near))
+
+pub quotient-z-requires-clause-kept : goal.quotient-z-requires-clause-kept
+quotient-z-requires-clause-kept c = c.digits_above-digits.ensures.kept
 
 pub quotient-z-requires-clause-a_small : goal.quotient-z-requires-clause-a_small
 quotient-z-requires-clause-a_small c =

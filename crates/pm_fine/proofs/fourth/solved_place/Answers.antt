@@ -8,6 +8,20 @@ use Rattle.pm_fine.specs.Fourth.{is_within, quotients_place}
 use Rattle.pm_fine.proofs.FourthPlaces.{solved_is}
 use Rattle.pm_fine.proofs.fourth.solved_place.Goals as goal
 
+pub cofactors-cofactors-requires : goal.cofactors-cofactors-requires
+cofactors-cofactors-requires c = c.requires.matrix
+
+pub determinant-det-requires : goal.determinant-det-requires
+determinant-det-requires c = record {
+  own = c.requires.matrix;
+  cofactors = c.cofactors-cofactors.ensures.value;
+  small = c.cofactors-cofactors.ensures.small;
+}
+
+pub times-n-requires : goal.times-n-requires
+times-n-requires c =
+    record { own = c.cofactors-cofactors.ensures.small; vector = c.reversed.ensures.small }
+
 pub returns : goal.returns
 returns c =
     let g : Vector = c.args.g.now in
