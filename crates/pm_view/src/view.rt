@@ -113,8 +113,10 @@ fn are_in_range(ex: i32, ey: i32, ez: i32, focal: u32, tol: u32, sil: u32, plane
           planes = planes.now;
         }) }
 {
-    let is_fine = is_eye(ex, ey, ez) && focal <= GREATEST_FOCAL_LENGTH && are_tolerances(tol, sil);
-    is_fine && are_planes(planes)
+    is_eye(ex, ey, ez)
+        && focal <= GREATEST_FOCAL_LENGTH
+        && are_tolerances(tol, sil)
+        && are_planes(planes)
 }
 
 impl View {
