@@ -6,21 +6,24 @@ use Rattle.pm_view.proofs.plane.Plane.value_at.Goals as goal
 
 pub component-requires : goal.component-requires
 component-requires c = record {
-  a_small = read_small w32 c.args.self.now.a 32767 (small_plane c.args.self.now c.requires).a (lit< tt);
+  a_small =
+      read_small w32 c.args.self.now.a 32767 (small_plane c.args.self.now c.requires).a (lit< tt);
   x_small = equal_small w32 c.x.result c.args.p.x 32767 c.x.ensures.value c.x.ensures.in_range.0
       (lit< tt);
 }
 
 pub component-requires-2 : goal.component-requires-2
 component-requires-2 c = record {
-  a_small = read_small w32 c.args.self.now.b 32767 (small_plane c.args.self.now c.requires).b (lit< tt);
+  a_small =
+      read_small w32 c.args.self.now.b 32767 (small_plane c.args.self.now c.requires).b (lit< tt);
   x_small = equal_small w32 c.y.result c.args.p.y 32767 c.y.ensures.value c.y.ensures.in_range.1
       (lit< tt);
 }
 
 pub component-requires-3 : goal.component-requires-3
 component-requires-3 c = record {
-  a_small = read_small w32 c.args.self.now.c 32767 (small_plane c.args.self.now c.requires).c (lit< tt);
+  a_small =
+      read_small w32 c.args.self.now.c 32767 (small_plane c.args.self.now c.requires).c (lit< tt);
   x_small = equal_small w32 c.z.result c.args.p.z 32767 c.z.ensures.value c.z.ensures.in_range.2
       (lit< tt);
 }

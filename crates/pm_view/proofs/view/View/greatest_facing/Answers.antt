@@ -46,20 +46,29 @@ greatest_on_axis-z-requires c = record {
 pub add_three-requires : goal.add_three-requires
 add_three-requires c = record {
   a_small =
-      read_small w128 c.greatest_on_axis-x.result (2 ^ 74) c.greatest_on_axis-x.ensures.small (lit< tt);
+      read_small w128 c.greatest_on_axis-x.result (2 ^ 74) c.greatest_on_axis-x.ensures.small
+      (lit< tt);
   b_small =
-      read_small w128 c.greatest_on_axis-y.result (2 ^ 74) c.greatest_on_axis-y.ensures.small (lit< tt);
+      read_small w128 c.greatest_on_axis-y.result (2 ^ 74) c.greatest_on_axis-y.ensures.small
+      (lit< tt);
   c_small =
-      read_small w128 c.greatest_on_axis-z.result (2 ^ 74) c.greatest_on_axis-z.ensures.small (lit< tt);
+      read_small w128 c.greatest_on_axis-z.result (2 ^ 74) c.greatest_on_axis-z.ensures.small
+      (lit< tt);
 }
 
 pub returns : goal.returns
 unfolding greatest_facing
 returns c error deviation =
     let sum : FitsSigned w128 c.add_three.result = search rules in
-    let rx = fits_small w128 c.greatest_on_axis-x.result (2 ^ 74) c.greatest_on_axis-x.ensures.small (lit< tt) in
-    let ry = fits_small w128 c.greatest_on_axis-y.result (2 ^ 74) c.greatest_on_axis-y.ensures.small (lit< tt) in
-    let rz = fits_small w128 c.greatest_on_axis-z.result (2 ^ 74) c.greatest_on_axis-z.ensures.small (lit< tt) in
+    let rx =
+    fits_small w128 c.greatest_on_axis-x.result (2 ^ 74) c.greatest_on_axis-x.ensures.small
+    (lit< tt) in
+    let ry =
+    fits_small w128 c.greatest_on_axis-y.result (2 ^ 74) c.greatest_on_axis-y.ensures.small
+    (lit< tt) in
+    let rz =
+    fits_small w128 c.greatest_on_axis-z.result (2 ^ 74) c.greatest_on_axis-z.ensures.small
+    (lit< tt) in
     let lx : FitsSigned w64 c.args.normals.low.x = search rules in
     let ly : FitsSigned w64 c.args.normals.low.y = search rules in
     let lz : FitsSigned w64 c.args.normals.low.z = search rules in
