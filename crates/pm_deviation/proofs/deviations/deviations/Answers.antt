@@ -29,3 +29,21 @@ loop-node-preserved c =
       each = λ v l. (all v l).0;
       small = λ v l. (all v l).1;
     }
+
+pub find-requires-clause-bounds : goal.find-requires-clause-bounds
+find-requires-clause-bounds c = c.requires.bounds
+
+pub find-requires-clause-once : goal.find-requires-clause-once
+find-requires-clause-once c = c.requires.once
+
+pub node_deviation-requires-clause-bounds : goal.node_deviation-requires-clause-bounds
+node_deviation-requires-clause-bounds c = c.requires.bounds
+
+pub node_deviation-requires-clause-borders : goal.node_deviation-requires-clause-borders
+node_deviation-requires-clause-borders c = c.in_ok-found.ensures.borders
+
+pub node_deviation-requires-clause-cosines : goal.node_deviation-requires-clause-cosines
+node_deviation-requires-clause-cosines c = c.in_ok-found.ensures.cosines
+
+pub node_deviation-requires-clause-planes : goal.node_deviation-requires-clause-planes
+node_deviation-requires-clause-planes c = c.in_ok-found.ensures.planes
