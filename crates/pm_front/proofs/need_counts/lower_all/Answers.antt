@@ -13,4 +13,5 @@ pub loop-need-preserved : goal.loop-need-preserved
 loop-need-preserved c =
     let at : c.loop-need.need-index < length c.args.needed.now =
     omega (arith, c.loop-need-test.true) in
-    lowered_more c.args.needed.now c.loop-need.need-index at _ _ _ c.loop-need.invariant c.lower.ensures
+    lowered_more c.args.needed.now c.loop-need.need-index at _ _ _ c.loop-need.invariant
+    c.lower.ensures
