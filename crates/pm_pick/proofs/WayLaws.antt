@@ -5,7 +5,8 @@ use Rattle.std.specs.Prelude.{ℤ, ◌+ℤ◌, ◌-ℤ◌, ◌*ℤ◌, unsigned_
 use Rattle.pm_view.proofs.Words.{read_is}
 
 pub minor_is : (r a b c d : ℤ)
-    → r ≡ to_z w64 (of_z w64 a) *ℤ to_z w64 (of_z w64 d) -ℤ to_z w64 (of_z w64 b) *ℤ to_z w64 (of_z w64 c)
+    → r ≡ to_z w64 (of_z w64 a) *ℤ to_z w64 (of_z w64 d) -ℤ to_z w64 (of_z w64 b)
+    *ℤ to_z w64 (of_z w64 c)
     → unsigned_abs a ≤ 16809982 → unsigned_abs b ≤ 16809982 → unsigned_abs c ≤ 16809982
     → unsigned_abs d ≤ 16809982 → unsigned_abs r ≤ 2 ^ 51
     → to_z w64 (of_z w64 r) ≡ a *ℤ d -ℤ b *ℤ c
@@ -46,4 +47,9 @@ pub apart_is : (r at origin at' origin' : ℤ)
     → to_z w64 (of_z w64 r) ≡ at' -ℤ origin'
 apart_is r at origin at' origin' e ea eo sa so sr =
     read_is w64 r 16809982 sr (lit< tt)
-    ∙ (e ∙ rw (ea, read_is w32 at' 32767 sa (lit< tt), read_is w32 origin 16777215 so (lit< tt), eo) refl)
+    ∙ (e ∙ rw (
+      ea,
+      read_is w32 at' 32767 sa (lit< tt),
+      read_is w32 origin 16777215 so (lit< tt),
+      eo,
+    ) refl)
