@@ -135,10 +135,8 @@ module _ (flags : List Bool) (fs : List Corners) where
 
   pub runs_cases : (e : ℕ) → e < 3 * length fs → Runs e ⊎ RunsBack e
   runs_cases e l =
-      elim (cases_Bool (flag_of flags (face_of e))) [
-        | inr is ↦ inl (runs e l is)
-        | inl is ↦ inr (runs_on e l is)
-      ]
+      let either = cases_Bool (flag_of flags (face_of e)) in
+      elim either [ inr is ↦ inl (runs e l is) | inl is ↦ inr (runs_on e l is) ]
 
   pub ends_moved : (e : ℕ) → e < 3 * length fs
       → SameEnds (n.from (moved flags e)) (to n (moved flags e)) (m.from e) (to m e)

@@ -40,6 +40,7 @@ returns-clause-small c =
     let f : FitsSigned w128 (c.args.a *ℤ c.args.n) =
     fits_signed_mul w128 c.args.a c.args.n 32767 8589410312 c.requires.a_small c.requires.n_small
     (lit< tt) in
-    let most = abs_product c.args.a c.args.n 32767 8589410312 c.requires.a_small c.requires.n_small in
+    let most = abs_product c.args.a c.args.n 32767 8589410312 c.requires.a_small
+    c.requires.n_small in
     let small : unsigned_abs (c.args.a *ℤ c.args.n) ≤ 2 ^ 49 = omega (arith, most) in
     simp to_z-of_z (rw (a, n) (simp to_z-of_z small))
