@@ -1,5 +1,5 @@
 //! Points on the grid, and polygons cut anew over them.
-ghost use Rattle.std.specs.Prelude.{◌≡◌, length, IfOk};
+ghost use Rattle.std.specs.Prelude.{IfOk};
 ghost use Rattle.obj_prepare.specs.Placing.{IsSize};
 ghost use Rattle.obj_scan.specs.Fails.{scanned_of};
 ghost use Rattle.obj_scan.specs.Meaning.{IsWithinLimits};

@@ -1,6 +1,6 @@
 //! Digits of a number, up to the one that decides how it is rounded.
 ghost use Rattle.std.specs.Prelude.{◌≡◌, ℕ, ◌+◌, ◌*◌, ◌^◌, ◌<◌, ◌≤◌, min, true, length, ◌++◌};
-ghost use Rattle.std.specs.Prelude.{slice_index_or, nat_le};
+ghost use Rattle.std.specs.Prelude.{slice_index_or};
 ghost use Rattle.pm_io.specs.Digits.{are_digits, value};
 ghost use Rattle.obj_prepare.specs.Numbers.{shifted};
 

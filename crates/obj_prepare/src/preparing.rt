@@ -6,7 +6,7 @@ ghost use Rattle.pm_base.specs.Fans.{IsOrientedManifold};
 ghost use Rattle.std.specs.List.{All};
 ghost use Rattle.obj_prepare.specs.Named.{IsWithinMesh};
 ghost use Rattle.obj_prepare.specs.Joining.{place_in_list};
-ghost use Rattle.obj_prepare.specs.Prepared.{IsPreparedWith, AreNotes, HasTooMany};
+ghost use Rattle.obj_prepare.specs.Prepared.{IsPreparedWith, AreNotes};
 ghost use Rattle.obj_prepare.specs.PrepareFails.{IsPrepareFail};
 ghost use Rattle.obj_prepare.specs.Pieces.{ArePieces};
 

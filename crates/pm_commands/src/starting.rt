@@ -1,5 +1,5 @@
 //! The session that a script is played on.
-ghost use Rattle.std.specs.Prelude.{◌≡◌, ◌≢◌, IfOk, IfErr, OnOk};
+ghost use Rattle.std.specs.Prelude.{◌≢◌, IfOk, IfErr, OnOk};
 ghost use Rattle.pm_beyond.specs.Valid.{IsValid};
 ghost use Rattle.pm_load.specs.Faults.{IsLoadFault};
 ghost use Rattle.pm_commands.specs.Started.{IsStarted};

@@ -1,13 +1,11 @@
 //! The hierarchy of a grid and what adapts its fronts. All memory of a summary is taken here.
-ghost use Rattle.std.specs.Prelude.{◌≡◌, ◌+◌, ◌≤◌, ◌<◌, length, IfOk};
+ghost use Rattle.std.specs.Prelude.{◌≡◌, ◌≤◌, ◌<◌, length, IfOk};
 ghost use Rattle.pm_base.specs.Meshes.{mesh_of, IsWellFormed};
-ghost use Rattle.pm_grid.specs.Grid.{grid as grid_of};
 ghost use Rattle.pm_io.specs.Puts.{Puts};
 ghost use Rattle.pm_forest.specs.Fronts.{no_records};
 ghost use Rattle.pm_base.specs.Counts.{set_of};
 ghost use Rattle.pm_beyond.specs.Valid.{IsValid};
 ghost use Rattle.pm_runs.specs.Runs.{IsRunTo};
-ghost use Rattle.pm_front.specs.Shown.{active_nodes, kept_faces};
 ghost use Rattle.pm_refine.specs.Adapting.{view_target, view_plan};
 ghost use Rattle.pm_demo.specs.Scene.{AreSceneTools};
 ghost use Rattle.pm_demo.specs.Summary.{IsOfGrid, view_line};

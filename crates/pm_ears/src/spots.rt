@@ -1,5 +1,5 @@
 //! Corners of a polygon on a plane, their triangles, and exact signed areas.
-ghost use Rattle.std.specs.Prelude.{◌≡◌, ℕ, ◌+◌, ◌<◌, ◌≤◌, ◌^◌, ◌+ℤ◌, ◌-ℤ◌, ◌*ℤ◌, length};
+ghost use Rattle.std.specs.Prelude.{◌≡◌, ◌+◌, ◌<◌, ◌≤◌, ◌^◌, ◌+ℤ◌, ◌-ℤ◌, ◌*ℤ◌, length};
 ghost use Rattle.std.specs.Prelude.{unsigned_abs};
 ghost use Rattle.pm_ears.specs.Areas.{
   cross_of,

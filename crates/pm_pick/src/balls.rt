@@ -1,6 +1,6 @@
 //! Which balls a ray meets.
-ghost use Rattle.std.specs.Prelude.{◌≡◌, ◌≤◌, ◌<◌, ◌^◌, ◌+◌, ◌*◌, ◌||◌, not, pos, ℕ, int_lt};
-ghost use Rattle.std.specs.Prelude.{nat_lt, true, false, unsigned_abs};
+ghost use Rattle.std.specs.Prelude.{◌≡◌, ◌≤◌, ◌<◌, ◌^◌, ◌+◌, ◌*◌, ◌||◌, ℕ};
+ghost use Rattle.std.specs.Prelude.{nat_lt, false, unsigned_abs};
 ghost use Rattle.pm_base.specs.Geometry.{norm2_of, square_of};
 ghost use Rattle.pm_base.specs.Sides.{face_of};
 ghost use Rattle.pm_forest.specs.Forest.{node_count, Holds};

@@ -1,11 +1,11 @@
 //! Where a ray meets a face. The ray passes the three sides of a face that it hits on one hand: the
 //! volumes that it spans with them have one sign. All by whole numbers, without a division.
-ghost use Rattle.std.specs.Prelude.{◌≡◌, ◌≤◌, ◌<◌, ◌^◌, ◌+◌, ◌*◌, ◌≤ℤ◌, pos, ℕ, int_le, nat_lt};
-ghost use Rattle.std.specs.Prelude.{unsigned_abs, IfSome, IfNone, true, false, Some, None};
+ghost use Rattle.std.specs.Prelude.{◌≡◌, ◌≤◌, ◌<◌, ◌^◌, ◌+◌, pos, ℕ, int_le};
+ghost use Rattle.std.specs.Prelude.{unsigned_abs, IfSome, IfNone, Some, None};
 ghost use Rattle.pm_base.specs.Geometry.{cross_of, dot_of, IsNormal};
 ghost use Rattle.pm_forest.specs.Faces.{face_count, corners_of};
 ghost use Rattle.pm_forest.specs.Meshes.{leaf_place};
-ghost use Rattle.pm_pick.specs.Rays.{direction_of, IsWithin};
+ghost use Rattle.pm_pick.specs.Rays.{IsWithin};
 ghost use Rattle.pm_pick.specs.Hits.{sign_turned, slope_of, height_of, passing, is_hit_at, is_hit};
 ghost use Rattle.pm_pick.specs.Hits.{IsHit};
 ghost use Rattle.pm_pick.specs.Picks.{HitsFace, MissesFace};

@@ -1,5 +1,5 @@
 //! Marks on records: what a record needs is marked.
-ghost use Rattle.std.specs.Prelude.{ℕ, ◌≡◌, ◌<◌, length, IfSome};
+ghost use Rattle.std.specs.Prelude.{◌≡◌, ◌<◌, length, IfSome};
 ghost use Rattle.std.specs.List.{All};
 ghost use Rattle.pm_base.specs.Counts.{set_of};
 ghost use Rattle.pm_beyond.specs.Moves.{is_at};

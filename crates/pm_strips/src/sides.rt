@@ -1,5 +1,5 @@
 //! The sides of the faces that a front shows, and which of these faces are free.
-ghost use Rattle.std.specs.Prelude.{◌≡◌, ◌*◌, ◌+◌, ◌<◌, true, IfSome, is_some, length};
+ghost use Rattle.std.specs.Prelude.{◌≡◌, ◌<◌, true, IfSome, is_some, length};
 ghost use Rattle.pm_base.specs.Sides.{next as next_of, face_of};
 ghost use Rattle.pm_base.specs.Counts.{set_of};
 ghost use Rattle.pm_forest.specs.Faces.{face_count};

@@ -1,6 +1,5 @@
 //! Puts one strip.
-ghost use Rattle.std.specs.Prelude.{◌≡◌, true, length, map, codes, OnOk};
-ghost use Rattle.std.specs.List.{flat_map};
+ghost use Rattle.std.specs.Prelude.{◌≡◌, true, length, OnOk};
 ghost use Rattle.pm_io.specs.Puts.{PutsThrough};
 ghost use Rattle.pm_base.specs.Sides.{face_of};
 ghost use Rattle.pm_base.specs.Counts.{set_of};

@@ -1,7 +1,6 @@
 //! Patches of faces that are mates, found by joining them pair by pair.
-ghost use Rattle.std.specs.Prelude.{◌≡◌, ◌≢◌, ℕ, ◌+◌, ◌*◌, ◌<◌, ◌≤◌, ◌||◌, List, Bool, true};
+ghost use Rattle.std.specs.Prelude.{◌≡◌, ◌≢◌, ℕ, ◌+◌, ◌*◌, ◌<◌, ◌≤◌, ◌||◌, true};
 ghost use Rattle.std.specs.Prelude.{length, slice_index_or};
-ghost use Rattle.pm_base.specs.declared.limits.TheConstants.{MOST_FACES};
 ghost use Rattle.pm_base.specs.Sides.{Net, net_of, side_count, face_of};
 ghost use Rattle.pm_turn.specs.Turning.{flipped_if as flipped_if_of, clash as clash_of, AreMates};
 ghost use Rattle.pm_turn.specs.Unions.{Up, AreElders, AreTables, AreMated, AreShorter, under};

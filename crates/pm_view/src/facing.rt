@@ -1,7 +1,6 @@
 //! The least and the greatest that the product of a normal in a box and a way from the eye to a
 //! ball can be.
 ghost use Rattle.std.specs.Prelude.{◌≡◌, ◌≤◌, ◌^◌, pos, ◌+ℤ◌, ◌-ℤ◌, ◌*ℤ◌, unsigned_abs};
-ghost use Rattle.std.specs.Int.{int_min, int_max};
 ghost use Rattle.pm_base.specs.declared.limits.TheConstants.{GREATEST_COORDINATE};
 ghost use Rattle.pm_view.specs.declared.limits.TheConstants.{GREATEST_EYE_COORDINATE};
 ghost use Rattle.pm_view.specs.Wanted.{least_product, greatest_product};

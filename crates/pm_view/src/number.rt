@@ -1,5 +1,5 @@
 //! The numbers that fields of a text are.
-ghost use Rattle.std.specs.Prelude.{◌≡◌, ◌≤◌, ◌<◌, ◌^◌, pos, unsigned_abs, IfSome};
+ghost use Rattle.std.specs.Prelude.{◌≡◌, ◌≤◌, ◌<◌, ◌^◌, unsigned_abs, IfSome};
 ghost use Rattle.pm_io.specs.Digits.{unsigned_of};
 ghost use Rattle.pm_view.specs.Fields.{negative, signed_of};
 
