@@ -1,8 +1,9 @@
 //! What each command does with its devices. All memory is taken before the first byte of output.
 ghost use Rattle.std.specs.Prelude.{◌≡◌, ◌≤◌, false, OnOk, IfErr};
 ghost use Rattle.pm_io.specs.Bytes.{AtEnd};
+ghost use Rattle.pm_commands.specs.Asked.{script_asked};
 ghost use Rattle.pm_commands.specs.Ending.{Ends, Counts, ReadToEnd, ReadToPlace, FewMore};
-ghost use Rattle.pm_commands.specs.Ending.{FewMoreLive};
+ghost use Rattle.pm_commands.specs.Ending.{FewMoreIn, FewMoreLive};
 
 use crate::asked::Asked;
 use crate::fault::CommandFail;
@@ -77,8 +78,37 @@ pub fn check<S: Source, K: Sink>(
     Ok(())
 }
 
-/// `view B`: reads the stream of a valid hierarchy, and does the script that follows it line by
-/// line. The reply to a line is put whole before more is asked for than the window holds.
+/// A script of this grammar: reads the stream of a valid hierarchy, and does the script that
+/// follows it line by line. The reply to a line is put whole before more is asked for than the
+/// window holds.
+fn play<S: Source, K: Sink>(
+    alloc: Global,
+    grammar: Grammar,
+    budget: u32,
+    input: &mut S,
+    out: &mut K,
+) -> Result<(), CommandFail>
+    requires { S.ended input.old ≡ false }
+    ensures ends { Ends (script_asked grammar budget) result
+        (S.left input.old) (S.left input.new) (K.got out.old) (K.got out.new) }
+    ensures counts { Counts result (S.faults input.old) (S.faults input.new) (K.faults out.old)
+        (K.faults out.new) }
+    ensures read_whole { OnOk result
+        (ReadToEnd (script_asked grammar budget) (S.left input.old) (S.left input.new)) }
+    ensures read_to_place { OnOk result
+        (ReadToPlace (script_asked grammar budget) (S.left input.old) (S.left input.new)) }
+    ensures few_more { IfErr result (λ e. e ≡ CommandFail.Write
+        → FewMoreIn grammar budget (S.left input.old) (S.left input.new) (K.got out.old)
+        (K.got out.new)) }
+{
+    let mut taker = Taker::new(alloc)?;
+    let Stream { h, .. } = read_stream(alloc, &mut taker, input)?;
+    let mut session = start(alloc, h, grammar, budget)?;
+    session.serve(&mut taker, input, out)?;
+    Ok(())
+}
+
+/// `view B`: plays a script.
 pub fn view<S: Source, K: Sink>(
     alloc: Global,
     budget: u32,
@@ -97,11 +127,7 @@ pub fn view<S: Source, K: Sink>(
     ensures few_more { IfErr result (λ e. e ≡ CommandFail.Write
         → FewMore budget (S.left input.old) (S.left input.new) (K.got out.old) (K.got out.new)) }
 {
-    let mut taker = Taker::new(alloc)?;
-    let Stream { h, .. } = read_stream(alloc, &mut taker, input)?;
-    let mut session = start(alloc, h, Grammar::View, budget)?;
-    session.serve(&mut taker, input, out)?;
-    Ok(())
+    play(alloc, Grammar::View, budget, input, out)
 }
 
 /// `live B`: the same, with more lines for a viewer that stays.
@@ -124,9 +150,5 @@ pub fn live<S: Source, K: Sink>(
         → FewMoreLive budget (S.left input.old) (S.left input.new) (K.got out.old)
         (K.got out.new)) }
 {
-    let mut taker = Taker::new(alloc)?;
-    let Stream { h, .. } = read_stream(alloc, &mut taker, input)?;
-    let mut session = start(alloc, h, Grammar::Live, budget)?;
-    session.serve(&mut taker, input, out)?;
-    Ok(())
+    play(alloc, Grammar::Live, budget, input, out)
 }

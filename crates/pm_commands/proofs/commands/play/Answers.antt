@@ -2,7 +2,6 @@ use Rattle.std.proofs.Common.{◌≡◌, sym, ◌∙◌, ap}
 use Rattle.std.proofs.lemmas.Result.{err_from_is_err_and}
 use Rattle.std.specs.Io.KnownBytes.{prepend_known}
 use Rattle.pm_io.proofs.Known.{loses_none}
-use Rattle.pm_session.specs.declared.grammar.Grammar.TheVariants as grammars
 use Rattle.pm_session.specs.Session.{state_of}
 use Rattle.pm_commands.specs.Beginning.{IsValidBeginning, stream_fail, load_fail}
 use Rattle.pm_commands.proofs.ReadingLaws.{begun, stream_stops, load_stops}
@@ -10,7 +9,7 @@ use Rattle.pm_commands.proofs.OutcomeLaws.{counts_stopped, no_write}
 use Rattle.pm_commands.proofs.StartLaws.{started}
 use Rattle.pm_commands.proofs.ViewLaws.{view_stream, view_load, view_done, view_to_end}
 use Rattle.pm_commands.proofs.ViewLaws.{view_to_place, view_served, view_few, view_counts}
-use Rattle.pm_commands.proofs.commands.view.Goals as goal
+use Rattle.pm_commands.proofs.commands.play.Goals as goal
 
 pub returns-in_err-h-clause-ends : goal.returns-in_err-h-clause-ends
 returns-in_err-h-clause-ends g c =
@@ -21,7 +20,7 @@ returns-in_err-h-clause-ends g c =
     let p = err_from_is_err_and c.from_residual-in_err-h.result
     c.from_residual-in_err-h.ensures.1 in
     rw (p.1, p.2)
-    (view_stream grammars.View c.args.budget left (prepend_known c.in_ok-taker.taker left)
+    (view_stream c.args.grammar c.args.budget left (prepend_known c.in_ok-taker.taker left)
     (prepend_known c.read_stream.new.taker later) later _ c.in_err-h.field-0.0 _ _ same
     c.in_err-h.ensures.reads
     (stream_stops left (prepend_known c.in_ok-taker.taker left)
@@ -57,7 +56,7 @@ returns-in_err-session-clause-ends g c =
     let p = err_from_is_err_and c.from_residual-in_err-session.result
     c.from_residual-in_err-session.ensures.1 in
     rw (p.1, p.2)
-    (view_load grammars.View c.args.budget c.in_err-session.field-0.0 left later _ _ _
+    (view_load c.args.grammar c.args.budget c.in_err-session.field-0.0 left later _ _ _
     (load_stops left (prepend_known c.read_stream.new.taker later) later
     c.in_ok-h.field-0.digits c.in_ok-h.field-0.h c.in_err-session.field-0.0 _ _
     (begun left (prepend_known c.in_ok-taker.taker left)
@@ -99,7 +98,7 @@ returns-clause-ends g c =
     let s = c.deref_mut.result.now in
     let text = begun left (prepend_known c.in_ok-taker.taker left) mid later c.in_ok-h.field-0 same
     c.in_ok-h.ensures.reads in
-    view_done grammars.View s.grammar c.args.budget d h s.h (state_of s) left mid now
+    view_done c.args.grammar s.grammar c.args.budget d h s.h (state_of s) left mid now
     (g.K.Sink.got c.args.out.now) (g.K.Sink.got c.serve.new.out) c.serve.new.taker
     (state_of c.serve.new.self) text c.in_ok-session.ensures.valid
     (started _ _ _ _ _ c.deref_mut.ensures.value c.in_ok-session.ensures.started).0
@@ -120,7 +119,7 @@ returns-clause-read_whole g c =
     let s = c.deref_mut.result.now in
     let text = begun left (prepend_known c.in_ok-taker.taker left) mid later c.in_ok-h.field-0 same
     c.in_ok-h.ensures.reads in
-    view_to_end grammars.View s.grammar c.args.budget d h s.h (state_of s) left mid now
+    view_to_end c.args.grammar s.grammar c.args.budget d h s.h (state_of s) left mid now
     (g.K.Sink.got c.args.out.now) (g.K.Sink.got c.serve.new.out) c.serve.new.taker
     (state_of c.serve.new.self) text c.in_ok-session.ensures.valid
     (started _ _ _ _ _ c.deref_mut.ensures.value c.in_ok-session.ensures.started).0
@@ -141,7 +140,7 @@ returns-clause-read_to_place g c =
     let s = c.deref_mut.result.now in
     let text = begun left (prepend_known c.in_ok-taker.taker left) mid later c.in_ok-h.field-0 same
     c.in_ok-h.ensures.reads in
-    view_to_place grammars.View s.grammar c.args.budget d h s.h (state_of s) left mid now
+    view_to_place c.args.grammar s.grammar c.args.budget d h s.h (state_of s) left mid now
     (g.K.Sink.got c.args.out.now) (g.K.Sink.got c.serve.new.out) c.serve.new.taker
     (state_of c.serve.new.self) text c.in_ok-session.ensures.valid
     (started _ _ _ _ _ c.deref_mut.ensures.value c.in_ok-session.ensures.started).0
@@ -164,7 +163,7 @@ returns-in_err-serve-clause-ends g c =
     c.in_ok-h.ensures.reads in
     let p = err_from_is_err_and c.from_residual-in_err-serve.result
     c.from_residual-in_err-serve.ensures.1 in
-    rw (p.1, p.2) (view_served grammars.View s.grammar c.args.budget d h s.h (state_of s) left mid
+    rw (p.1, p.2) (view_served c.args.grammar s.grammar c.args.budget d h s.h (state_of s) left mid
     now (g.K.Sink.got c.args.out.now) (g.K.Sink.got c.serve.new.out) c.serve.new.taker
     (state_of c.serve.new.self) text c.in_ok-session.ensures.valid
     (started _ _ _ _ _ c.deref_mut.ensures.value c.in_ok-session.ensures.started).0
@@ -194,7 +193,7 @@ returns-in_err-serve-clause-few_more g c =
     c.in_ok-h.ensures.reads in
     let p = err_from_is_err_and c.from_residual-in_err-serve.result
     c.from_residual-in_err-serve.ensures.1 in
-    rw p.1 (λ is. view_few grammars.View s.grammar c.args.budget d h s.h (state_of s) left mid now
+    rw p.1 (λ is. view_few c.args.grammar s.grammar c.args.budget d h s.h (state_of s) left mid now
     (g.K.Sink.got c.args.out.now) (g.K.Sink.got c.serve.new.out) c.serve.new.taker
     (state_of c.serve.new.self) text c.in_ok-session.ensures.valid
     (started _ _ _ _ _ c.deref_mut.ensures.value c.in_ok-session.ensures.started).0
