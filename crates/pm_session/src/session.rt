@@ -29,7 +29,6 @@ ghost use Rattle.pm_session.specs.Script.{
   is_fraction,
   morph_reply,
 };
-ghost use Rattle.pm_view.specs.Views.{View as Seen};
 ghost use Rattle.pm_session.specs.Level.{level_reply};
 ghost use Rattle.pm_session.specs.Session.{LineEnds, LineCounts, AreToolsOf, HasItsMeasures};
 ghost use Rattle.pm_session.specs.Session.{state_of};
@@ -139,10 +138,7 @@ impl Session {
 
     // What a line asks for.
     fn command(&self, text: &[u8]) -> Command
-        ensures value { result ≡ command_of self.now.grammar text.now }
-        ensures views { (view : Seen) → result ≡ Command.Look view
-            → has_measure self.now.grammar view.measure ≡ true }
-        ensures levels { result ≡ Command.Level → self.now.grammar ≡ Grammar.Live }
+        ensures { result ≡ command_of self.now.grammar text.now }
     {
         command_of(self.grammar, text)
     }
