@@ -13,6 +13,9 @@ use Rattle.pm_session.specs.declared.command.Command.{Command}
 use Rattle.pm_session.specs.declared.command.Command.TheVariants as commands
 use Rattle.pm_session.specs.declared.grammar.Grammar.{Grammar}
 use Rattle.pm_session.specs.declared.grammar.Grammar.TheVariants as grammars
+use Rattle.pm_io.specs.Letters.{letter_v}
+use Rattle.pm_session.specs.Letters.{letter_c, letter_g, letter_k, letter_m, letter_p, letter_q}
+use Rattle.pm_session.specs.Letters.{letter_s, letter_t, letter_w}
 use Rattle.pm_session.specs.Script.{is_one_letter, begins_with, begins_with_both, split_of}
 use Rattle.pm_session.specs.Script.{collapse_of, look_of, pick_by, two_of, morph_by, number_in}
 use Rattle.pm_session.specs.Script.{fields_command, view_command, command_of, has_measure}
@@ -70,26 +73,27 @@ look_plain kind text (Some read) is = record {
 fields_plain : (line : List ℕ) → IsPlain (fields_command line)
 unfolding fields_command
 fields_plain line =
-    either_plain (begins_with 115 line) _ _ (split_plain (number_in line))
-    (either_plain (begins_with 99 line) _ _ (collapse_plain (number_in line))
-    (either_plain (begins_with 118 line) _ _ (look_plain kinds.Plain (drop 2 line) _ refl)
-    (either_plain (begins_with_both 118 115 line) _ _
+    either_plain (begins_with letter_s line) _ _ (split_plain (number_in line))
+    (either_plain (begins_with letter_c line) _ _ (collapse_plain (number_in line))
+    (either_plain (begins_with letter_v line) _ _ (look_plain kinds.Plain (drop 2 line) _ refl)
+    (either_plain (begins_with_both letter_v letter_s line) _ _
     (look_plain kinds.Outline (drop 3 line) _ refl)
-    (either_plain (begins_with 112 line) _ _ (pick_plain (ray_of (drop 2 line)))
-    (either_plain (begins_with 103 line) _ _ (morph_plain (two_of (drop 2 line))) bad_plain)))))
+    (either_plain (begins_with letter_p line) _ _ (pick_plain (ray_of (drop 2 line)))
+    (either_plain (begins_with letter_g line) _ _ (morph_plain (two_of (drop 2 line)))
+    bad_plain)))))
 
 view_plain : (line : List ℕ) → IsPlain (view_command line)
 unfolding view_command
 view_plain line =
-    either_plain (is_one_letter 119 line) _ _
+    either_plain (is_one_letter letter_w line) _ _
     (record { by_error = λ view e. absurd (cc e); no_level = λ e. absurd (cc e) })
-    (either_plain (is_one_letter 109 line) _ _
+    (either_plain (is_one_letter letter_m line) _ _
     (record { by_error = λ view e. absurd (cc e); no_level = λ e. absurd (cc e) })
-    (either_plain (is_one_letter 116 line) _ _
+    (either_plain (is_one_letter letter_t line) _ _
     (record { by_error = λ view e. absurd (cc e); no_level = λ e. absurd (cc e) })
-    (either_plain (is_one_letter 113 line) _ _
+    (either_plain (is_one_letter letter_q line) _ _
     (record { by_error = λ view e. absurd (cc e); no_level = λ e. absurd (cc e) })
-    (either_plain (is_one_letter 107 line) _ _
+    (either_plain (is_one_letter letter_k line) _ _
     (record { by_error = λ view e. absurd (cc e); no_level = λ e. absurd (cc e) })
     (fields_plain line)))))
 

@@ -1,6 +1,6 @@
 -- A script of `view` without a fault does the same in `live`.
-use Rattle.std.proofs.Common.{◌≡◌, ◌≢◌, ℕ, ◌+◌, Bool, true, false, eqb, leb, cond, ◌&&◌, List, []}
-use Rattle.std.proofs.Common.{◌∷◌, length, Option, Some, None, slice_index_or, inl, inr, refl, sym}
+use Rattle.std.proofs.Common.{◌≡◌, ◌≢◌, ℕ, Bool, true, false, eqb, leb, ◌&&◌, List, []}
+use Rattle.std.proofs.Common.{◌∷◌, length, Option, None, slice_index_or, inl, inr, refl}
 use Rattle.std.proofs.Common.{◌∙◌, ap, subst}
 use Rattle.std.proofs.lemmas.Bool.{cases_Bool, and_parts, eqb-true}
 use Rattle.obj_lines.specs.Text.{until, lines}
@@ -8,6 +8,10 @@ use Rattle.pm_forest.specs.Forest.{Hierarchy}
 use Rattle.pm_session.specs.declared.command.Command.TheVariants as commands
 use Rattle.pm_session.specs.declared.command.ScriptFault.{ScriptFault}
 use Rattle.pm_session.specs.declared.grammar.Grammar.TheVariants as grammars
+use Rattle.pm_io.specs.Letters.{letter_v, space}
+use Rattle.pm_session.specs.Letters.{letter_b, letter_c, letter_d, letter_g, letter_k, letter_l}
+use Rattle.pm_session.specs.Letters.{letter_m, letter_p, letter_q, letter_s, letter_t}
+use Rattle.pm_session.specs.Letters.{letter_w}
 use Rattle.pm_session.specs.Script.{is_one_letter, begins_with, begins_with_both, begins_with_three}
 use Rattle.pm_session.specs.Script.{fields_command, view_command, live_command, State, Deed}
 use Rattle.pm_session.specs.Script.{Replies, Ends, IsBad, NamesNoRecord, deed_of, line_deed}
@@ -21,16 +25,16 @@ and_no false b fails = refl
 
 -- No line of `view` begins with this letter.
 record IsOther (letter : ℕ) : Type 0 where
-  w : eqb letter 119 ≡ false
-  m : eqb letter 109 ≡ false
-  t : eqb letter 116 ≡ false
-  q : eqb letter 113 ≡ false
-  k : eqb letter 107 ≡ false
-  s : eqb letter 115 ≡ false
-  c : eqb letter 99 ≡ false
-  v : eqb letter 118 ≡ false
-  p : eqb letter 112 ≡ false
-  g : eqb letter 103 ≡ false
+  w : eqb letter letter_w ≡ false
+  m : eqb letter letter_m ≡ false
+  t : eqb letter letter_t ≡ false
+  q : eqb letter letter_q ≡ false
+  k : eqb letter letter_k ≡ false
+  s : eqb letter letter_s ≡ false
+  c : eqb letter letter_c ≡ false
+  v : eqb letter letter_v ≡ false
+  p : eqb letter letter_p ≡ false
+  g : eqb letter letter_g ≡ false
 
 module _ (line : List ℕ) (letter : ℕ) (begins : slice_index_or line 0 0 ≡ letter) where
   no_letter : (other : ℕ) → eqb letter other ≡ false → is_one_letter other line ≡ false
@@ -38,73 +42,73 @@ module _ (line : List ℕ) (letter : ℕ) (begins : slice_index_or line 0 0 ≡ 
 
   no_begin : (other : ℕ) → eqb letter other ≡ false → begins_with other line ≡ false
   no_begin other differs =
-      ap (λ (b : Bool). b && eqb (slice_index_or line 1 0) 32)
+      ap (λ (b : Bool). b && eqb (slice_index_or line 1 0) space)
       (and_no (leb 2 (length line)) _ (ap (λ (n : ℕ). eqb n other) begins ∙ differs))
 
   no_both : (first second : ℕ) → eqb letter first ≡ false → begins_with_both first second line
       ≡ false
   no_both first second differs =
       ap (λ (b : Bool). (b && eqb (slice_index_or line 1 0) second) && eqb (slice_index_or line 2 0)
-      32)
+      space)
       (and_no (leb 3 (length line)) _ (ap (λ (n : ℕ). eqb n first) begins ∙ differs))
 
   other_bad : IsOther letter → view_command line ≡ commands.Bad
   unfolding view_command fields_command
   other_bad o =
       rw (
-        no_letter 119 o.w,
-        no_letter 109 o.m,
-        no_letter 116 o.t,
-        no_letter 113 o.q,
-        no_letter 107 o.k,
+        no_letter letter_w o.w,
+        no_letter letter_m o.m,
+        no_letter letter_t o.t,
+        no_letter letter_q o.q,
+        no_letter letter_k o.k,
       )
       (rw (
-        no_begin 115 o.s,
-        no_begin 99 o.c,
-        no_begin 118 o.v,
-        no_both 118 115 o.v,
-        no_begin 112 o.p,
-        no_begin 103 o.g,
+        no_begin letter_s o.s,
+        no_begin letter_c o.c,
+        no_begin letter_v o.v,
+        no_both letter_v letter_s o.v,
+        no_begin letter_p o.p,
+        no_begin letter_g o.g,
       ) refl)
 
 -- `vd` and `vds` stand before other bytes than those that `v` and `vs` do.
-module _ (line : List ℕ) (begins : slice_index_or line 0 0 ≡ 118) (goes_on : slice_index_or line 1 0
-    ≡ 100) where
-  no_second : (first second : ℕ) → eqb 100 second ≡ false → begins_with_both first second line
+module _ (line : List ℕ) (begins : slice_index_or line 0 0 ≡ letter_v)
+    (goes_on : slice_index_or line 1 0 ≡ letter_d) where
+  no_second : (first second : ℕ) → eqb letter_d second ≡ false → begins_with_both first second line
       ≡ false
   no_second first second differs =
-      ap (λ (b : Bool). b && eqb (slice_index_or line 2 0) 32)
+      ap (λ (b : Bool). b && eqb (slice_index_or line 2 0) space)
       (and_no (leb 3 (length line) && eqb (slice_index_or line 0 0) first) _
       (ap (λ (n : ℕ). eqb n second) goes_on ∙ differs))
 
-  v_no_begin : begins_with 118 line ≡ false
+  v_no_begin : begins_with letter_v line ≡ false
   v_no_begin =
-      and_no (leb 2 (length line) && eqb (slice_index_or line 0 0) 118) _
-      (ap (λ (n : ℕ). eqb n 32) goes_on)
+      and_no (leb 2 (length line) && eqb (slice_index_or line 0 0) letter_v) _
+      (ap (λ (n : ℕ). eqb n space) goes_on)
 
-  v_no_letter : (other : ℕ) → eqb 118 other ≡ false → is_one_letter other line ≡ false
-  v_no_letter = no_letter line 118 begins
+  v_no_letter : (other : ℕ) → eqb letter_v other ≡ false → is_one_letter other line ≡ false
+  v_no_letter = no_letter line letter_v begins
 
-  v_other : (other : ℕ) → eqb 118 other ≡ false → begins_with other line ≡ false
-  v_other = no_begin line 118 begins
+  v_other : (other : ℕ) → eqb letter_v other ≡ false → begins_with other line ≡ false
+  v_other = no_begin line letter_v begins
 
   by_deviation_bad : view_command line ≡ commands.Bad
   unfolding view_command fields_command
   by_deviation_bad =
       rw (
-        v_no_letter 119 refl,
-        v_no_letter 109 refl,
-        v_no_letter 116 refl,
-        v_no_letter 113 refl,
-        v_no_letter 107 refl,
+        v_no_letter letter_w refl,
+        v_no_letter letter_m refl,
+        v_no_letter letter_t refl,
+        v_no_letter letter_q refl,
+        v_no_letter letter_k refl,
       )
       (rw (
-        v_other 115 refl,
-        v_other 99 refl,
+        v_other letter_s refl,
+        v_other letter_c refl,
         v_no_begin,
-        no_second 118 115 refl,
-        v_other 112 refl,
-        v_other 103 refl,
+        no_second letter_v letter_s refl,
+        v_other letter_p refl,
+        v_other letter_g refl,
       ) refl)
 
 first_of_one : (letter : ℕ) (line : List ℕ) → is_one_letter letter line ≡ true
@@ -134,7 +138,7 @@ second_of_three : (first second third : ℕ) (line : List ℕ)
 second_of_three first second third line is =
     eqb-true _ _ (and_parts _ _ (and_parts _ _ (and_parts _ _ is).0).0).1
 
-is_other_d : IsOther 100
+is_other_d : IsOther letter_d
 is_other_d = record {
   w = refl;
   m = refl;
@@ -148,7 +152,7 @@ is_other_d = record {
   g = refl;
 }
 
-is_other_l : IsOther 108
+is_other_l : IsOther letter_l
 is_other_l = record {
   w = refl;
   m = refl;
@@ -162,7 +166,7 @@ is_other_l = record {
   g = refl;
 }
 
-is_other_b : IsOther 98
+is_other_b : IsOther letter_b
 is_other_b = record {
   w = refl;
   m = refl;
@@ -176,29 +180,31 @@ is_other_b = record {
   g = refl;
 }
 
-as_view : (line : List ℕ) → is_one_letter 100 line ≡ false → is_one_letter 108 line ≡ false
-    → begins_with 98 line ≡ false
-    → begins_with_both 118 100 line ≡ false → begins_with_three 118 100 115 line ≡ false
+as_view : (line : List ℕ) → is_one_letter letter_d line ≡ false
+    → is_one_letter letter_l line ≡ false → begins_with letter_b line ≡ false
+    → begins_with_both letter_v letter_d line ≡ false
+    → begins_with_three letter_v letter_d letter_s line ≡ false
     → live_command line ≡ view_command line
 unfolding live_command
 as_view line not_d not_l not_b not_vd not_vds = rw (not_d, not_l, not_b, not_vd, not_vds) refl
 
 pub live_has_view_lines : LiveHasViewLines
 live_has_view_lines line some =
-    elim (cases_Bool (is_one_letter 100 line)) [
-      | inl d ↦ absurd (some (other_bad line 100 (first_of_one 100 line d) is_other_d))
-      | inr not_d ↦ elim (cases_Bool (is_one_letter 108 line)) [
-        | inl l ↦ absurd (some (other_bad line 108 (first_of_one 108 line l) is_other_l))
-        | inr not_l ↦ elim (cases_Bool (begins_with 98 line)) [
-          | inl b ↦ absurd (some (other_bad line 98 (first_of_fields 98 line b) is_other_b))
-          | inr not_b ↦ elim (cases_Bool (begins_with_both 118 100 line)) [
+    elim (cases_Bool (is_one_letter letter_d line)) [
+      | inl d ↦ absurd (some (other_bad line letter_d (first_of_one letter_d line d) is_other_d))
+      | inr not_d ↦ elim (cases_Bool (is_one_letter letter_l line)) [
+        | inl l ↦ absurd (some (other_bad line letter_l (first_of_one letter_l line l) is_other_l))
+        | inr not_l ↦ elim (cases_Bool (begins_with letter_b line)) [
+          | inl b ↦ absurd
+              (some (other_bad line letter_b (first_of_fields letter_b line b) is_other_b))
+          | inr not_b ↦ elim (cases_Bool (begins_with_both letter_v letter_d line)) [
             | inl vd ↦ absurd
-                (some (by_deviation_bad line (first_of_both 118 100 line vd)
-                (second_of_both 118 100 line vd)))
-            | inr not_vd ↦ elim (cases_Bool (begins_with_three 118 100 115 line)) [
+                (some (by_deviation_bad line (first_of_both letter_v letter_d line vd)
+                (second_of_both letter_v letter_d line vd)))
+            | inr not_vd ↦ elim (cases_Bool (begins_with_three letter_v letter_d letter_s line)) [
               | inl vds ↦ absurd
-                  (some (by_deviation_bad line (first_of_three 118 100 115 line vds)
-                  (second_of_three 118 100 115 line vds)))
+                  (some (by_deviation_bad line (first_of_three letter_v letter_d letter_s line vds)
+                  (second_of_three letter_v letter_d letter_s line vds)))
               | inr not_vds ↦ as_view line not_d not_l not_b not_vd not_vds
             ]
           ]

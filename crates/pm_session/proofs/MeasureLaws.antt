@@ -1,6 +1,6 @@
 -- By which number of a node the views of a script judge, and that its tools have it.
 use Rattle.std.proofs.Common.{◌≡◌, ℕ, ◌<◌, true, List, [], ◌∷◌, Option, Some, None, IfSome}
-use Rattle.std.proofs.Common.{slice_index_or, refl, sym, ap}
+use Rattle.std.proofs.Common.{slice_index_or, sym, ap}
 use Rattle.std.specs.Option.{is_some}
 use Rattle.pm_forest.specs.Forest.{Hierarchy, node_count}
 use Rattle.pm_io.specs.Digits.{unsigned_of}

@@ -11,7 +11,6 @@ use Rattle.pm_session.specs.declared.gather.LineState.{LineState}
 use Rattle.pm_session.specs.declared.gather.LineState.TheVariants as states
 use Rattle.pm_session.specs.declared.progress.Progress.{Progress}
 use Rattle.pm_session.specs.declared.fail.ServeFail.{ServeFail}
-use Rattle.pm_session.specs.declared.fail.ServeFail.TheVariants as fails
 use Rattle.pm_session.specs.declared.ending.Next.{Next}
 use Rattle.pm_session.specs.declared.ending.Next.TheVariants as nexts
 use Rattle.pm_session.specs.declared.ending.LineFail.{LineFail}

@@ -1,6 +1,6 @@
--- The script machine: what a line, and what a list of lines, does from a state: which records are
--- split, which are marked, and the budget of moves a view.
-use Rattle.std.specs.Prelude.{ℕ, ◌+◌, pos, ◌+ℤ◌, ◌-ℤ◌, ◌==◌, ◌&&◌, nat_lt, nat_le, Bool, true}
+-- The script machine: what a line asks for, and what it does from a state: which records are split,
+-- which are marked, and the budget of moves a view.
+use Rattle.std.specs.Prelude.{ℕ, pos, ◌+ℤ◌, ◌-ℤ◌, ◌==◌, ◌&&◌, nat_lt, nat_le, Bool, true}
 use Rattle.std.specs.Prelude.{false, is_none, List, [], ◌∷◌, ◌++◌, length, drop, take}
 use Rattle.std.specs.Prelude.{slice_index_or, Option, Some, None, if◌then◌else◌, cond, codes}
 use Rattle.std.specs.Option.{option_map, option_and_then}
@@ -31,18 +31,15 @@ use Rattle.pm_pick.specs.declared.hits.Hit.{Hit}
 use Rattle.pm_pick.specs.Rays.{Ray}
 use Rattle.pm_pick.specs.Fields.{ray_of}
 use Rattle.pm_pick.specs.Picks.{pick_of}
+use Rattle.pm_io.specs.Letters.{letter_v, space}
+use Rattle.pm_session.specs.Letters.{letter_b, letter_c, letter_d, letter_g, letter_k, letter_l}
+use Rattle.pm_session.specs.Letters.{letter_m, letter_p, letter_q, letter_s, letter_t}
+use Rattle.pm_session.specs.Letters.{letter_w}
 use Rattle.pm_session.specs.Level.{level_reply}
 use Rattle.pm_session.specs.declared.command.Command.{Command}
 use Rattle.pm_session.specs.declared.command.Command.TheVariants as commands
 use Rattle.pm_session.specs.declared.grammar.Grammar.{Grammar}
 use Rattle.pm_session.specs.declared.grammar.Grammar.TheVariants as grammars
-use Rattle.pm_session.specs.declared.command.ScriptFault.{ScriptFault}
-use Rattle.pm_session.specs.declared.command.ScriptFault.TheVariants as faults
-use Rattle.pm_io.specs.Bytes.{onto}
-
-abbrev pub split_lines : List ℕ → List (List ℕ)
-split_lines [] = []
-split_lines (b ∷ bytes) = if b == 10 then [] ∷ split_lines bytes else onto b (split_lines bytes)
 
 -- The line is this one letter.
 abbrev pub is_one_letter : ℕ → List ℕ → Bool
@@ -51,49 +48,56 @@ is_one_letter letter line = length line == 1 && slice_index_or line 0 0 == lette
 -- The line begins with this letter and a space.
 abbrev pub begins_with : ℕ → List ℕ → Bool
 begins_with letter line =
-    nat_le 2 (length line) && slice_index_or line 0 0 == letter && slice_index_or line 1 0 == 32
+    nat_le 2 (length line) && slice_index_or line 0 0 == letter && slice_index_or line 1 0 == space
 
 -- The line begins with these two letters and a space.
 abbrev pub begins_with_both : ℕ → ℕ → List ℕ → Bool
 begins_with_both first second line =
     nat_le 3 (length line) && slice_index_or line 0 0 == first && slice_index_or line 1 0 == second
-    && slice_index_or line 2 0 == 32
+    && slice_index_or line 2 0 == space
 
 -- The line begins with these three letters and a space.
 abbrev pub begins_with_three : ℕ → ℕ → ℕ → List ℕ → Bool
 begins_with_three first second third line =
     nat_le 4 (length line) && slice_index_or line 0 0 == first && slice_index_or line 1 0 == second
-    && slice_index_or line 2 0 == third && slice_index_or line 3 0 == 32
+    && slice_index_or line 2 0 == third && slice_index_or line 3 0 == space
 
+-- A line names the record to split, or nothing that can be read.
 abbrev pub split_of : Option ℕ → Command
 split_of None = commands.Bad
 split_of (Some k) = commands.Split k
 
+-- The same of the record to collapse,
 abbrev pub collapse_of : Option ℕ → Command
 collapse_of None = commands.Bad
 collapse_of (Some k) = commands.Collapse k
 
+-- of a view,
 abbrev pub look_of : Option View → Command
 look_of None = commands.Bad
 look_of (Some view) = commands.Look view
 
+-- and of a ray.
 abbrev pub pick_by : Option Ray → Command
 pick_by None = commands.Bad
 pick_by (Some ray) = commands.Pick ray
 
--- The two unsigned numbers of 32 bits that fields spell, and those that a text spells.
+-- The two unsigned numbers of 32 bits that fields spell.
 unfoldable pub two_in : List (List ℕ) → Option (ℕ × ℕ)
 two_in (a ∷ b ∷ []) = option_and_then (λ x. option_map (λ y. (x, y)) (unsigned_of 4294967295 b))
     (unsigned_of 4294967295 a)
 two_in _ = None
 
+-- Those that a text spells, with one space between them.
 abbrev pub two_of : List ℕ → Option (ℕ × ℕ)
 two_of text = two_in (spaced_fields text)
 
+-- A line has the budget, or nothing that can be read.
 abbrev pub budget_by : Option ℕ → Command
 budget_by None = commands.Bad
 budget_by (Some moves) = commands.Budget moves
 
+-- The same of how far a geomorph goes.
 abbrev pub morph_by : Option (ℕ × ℕ) → Command
 morph_by None = commands.Bad
 morph_by (Some part) = commands.Morph part.0 part.1
@@ -107,34 +111,35 @@ number_in line = unsigned_of 4294967295 (drop 2 line)
 -- of a view with outlines; or `p`, a space and the fields of a ray.
 unfoldable pub fields_command : List ℕ → Command
 fields_command line =
-    if begins_with 115 line then split_of (number_in line)
-    else if begins_with 99 line then collapse_of (number_in line)
-    else if begins_with 118 line then look_of (view_of kinds.Plain (drop 2 line))
-    else if begins_with_both 118 115 line then look_of (view_of kinds.Outline (drop 3 line))
-    else if begins_with 112 line then pick_by (ray_of (drop 2 line))
-    else if begins_with 103 line then morph_by (two_of (drop 2 line))
+    if begins_with letter_s line then split_of (number_in line)
+    else if begins_with letter_c line then collapse_of (number_in line)
+    else if begins_with letter_v line then look_of (view_of kinds.Plain (drop 2 line))
+    else if begins_with_both letter_v letter_s line then
+    look_of (view_of kinds.Outline (drop 3 line))
+    else if begins_with letter_p line then pick_by (ray_of (drop 2 line))
+    else if begins_with letter_g line then morph_by (two_of (drop 2 line))
     else commands.Bad
 
 -- A line of `view`: `w`, `m`, `t`, `k`, `q`, or a line with fields.
 unfoldable pub view_command : List ℕ → Command
 view_command line =
-    if is_one_letter 119 line then commands.Show
-    else if is_one_letter 109 line then commands.Measure
-    else if is_one_letter 116 line then commands.Strip
-    else if is_one_letter 113 line then commands.Quit
-    else if is_one_letter 107 line then commands.Mark
+    if is_one_letter letter_w line then commands.Show
+    else if is_one_letter letter_m line then commands.Measure
+    else if is_one_letter letter_t line then commands.Strip
+    else if is_one_letter letter_q line then commands.Quit
+    else if is_one_letter letter_k line then commands.Mark
     else fields_command line
 
 -- A line of `live`: `d`, `l`, `b N` with N an unsigned number of 32 bits, `vd` and `vds` with the
 -- fields of `v` and `vs`, or a line of `view`.
 unfoldable pub live_command : List ℕ → Command
 live_command line =
-    if is_one_letter 100 line then commands.Change
-    else if is_one_letter 108 line then commands.Level
-    else if begins_with 98 line then budget_by (number_in line)
-    else if begins_with_both 118 100 line then
+    if is_one_letter letter_d line then commands.Change
+    else if is_one_letter letter_l line then commands.Level
+    else if begins_with letter_b line then budget_by (number_in line)
+    else if begins_with_both letter_v letter_d line then
     look_of (option_map by_deviation (view_of kinds.Plain (drop 3 line)))
-    else if begins_with_three 118 100 115 line then
+    else if begins_with_three letter_v letter_d letter_s line then
     look_of (option_map by_deviation (view_of kinds.Outline (drop 4 line)))
     else view_command line
 
@@ -155,10 +160,11 @@ reply_to None = codes "ok\n"
 reply_to (Some moves.NotActive) = codes "not active\n"
 reply_to (Some (moves.Blocked f)) = codes "blocked " ++ decimal f.0 ++ codes "\n"
 
--- The split records after a move: a move that is refused changes nothing.
+-- The split records after a split: one that is refused changes nothing.
 unfoldable pub after_split : Hierarchy → (ℕ → Bool) → ℕ → ℕ → Bool
 after_split h T k = cond (is_none (split_fault h T k)) (with T k) T
 
+-- The same of a collapse.
 unfoldable pub after_collapse : Hierarchy → (ℕ → Bool) → ℕ → ℕ → Bool
 after_collapse h T k = cond (is_none (collapse_fault h T k)) (without T k) T
 
@@ -168,13 +174,14 @@ view_reply (adapted.Settled moves) = codes "settled " ++ decimal moves ++ codes 
 view_reply (adapted.Spent moves left) = codes "spent " ++ decimal moves ++ codes " " ++ decimal left
     ++ codes "\n"
 
--- The line of these nodes, edges, faces and loops, with the Euler number; and the reply to `m`.
+-- The line of these nodes, edges, faces and loops, with the Euler number.
 unfoldable pub shape_line : ℕ → ℕ → ℕ → ℕ → List ℕ
 shape_line nodes edges faces loops =
     codes "shape " ++ decimal nodes ++ codes " " ++ decimal edges ++ codes " " ++ decimal faces
     ++ codes " loops " ++ decimal loops
     ++ codes " euler " ++ signed_decimal (pos nodes -ℤ pos edges +ℤ pos faces) ++ codes "\n"
 
+-- The reply to `m`.
 unfoldable pub shape_reply : Hierarchy → (ℕ → Bool) → List ℕ
 shape_reply h T = shape_line (nodes_shown h T) (edges_shown h T) (faces_shown h T) (loops_shown h T)
 
@@ -185,21 +192,21 @@ pick_reply None = codes "miss\n"
 pick_reply (Some hit) = codes "hit " ++ decimal hit.face.0 ++ codes " " ++ decimal hit.s
     ++ codes " " ++ decimal hit.q ++ codes "\n"
 
--- What is answered to a view, and the split records after it: the first moves of its plan are made,
--- as many as the budget allows.
+-- What is answered to a view: the first moves of its plan are made, as many as the budget allows.
 unfoldable pub adapted_to : Hierarchy → ℕ → (ℕ → Bool) → View → Adapted
 adapted_to h budget T view = adapted_of budget (length (view_plan h T view))
 
+-- The split records after them.
 unfoldable pub after_view : Hierarchy → ℕ → (ℕ → Bool) → View → ℕ → Bool
 after_view h budget T view = moved_by T (take budget (view_plan h T view))
 
--- The state: which records are split, which are marked, and the budget of moves a view. At first no
--- record is split and none is marked.
+-- The state: which records are split, which are marked, and the budget of moves a view.
 pub record State : Type 0 where
   pub split : ℕ → Bool
   pub marked : ℕ → Bool
   pub budget : ℕ
 
+-- At first no record is split and none is marked.
 abbrev pub at_first : ℕ → State
 at_first budget = record { split = no_records; marked = no_records; budget = budget }
 
@@ -207,35 +214,40 @@ at_first budget = record { split = no_records; marked = no_records; budget = bud
 unfoldable pub is_fraction : ℕ → ℕ → Bool
 is_fraction a b = nat_le 1 b && nat_le b MOST_PARTS && nat_le a b
 
--- `not finer K`
+-- `not finer K`, where marked record K isn't split.
 unfoldable pub not_finer : ℕ → List ℕ
 not_finer k = codes "not finer " ++ decimal k ++ codes "\n"
 
--- The reply to `g`: the text of the geomorph, or the least marked record that isn't split.
+-- The text of a geomorph, or the least marked record that isn't split, where there is one.
 abbrev pub morph_or_refusal : Option ℕ → List ℕ → List ℕ
 morph_or_refusal None text = text
 morph_or_refusal (Some k) text = not_finer k
 
+-- The reply to `g`.
 abbrev pub morph_reply : Hierarchy → (ℕ → Bool) → (ℕ → Bool) → ℕ → ℕ → List ℕ
 morph_reply h T S a b = morph_or_refusal (unsplit_of h T S) (morph_text h T S a b)
 
--- What a line does: it has a reply and leads to a state, or it ends the script, or it has a fault.
+-- What comes of a line: it has a reply and leads to a state, or it ends the script, or it has a
+-- fault.
 pub data Deed : Type 0 where
   Replies : List ℕ → State → Deed
   Ends : Deed
   IsBad : Deed
   NamesNoRecord : Deed
 
--- Other records are split then; those that are split are marked; or there is another budget.
+-- Other records are split then;
 abbrev pub now_split : State → (ℕ → Bool) → State
 now_split s T = record { split = T; marked = s.marked; budget = s.budget }
 
+-- those that are split are marked;
 abbrev pub now_marked : State → State
 now_marked s = record { split = s.split; marked = s.split; budget = s.budget }
 
+-- or there is another budget.
 abbrev pub with_budget : State → ℕ → State
 with_budget s moves = record { split = s.split; marked = s.marked; budget = moves }
 
+-- What a command does.
 abbrev pub deed_of : Hierarchy → State → Command → Deed
 deed_of h s commands.Show = Replies (frame_text h s.split) s
 deed_of h s commands.Measure = Replies (shape_reply h s.split) s
@@ -261,27 +273,6 @@ deed_of h s (commands.Budget moves) = Replies (reply_to None) (with_budget s mov
 deed_of h s commands.Level = Replies (level_reply h s.split) s
 deed_of h s commands.Change = Replies (change_text h s.marked s.split) (now_marked s)
 
+-- What a line does.
 unfoldable pub line_deed : Hierarchy → Grammar → State → List ℕ → Deed
 line_deed h grammar s line = deed_of h s (command_of grammar line)
-
--- The replies, and the fault that ends them, if one does.
-pub record ScriptRun : Type 0 where
-  pub text : List ℕ
-  pub fault : Option ScriptFault
-
-abbrev pub replying : List ℕ → ScriptRun → ScriptRun
-replying reply later = record { text = reply ++ later.text; fault = later.fault }
-
--- What a line with the number n does, where `later` is what the lines after it do from a state.
-abbrev pub done_by : ℕ → Deed → (State → ScriptRun) → ScriptRun
-done_by n (Replies reply s) later = replying reply (later s)
-done_by n Ends later = record { text = []; fault = None }
-done_by n IsBad later = record { text = []; fault = Some (faults.BadLine n) }
-done_by n NamesNoRecord later = record { text = []; fault = Some (faults.NoRecord n) }
-
--- What the lines of a script do from state s, the first of which has the number n: `q` ends the
--- script, and so does the first line that is none of the forms of its grammar or names no record.
-unfoldable pub ran : Hierarchy → Grammar → State → ℕ → List (List ℕ) → ScriptRun
-ran h grammar s n [] = record { text = []; fault = None }
-ran h grammar s n (line ∷ lines) =
-    done_by n (line_deed h grammar s line) (λ later. ran h grammar later (n + 1) lines)

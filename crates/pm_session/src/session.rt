@@ -82,11 +82,7 @@ impl Model for Session {
 }
 
 // What a session over a hierarchy works with, and its marks.
-fn outfit(
-    alloc: Global,
-    h: &Hierarchy,
-    grammar: Grammar,
-) -> Result<(Tools, Marker), AllocError>
+fn outfit(alloc: Global, h: &Hierarchy, grammar: Grammar) -> Result<(Tools, Marker), AllocError>
     requires { NoSideTwice (leaf_net h.now) }
     ensures tools { IfOk result (λ o. AreToolsOf h.now o.0) }
     ensures serve { IfOk result (λ o. HasItsMeasures grammar o.0.measures) }

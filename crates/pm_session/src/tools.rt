@@ -177,7 +177,13 @@ impl Tools {
         requires { AreToolsOf h.now self.now }
         ensures { result ≡ pick_of h.now ray.now }
     {
-        pick_face::<Brand>(&self.readers.picker, h, self.measures.bounds(), ray, Blank::new(1))
+        pick_face::<Brand>(
+            &self.readers.picker,
+            h,
+            self.measures.bounds(),
+            ray,
+            Blank::new(1),
+        )
     }
 
     /// The nodes, edges, faces and border loops of the mesh that a front shows.
