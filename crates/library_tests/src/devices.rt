@@ -57,39 +57,52 @@ impl<'a> Write for Counting<'a> {
     }
 }
 
+// What the calls of the tests come to.
+const TURNS: [Turn; 5] = [
+    Turn::Passes(3),
+    Turn::Fails,
+    Turn::Passes(8),
+    Turn::Passes(0),
+    Turn::Passes(2),
+];
+
+// What four calls answer, and how often the reader was called.
+fn taken() -> ([Result<usize, Failed>; 4], usize) {
+    let mut reader = Counting::new(&TURNS);
+    let mut source = StdSource::new(&mut reader);
+    let mut buf = [0u8; 8];
+    let taken = [
+        source.take(&mut buf),
+        source.take(&mut buf),
+        source.take(&mut buf),
+        source.take(&mut buf),
+    ];
+    (taken, reader.calls)
+}
+
 // A terminal gives more after an end, and a pipe after an error. Neither is asked for it in the
 // same call.
 #[test]
 fn one_take_reads_once(rt: HostRuntime) {
-    let turns = [
-        Turn::Passes(3),
-        Turn::Fails,
-        Turn::Passes(8),
-        Turn::Passes(0),
-        Turn::Passes(2),
+    let (taken, calls) = taken();
+    assert!(rt; taken == [Ok(3), Err(Failed), Ok(8), Ok(0)] && calls == 4);
+}
+
+// What four calls answer, and how often the writer was called.
+fn put() -> ([Result<usize, Failed>; 4], usize) {
+    let mut writer = Counting::new(&TURNS);
+    let mut sink = StdSink::new(&mut writer);
+    let put = [
+        sink.put(b"a piece "),
+        sink.put(b"a piece "),
+        sink.put(b"a piece "),
+        sink.put(b"a piece "),
     ];
-    let mut reader = Counting::new(&turns);
-    let mut source = StdSource::new(&mut reader);
-    let mut buf = [0u8; 8];
-    for taken in [Ok(3), Err(Failed), Ok(8), Ok(0)] {
-        assert_eq!(rt; source.take(&mut buf), taken);
-    }
-    assert_eq!(rt; reader.calls, 4);
+    (put, writer.calls)
 }
 
 #[test]
 fn one_put_writes_once(rt: HostRuntime) {
-    let turns = [
-        Turn::Passes(3),
-        Turn::Fails,
-        Turn::Passes(8),
-        Turn::Passes(0),
-        Turn::Passes(2),
-    ];
-    let mut writer = Counting::new(&turns);
-    let mut sink = StdSink::new(&mut writer);
-    for put in [Ok(3), Err(Failed), Ok(8), Err(Failed)] {
-        assert_eq!(rt; sink.put(b"a piece "), put);
-    }
-    assert_eq!(rt; writer.calls, 4);
+    let (put, calls) = put();
+    assert!(rt; put == [Ok(3), Err(Failed), Ok(8), Err(Failed)] && calls == 4);
 }

@@ -2,6 +2,8 @@
 ghost use Rattle.std.specs.Prelude.{◌≡◌, false, IfSome};
 
 use pm_io::{MemSink, MemSource, Sink, Source, StdSink, StdSource, SureSource, Taker, put_all};
+use std::alloc::Global;
+use std::test::Fail;
 
 // Copies a piece of what a source gives to a sink, and answers how many bytes. None where the
 // source has ended or a device failed.
@@ -35,22 +37,52 @@ fn copied<S: Source, K: Sink>(taker: &mut Taker, source: &mut S, sink: &mut K) -
     total
 }
 
+// How many bytes come from a source in memory, and from one whose second call fails, at once and
+// when it is asked again.
+fn copied_in_memory(taker: &mut Taker, sink: &mut MemSink, alloc: Global) -> Option<[usize; 3]> {
+    let mut sure = SureSource::new(alloc, b"abcde", 3).ok()?;
+    let mut failing = MemSource::new(alloc, b"fgh", 1, &[1]).ok()?;
+    Some([
+        copied(taker, &mut sure, sink),
+        copied(taker, &mut failing, sink),
+        copied(taker, &mut failing, sink),
+    ])
+}
+
+fn memory_takes_all(alloc: Global) -> Result<bool, Fail> {
+    let mut sink = MemSink::new(alloc, 8, 2, &[])?;
+    let mut taker = Taker::new(alloc)?;
+    let counts = copied_in_memory(&mut taker, &mut sink, alloc);
+    Ok(counts == Some([5, 1, 2]) && sink.bytes() == b"abcdefgh".as_slice())
+}
+
 #[test]
-fn bytes_pass_through_every_device(rt: HostRuntime) {
-    let alloc = rt.alloc();
-    let mut sink = MemSink::new(alloc, 8, 2, &[]).expect(&rt, "memory");
-    let mut taker = Taker::new(alloc).expect(&rt, "memory");
-    let mut sure = SureSource::new(alloc, b"abcde", 3).expect(&rt, "memory");
-    assert_eq!(rt; copied(&mut taker, &mut sure, &mut sink), 5);
-    let mut failing = MemSource::new(alloc, b"fgh", 1, &[1]).expect(&rt, "memory");
-    assert_eq!(rt; copied(&mut taker, &mut failing, &mut sink), 1);
-    assert_eq!(rt; copied(&mut taker, &mut failing, &mut sink), 2);
-    assert!(rt; sink.bytes() == b"abcdefgh".as_slice());
-    // The room is full: the sink fails, and the window keeps what it couldn't put.
-    let mut more = SureSource::new(alloc, b"i", 1).expect(&rt, "memory");
-    assert_eq!(rt; copied(&mut taker, &mut more, &mut sink), 0);
+fn bytes_pass_through_memory(rt: HostRuntime) -> Result<(), Fail> {
+    assert!(rt; memory_takes_all(rt.alloc())?);
+    Ok(())
+}
+
+// How many bytes come through a sink without room, which fails, and then, from the window that
+// kept what it couldn't put, to a writer. And how many come from a reader to the writer.
+fn copied_by_streams(taker: &mut Taker, full: &mut MemSink, alloc: Global) -> Option<[usize; 3]> {
+    let mut more = SureSource::new(alloc, b"i", 1).ok()?;
     let mut wide = StdSink::new(Vec::new(alloc));
-    assert_eq!(rt; copied(&mut taker, &mut more, &mut wide), 1);
     let mut reader = StdSource::new(&b"jk"[..]);
-    assert_eq!(rt; copied(&mut taker, &mut reader, &mut wide), 2);
+    Some([
+        copied(taker, &mut more, full),
+        copied(taker, &mut more, &mut wide),
+        copied(taker, &mut reader, &mut wide),
+    ])
+}
+
+fn streams_take_all(alloc: Global) -> Result<bool, Fail> {
+    let mut full = MemSink::new(alloc, 0, 2, &[])?;
+    let mut taker = Taker::new(alloc)?;
+    Ok(copied_by_streams(&mut taker, &mut full, alloc) == Some([0, 1, 2]))
+}
+
+#[test]
+fn bytes_pass_through_streams(rt: HostRuntime) -> Result<(), Fail> {
+    assert!(rt; streams_take_all(rt.alloc())?);
+    Ok(())
 }

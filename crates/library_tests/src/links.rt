@@ -1,22 +1,32 @@
 //! Tests of pm_links.
 ghost use Rattle.std.specs.Prelude.{◌≡◌, ◌<◌, length};
+ghost use Rattle.pm_links.specs.Lists.{empty_lists};
 
 use pm_links::{Links, OutOfMemory};
 use std::alloc::Global;
 use std::test::Fail;
 
-#[test]
-fn moves_one_list_before_another(rt: HostRuntime) -> Result<(), Fail> {
-    let mut links = Links::new(rt.alloc(), 3, 2)?;
+// Whether a list of two items comes before another's one, in order.
+fn joins_in_order(links: &mut Links) -> bool
+    requires { links.old ≡ empty_lists 3 2 }
+{
     links.push_front(0, 1);
     links.push_front(0, 2);
     links.push_front(1, 0);
     links.move_all(0, 1);
-    assert_eq!(rt; links.first(0), None);
-    assert_eq!(rt; links.first(1), Some(2));
-    assert_eq!(rt; links.next(2), Some(1));
-    assert_eq!(rt; links.next(1), Some(0));
-    assert_eq!(rt; links.next(0), None);
+    let firsts = [links.first(0), links.first(1)];
+    let nexts = [links.next(2), links.next(1), links.next(0)];
+    firsts == [None, Some(2)] && nexts == [Some(1), Some(0), None]
+}
+
+fn lists_are_joined(alloc: Global) -> Result<bool, Fail> {
+    let mut links = Links::new(alloc, 3, 2)?;
+    Ok(joins_in_order(&mut links))
+}
+
+#[test]
+fn moves_one_list_before_another(rt: HostRuntime) -> Result<(), Fail> {
+    assert!(rt; lists_are_joined(rt.alloc())?);
     Ok(())
 }
 
@@ -84,27 +94,48 @@ fn is_same(links: &Links, plain: &[(u32, u32)], head: u32) -> bool
     items.next().is_none()
 }
 
-#[test]
-fn agrees_with_plain_lists(rt: HostRuntime) -> Result<(), Fail> {
-    let mut links = Links::new(rt.alloc(), 12, 5)?;
-    let mut plain: Plain = Vec::new(rt.alloc());
+// Whether each of five lists is that of the plain lists.
+fn are_same(links: &Links, plain: &[(u32, u32)]) -> bool
+    requires { length links.now.lists ≡ 5 }
+{
+    for head in 0..5 {
+        if !is_same(links, plain, head) {
+            return false;
+        }
+    }
+    true
+}
+
+// The list that an item is in.
+fn owner_of(plain: &[(u32, u32)], item: u32) -> Option<u32> {
+    for &(head, other) in plain {
+        if other == item {
+            return Some(head);
+        }
+    }
+    None
+}
+
+// Whether the arena and the plain lists agree on 400 calls.
+fn lists_agree(alloc: Global) -> Result<bool, Fail> {
+    let mut links = Links::new(alloc, 12, 5)?;
+    let mut plain: Plain = Vec::new(alloc);
     let mut seed = 1u32;
     for _ in 0..400 {
         seed = seed.wrapping_mul(1_664_525).wrapping_add(1_013_904_223);
         let item = (seed >> 8) % 12;
-        let owner = plain.iter().find(|pair| pair.1 == item).map(|pair| pair.0);
-        assert_eq!(rt; links.head_of(item), owner);
-        step(
-            rt.alloc(),
-            &mut links,
-            &mut plain,
-            item,
-            (seed >> 14) % 5,
-            (seed >> 20) % 5,
-        )?;
-        for head in 0..5 {
-            assert!(rt; is_same(&links, &plain, head));
+        let (head, other) = ((seed >> 14) % 5, (seed >> 20) % 5);
+        let is_owner = links.head_of(item) == owner_of(&plain, item);
+        step(alloc, &mut links, &mut plain, item, head, other)?;
+        if !is_owner || !are_same(&links, &plain) {
+            return Ok(false);
         }
     }
+    Ok(true)
+}
+
+#[test]
+fn agrees_with_plain_lists(rt: HostRuntime) -> Result<(), Fail> {
+    assert!(rt; lists_agree(rt.alloc())?);
     Ok(())
 }

@@ -19,32 +19,24 @@ fn shrink_of(alloc: Global, places: &[Spot], faces: &[Triple]) -> Result<Shrink,
     Ok(Shrink::new(alloc, mesh, twins)?)
 }
 
-// Collapses a pair if it is legal at the place.
-fn try_collapse(
-    shrink: &mut Shrink,
-    a: u32,
-    b: u32,
-    place: Point,
-) -> Result<Option<Collapse>, Fail> {
+// Collapses two live vertices, the lesser number first, where that is legal at the place.
+fn try_collapse(shrink: &mut Shrink, a: u32, b: u32, place: Point) -> Option<Collapse> {
     if !shrink.is_live(a) || !shrink.is_live(b) || a >= b {
-        return Err(Fail::new("this is no pair"));
+        return None;
     }
     if !shrink.pair_legal(a, b, place) {
-        return Ok(None);
+        return None;
     }
-    Ok(Some(shrink.collapse(a, b, place)))
+    Some(shrink.collapse(a, b, place))
 }
 
-#[test]
-fn first_collapse_of_the_octahedron(rt: HostRuntime) -> Result<(), Fail> {
-    let mut shrink = shrink_of(rt.alloc(), &OCTAHEDRON, &OCTAHEDRON_FACES)?;
-    let middle = point((50, 50, 0))?;
-    assert_eq!(rt; try_collapse(&mut shrink, 0, 1, point((0, 0, 0))?)?, None);
-    let entry = Collapse {
+// The collapse of vertices 0 and 2 of the octahedron.
+fn first_collapse(place: Point) -> Collapse {
+    Collapse {
         t: 0,
         u: 2,
         s: 6,
-        place: middle,
+        place,
         left: Some(Gone {
             face: FaceId(0),
             first: Some(Side(5)),
@@ -55,17 +47,52 @@ fn first_collapse_of_the_octahedron(rt: HostRuntime) -> Result<(), Fail> {
             first: Some(Side(23)),
             second: Some(Side(16)),
         }),
-    };
-    assert_eq!(rt; try_collapse(&mut shrink, 0, 2, middle)?, Some(entry));
-    assert_eq!(rt; shrink.face_count(), 6);
-    assert_eq!(rt; shrink.next_vertex(), 7);
-    for vertex in 0..9 {
-        assert_eq!(rt; shrink.is_live(vertex), [1, 3, 4, 5, 6].contains(&vertex));
     }
-    for vertex in [1, 3, 4, 5] {
-        if shrink.is_live(vertex) {
-            assert_eq!(rt; shrink.place(vertex), point(OCTAHEDRON[vertex as usize])?);
+}
+
+// Which of the first nine vertices are live.
+fn live(shrink: &Shrink) -> [bool; 9] {
+    let mut live = [false; 9];
+    for vertex in 0..9 {
+        live[vertex as usize] = shrink.is_live(vertex);
+    }
+    live
+}
+
+// Whether the octahedron's vertices that are live stand where they stood.
+fn keeps_places(shrink: &Shrink) -> bool {
+    for vertex in 0..6 {
+        let (x, y, z) = OCTAHEDRON[vertex as usize];
+        if shrink.is_live(vertex) && Some(shrink.place(vertex)) != Point::new(x, y, z) {
+            return false;
         }
     }
+    true
+}
+
+fn is_collapsed(shrink: &Shrink) -> bool {
+    let are_live = live(shrink) == [false, true, false, true, true, true, true, false, false];
+    shrink.face_count() == 6 && shrink.next_vertex() == 7 && are_live && keeps_places(shrink)
+}
+
+// Whether the octahedron's vertices 0 and 1, which are live and not joined, can't be collapsed, and
+// 0 and 2 can.
+fn collapses_first(shrink: &mut Shrink, origin: Point, middle: Point) -> bool {
+    let are_live = shrink.is_live(0) && shrink.is_live(1);
+    let refused = try_collapse(shrink, 0, 1, origin).is_none();
+    let is_first = try_collapse(shrink, 0, 2, middle) == Some(first_collapse(middle));
+    are_live && refused && is_first
+}
+
+fn octahedron_is_collapsed(alloc: Global) -> Result<bool, Fail> {
+    let origin = point((0, 0, 0))?;
+    let middle = point((50, 50, 0))?;
+    let mut shrink = shrink_of(alloc, &OCTAHEDRON, &OCTAHEDRON_FACES)?;
+    Ok(collapses_first(&mut shrink, origin, middle) && is_collapsed(&shrink))
+}
+
+#[test]
+fn first_collapse_of_the_octahedron(rt: HostRuntime) -> Result<(), Fail> {
+    assert!(rt; octahedron_is_collapsed(rt.alloc())?);
     Ok(())
 }
