@@ -20,7 +20,8 @@ use Rattle.pm_turn.specs.Choice.{total, volume_at, AreChosenTurns}
 use Rattle.pm_turn.specs.Sums.{no_root, root_at, parity_at, is_bare, no_sums, IsSums, AreSums}
 use Rattle.pm_turn.specs.Sums.{is_reversed, chosen_flag}
 use Rattle.pm_turn.specs.ChoiceLaws.{ChosenTurnsAreThere}
-use Rattle.pm_turn.proofs.Joining.{up_below, elders_traced}
+use Rattle.pm_turn.proofs.Joining.{up_below}
+use Rattle.pm_turn.proofs.JoinedSides.{elders_traced}
 use Rattle.pm_turn.proofs.TurnsThere.{mate?, up_of, all_grown}
 use Rattle.pm_turn.proofs.Choosing.{chosen}
 

@@ -9,7 +9,8 @@ use Rattle.pm_base.specs.Sides.{Net, side_count}
 use Rattle.pm_turn.specs.Turning.{flag_of, flag_with, Way, stay, AreTurns, traced_flag}
 use Rattle.pm_turn.specs.Unions.{Elders, Up, top, up, AreElders, AreShorter, IsFlagged, put}
 use Rattle.pm_turn.specs.Unions.{elders_of}
-use Rattle.pm_turn.proofs.Joining.{put_same, put_other, elders_traced}
+use Rattle.pm_turn.proofs.Joining.{put_same, put_other}
+use Rattle.pm_turn.proofs.JoinedSides.{elders_traced}
 use Rattle.pm_turn.proofs.Traced.{traced_tables_turn}
 
 -- The first n faces have their flags.

@@ -5,7 +5,8 @@ use Rattle.std.proofs.Common.{arith}
 use Rattle.pm_base.specs.Sides.{Net, face_of}
 use Rattle.pm_turn.specs.Turning.{AreMates, clash, flipped_if}
 use Rattle.pm_turn.specs.Unions.{Elders, Up, AreElders, under, marked}
-use Rattle.pm_turn.proofs.Joining.{up_below, agreeing_more, odd_more, under_first, under_second}
+use Rattle.pm_turn.proofs.Joining.{up_below}
+use Rattle.pm_turn.proofs.JoinedSides.{agreeing_more, odd_more, under_first, under_second}
 
 flips_differ : (q x : Bool) → flipped_if q x ≡ true → q ≡ not x
 flips_differ true true e = sym e

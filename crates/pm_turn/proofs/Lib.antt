@@ -1,10 +1,12 @@
 pub mod EdgeLaws
+pub mod MateLaws
 pub mod KeptFit
 pub mod TurnedFaces
 pub mod TurnedSides
 pub mod TurnedAgain
 pub mod Traced
 pub mod Joining
+pub mod JoinedSides
 pub mod Tables
 pub mod JoinLaws
 pub mod Shortening

@@ -22,7 +22,7 @@ use Rattle.pm_turn.specs.Unions.{Elders, Up, AreElders, AreShorter}
 use Rattle.pm_turn.specs.Choice.{place_at, determinant_of, volume_at, total}
 use Rattle.pm_turn.specs.Sums.{no_root, root_at, parity_at, AreRooted, is_bare, face_volume}
 use Rattle.pm_turn.specs.Sums.{no_sums, with_face, IsSums, AreSums}
-use Rattle.pm_turn.proofs.Joining.{elders_traced}
+use Rattle.pm_turn.proofs.JoinedSides.{elders_traced}
 use Rattle.pm_turn.proofs.Flags.{low_root}
 use Rattle.pm_turn.proofs.Totals.{total-zero, total-suc}
 

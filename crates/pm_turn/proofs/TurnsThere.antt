@@ -13,8 +13,9 @@ use Rattle.pm_base.proofs.TwinLaws.{stands?}
 use Rattle.pm_turn.specs.Turning.{JoinsSame, AreMates, clash, flipped_if, traced_flag}
 use Rattle.pm_turn.specs.Unions.{Elders, Up, top, up, AreElders, marked, under, all_own}
 use Rattle.pm_turn.specs.TurnLaws.{TurnsAreThere}
-use Rattle.pm_turn.proofs.Joining.{up_below, begun, none_more, agreeing_more, odd_more, under_first}
-use Rattle.pm_turn.proofs.Joining.{under_second, elders_traced}
+use Rattle.pm_turn.proofs.Joining.{up_below}
+use Rattle.pm_turn.proofs.JoinedSides.{begun, none_more, agreeing_more, odd_more, under_first}
+use Rattle.pm_turn.proofs.JoinedSides.{under_second, elders_traced}
 use Rattle.pm_turn.proofs.Traced.{traced_tables_turn}
 
 -- What is decided of two is decided of both, and of one of them.

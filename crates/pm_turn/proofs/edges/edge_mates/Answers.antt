@@ -2,7 +2,7 @@ use Rattle.std.proofs.Common.{◌≡◌, ◌<◌, ◌∙◌, None, length, ap, a
 use Rattle.std.proofs.lemmas.List.{length-replicate}
 use Rattle.pm_base.specs.declared.limits.TheConstants.{MOST_SIDES}
 use Rattle.pm_base.specs.Sides.{Net, net_of, side_count}
-use Rattle.pm_turn.proofs.EdgeLaws.{none_mated, mated_more, all_mated, mate_low}
+use Rattle.pm_turn.proofs.MateLaws.{none_mated, mated_more, all_mated, mate_low}
 use Rattle.pm_turn.proofs.edges.edge_mates.Goals as goal
 
 pub loop-number-init : goal.loop-number-init

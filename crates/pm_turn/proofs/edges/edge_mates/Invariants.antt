@@ -1,5 +1,5 @@
 use Rattle.pm_base.specs.Sides.{net_of}
-use Rattle.pm_turn.proofs.EdgeLaws.{AreMatedTo}
+use Rattle.pm_turn.proofs.MateLaws.{AreMatedTo}
 use Rattle.pm_turn.proofs.edges.edge_mates.Given as goal
 
 abbrev pub invariant-loop-number : goal.invariant-loop-number

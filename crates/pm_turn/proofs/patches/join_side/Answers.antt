@@ -4,7 +4,7 @@ use Rattle.pm_base.specs.declared.ids.Side.{Side}
 use Rattle.pm_base.specs.Sides.{Net, net_of, beside_side}
 use Rattle.pm_turn.specs.Turning.{AreMates}
 use Rattle.pm_turn.specs.Unions.{elders_of}
-use Rattle.pm_turn.proofs.Joining.{none_more}
+use Rattle.pm_turn.proofs.JoinedSides.{none_more}
 use Rattle.pm_turn.proofs.patches.join_side.Goals as goal
 
 pub returns-in-None-clause-one_more : goal.returns-in-None-clause-one_more

@@ -1,8 +1,8 @@
 use Rattle.std.proofs.Common.{sym, subst}
 use Rattle.pm_base.specs.Sides.{face_of}
 use Rattle.pm_turn.specs.Unions.{Up}
-use Rattle.pm_turn.proofs.Joining.{begun, none_more, agreeing_more, odd_more, under_first}
-use Rattle.pm_turn.proofs.Joining.{under_second, elders_traced}
+use Rattle.pm_turn.proofs.JoinedSides.{begun, none_more, agreeing_more, odd_more, under_first}
+use Rattle.pm_turn.proofs.JoinedSides.{under_second, elders_traced}
 use Rattle.pm_turn.proofs.theory.unions_are_sound.Goals as goal
 
 pub returns : goal.returns
