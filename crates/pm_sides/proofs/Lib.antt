@@ -10,5 +10,7 @@ pub mod FullTable
 pub mod LoweringLaws
 -- each table, and what the table of sides is after a write
 mod InnerLaws
+mod OuterSides
 mod StoredLaws
+mod CollapseLaws
 mod ToldLaws

@@ -11,10 +11,10 @@ ghost use Rattle.pm_forest.specs.Faces.{face_count, record_of};
 ghost use Rattle.pm_beyond.specs.Walks.{leaf_net, Beyond, expected, number_of};
 ghost use Rattle.pm_beyond.specs.Valid.{IsValid};
 ghost use Rattle.pm_beyond.specs.Moves.{IsClosed, MaySplit};
-ghost use Rattle.pm_sides.specs.Stored.{AreStored};
+ghost use Rattle.pm_sides.specs.Stored.{AreStored, put_beside};
 
 use crate::indexed::IndexedHierarchy;
-use pm_base::{Side, SideMap};
+use pm_base::{FaceId, Side, SideMap};
 use pm_forest::Hierarchy;
 use pm_twins::Twins;
 use std::marker::Model;
@@ -66,6 +66,17 @@ impl SideTable {
         self.sides.set(side, other);
     }
 
+    // Stores another side, or none, beside a side, where that is there.
+    fn put_beside(&mut self, side: Option<Side>, other: Option<Side>)
+        requires there { IfSome side (λ s. s.0 < length self.old) }
+        requires small { IfSome other (λ s. s.0 < MOST_SIDES) }
+        ensures { self.new ≡ put_beside self.old (number_of side) (number_of other) }
+    {
+        if let Some(side) = side {
+            self.set(side, other);
+        }
+    }
+
     /// What stands beyond the sides once record `k` is split: beside each of its faces' sides is
     /// stored what stands beyond it then, and it stands beyond that side. O(1).
     pub fn link_new(&mut self, indexed: &IndexedHierarchy, split: &[bool], k: u32)
@@ -95,12 +106,12 @@ impl SideTable {
         ensures { AreStored indexed.now (without (set_of split.now) k) self.new }
     {
         indexed.invariant();
-        for side in 3 * indexed.first_face(k)..3 * indexed.face_after(k) {
-            if let Some(over) = indexed.across(Side(side)) {
-                if let Some(other) = self.beyond(Side(side)) {
-                    self.set(other, self.beyond(over));
-                }
-            }
+        for face in indexed.first_face(k)..indexed.face_after(k) {
+            let side = indexed.inner(k, FaceId(face)).next();
+            let first = self.beyond(side);
+            let second = self.beyond(side.next());
+            self.put_beside(first, second);
+            self.put_beside(second, first);
         }
     }
 }
