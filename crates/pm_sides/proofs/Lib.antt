@@ -13,4 +13,5 @@ mod InnerLaws
 mod OuterSides
 mod StoredLaws
 mod CollapseLaws
+mod FaceLaws
 mod ToldLaws

@@ -5,6 +5,7 @@
 mod indexed;
 mod inner;
 mod lowering;
+mod record_face;
 mod sides;
 mod table;
 mod told;

@@ -1,0 +1,38 @@
+use Rattle.std.proofs.Common.{◌≡◌, ◌<◌, is_some, Some, refl, sym, ap, ◌∙◌, subst}
+use Rattle.pm_forest.specs.declared.parts.Record.{Record}
+use Rattle.pm_forest.specs.Forest.{record_at}
+use Rattle.pm_forest.specs.Faces.{face_count, revealed_by, inner_of}
+use Rattle.pm_sides.proofs.FirstLaws.{left_there, left_own}
+use Rattle.pm_sides.proofs.FaceLaws.{left_made}
+use Rattle.pm_sides.proofs.indexed.IndexedHierarchy.left_face.Goals as goal
+
+pub inner-requires-clause-face : goal.inner-requires-clause-face
+inner-requires-clause-face c =
+    let h = c.args.self.now in
+    let k = c.args.k in
+    let read = c.record_at.ensures ∙ ap (λ i. record_at i k) c.hierarchy.ensures in
+    let is : (record_at h k).left ≡ Some c.in_ok-told.told =
+    sym (ap (λ (r : Record). r.left) read) ∙ c.in_ok-told.was in
+    let number = c.first_face.ensures.value in
+    subst (λ f. f < face_count h) (sym number) (left_there h k c.requires (ap is_some is))
+
+pub inner-requires-clause-own : goal.inner-requires-clause-own
+inner-requires-clause-own c =
+    let h = c.args.self.now in
+    let k = c.args.k in
+    let read = c.record_at.ensures ∙ ap (λ i. record_at i k) c.hierarchy.ensures in
+    let is : (record_at h k).left ≡ Some c.in_ok-told.told =
+    sym (ap (λ (r : Record). r.left) read) ∙ c.in_ok-told.was in
+    let number = c.first_face.ensures.value in
+    ap (revealed_by h) number ∙ left_own h k c.requires (ap is_some is)
+
+pub returns-clause-face : goal.returns-clause-face
+returns-clause-face c =
+    let h = c.args.self.now in
+    let k = c.args.k in
+    let read = c.record_at.ensures ∙ ap (λ i. record_at i k) c.hierarchy.ensures in
+    let is : (record_at h k).left ≡ Some c.in_ok-told.told =
+    sym (ap (λ (r : Record). r.left) read) ∙ c.in_ok-told.was in
+    let number = c.first_face.ensures.value in
+    left_made h k c.in_ok-told.told _ c.requires is
+    (c.inner.ensures.value ∙ ap (inner_of h k) number) refl refl
