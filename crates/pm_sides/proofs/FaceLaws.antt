@@ -22,7 +22,7 @@ module _ (h : Hierarchy) (k : ℕ) where
   abbrev pub right_number : ℕ
   right_number = first_face h k + one_if (is_some (record_at h k).left)
 
-  right_from : is_left h k (first_face h k + one_if (is_some (record_at h k).left)) ≡ false
+  pub right_from : is_left h k (first_face h k + one_if (is_some (record_at h k).left)) ≡ false
   unfolding is_left
   right_from =
       let there = is_some (record_at h k).left in

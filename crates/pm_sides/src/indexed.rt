@@ -57,7 +57,7 @@ impl Tables {
     {
         let first_faces = first_faces(alloc, h)?;
         let split_nodes = split_nodes(alloc, h)?;
-        let inner_corners = inner_corners(alloc, h, &first_faces)?;
+        let inner_corners = inner_corners(alloc, h)?;
         Ok(Tables {
             first_faces,
             split_nodes,

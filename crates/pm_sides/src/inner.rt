@@ -1,13 +1,14 @@
 //! Which side of each new face is the inner one, found once.
-ghost use Rattle.std.specs.Prelude.{◌≡◌, ◌+◌, ◌*◌, ◌<◌, IfOk};
-ghost use Rattle.pm_forest.specs.Forest.{record_count};
-ghost use Rattle.pm_forest.specs.Faces.{face_count, revealed_by, inner_of, is_left};
-ghost use Rattle.pm_sides.specs.Tables.{AreFirstFaces, AreInnerCorners, inner_at, start_of};
+ghost use Rattle.std.specs.Prelude.{◌≡◌, ◌<◌, ◌++◌, IfOk, OnOk};
+ghost use Rattle.pm_forest.specs.Forest.{record_count, node_count};
+ghost use Rattle.pm_forest.specs.Faces.{face_count, first_face, is_left};
+ghost use Rattle.pm_sides.specs.Tables.{AreFirstFaces, AreInnerCorners};
+ghost use Rattle.pm_sides.specs.Tables.{corner_under, corners_under};
 
 use crate::OutOfMemory;
 use crate::sides::holds;
 use pm_base::{FaceId, NodeId};
-use pm_forest::Hierarchy;
+use pm_forest::{Face, Hierarchy, NewFace};
 use std::alloc::Global;
 
 /// Whether a face of record `k` is its left face.
@@ -20,64 +21,62 @@ pub(crate) fn is_left(h: &Hierarchy, firsts: &[u32], k: u32, face: FaceId) -> bo
     h.record_at(k).left.is_some() && face.0 == firsts[k as usize]
 }
 
-// The child of record `k` under which the inner side of a face of it begins: t in its left face, u
-// in its right one.
-fn start(h: &Hierarchy, firsts: &[u32], k: u32, face: FaceId) -> NodeId
-    requires record { k < record_count h.now }
-    requires firsts { AreFirstFaces h.now (record_count h.now) firsts.now }
-    ensures { result.0 ≡ start_of h.now k face.0 }
+// The first corner of a face under a node, or the last one where none of the others is.
+fn corner_under(h: &Hierarchy, node: NodeId, face: &Face) -> u8
+    requires { node.0 < node_count h.now }
+    ensures { result ≡ corner_under h.now node.0 face.now }
 {
-    let (t, u) = h.children(k);
-    if is_left(h, firsts, k, face) { t } else { u }
-}
-
-// The corner at which the inner side of a face of record `k` begins.
-#[tactic(auto, using(crate::proofs::SideLaws::start_there, crate::proofs::SideLaws::inner_begins, crate::proofs::SideLaws::inner_follows, crate::proofs::SideLaws::inner_ends))]
-fn find_inner(h: &Hierarchy, firsts: &[u32], k: u32, face: FaceId) -> u8
-    requires record { k < record_count h.now }
-    requires firsts { AreFirstFaces h.now (record_count h.now) firsts.now }
-    requires face { face.0 < face_count h.now }
-    ensures value { 3 * face.0 + result ≡ inner_of h.now k face.0 }
-    ensures few { result < 3 }
-{
-    let start = start(h, firsts, k, face);
-    let corners = h.face_at(face);
-    if holds(h, start, corners.a) {
+    if holds(h, node, face.a) {
         0
-    } else if holds(h, start, corners.b) {
+    } else if holds(h, node, face.b) {
         1
     } else {
         2
     }
 }
 
-// The corner at which the inner side of a face begins. A base face has no inner side, and gets 0.
-fn inner_corner(h: &Hierarchy, firsts: &[u32], face: FaceId) -> u8
-    requires firsts { AreFirstFaces h.now (record_count h.now) firsts.now }
-    requires face { face.0 < face_count h.now }
-    ensures value { 3 * face.0 + result ≡ inner_at h.now face.0 (revealed_by h.now face.0) }
-    ensures few { result < 3 }
+// Adds the corner at which the inner side of a new face begins, where that face is there. The inner
+// side runs from the corner under the node.
+fn add_corner(
+    h: &Hierarchy,
+    node: NodeId,
+    face: &Option<NewFace>,
+    corners: &mut Vec<u8>,
+) -> Result<(), OutOfMemory>
+    requires { node.0 < node_count h.now }
+    ensures { OnOk result (corners.new.items
+        ≡ corners.old.items ++ corners_under h.now node.0 face.now) }
 {
-    match h.revealed_by(face) {
-        None => 0,
-        Some(k) => find_inner(h, firsts, k, face),
+    if let Some(new) = face {
+        corners.push(corner_under(h, node, &new.face))?;
     }
+    Ok(())
 }
 
-/// The corner at which the inner side of each face begins.
-#[tactic(auto, using(crate::proofs::InnerLaws::inners_none, crate::proofs::InnerLaws::inners_go_on))]
-pub(crate) fn inner_corners(
-    alloc: Global,
-    h: &Hierarchy,
-    firsts: &[u32],
-) -> Result<Vec<u8>, OutOfMemory>
-    requires { AreFirstFaces h.now (record_count h.now) firsts.now }
+// The entries of the base faces, which have no inner side: 0 for each. There is room for all faces.
+#[tactic(auto, using(crate::proofs::InnerLaws::inners_none, crate::proofs::FirstLaws::firsts_begin))]
+fn base_corners(alloc: Global, h: &Hierarchy) -> Result<Vec<u8>, OutOfMemory>
+    ensures { IfOk result (λ corners. AreInnerCorners h.now (first_face h.now 0) corners.items) }
+{
+    let mut corners = Vec::with_capacity(alloc, h.faces() as usize)?;
+    for _base in 0..h.bases() {
+        corners.push(0)?;
+    }
+    Ok(corners)
+}
+
+/// The corner at which the inner side of each face begins: in a record's left face the one under
+/// its child t, and in its right face the one under u.
+#[tactic(auto, using(crate::proofs::InnerLaws::inners_record))]
+pub(crate) fn inner_corners(alloc: Global, h: &Hierarchy) -> Result<Vec<u8>, OutOfMemory>
     ensures { IfOk result (λ corners. AreInnerCorners h.now (face_count h.now) corners.items) }
 {
-    h.invariant();
-    let mut corners = Vec::with_capacity(alloc, h.faces() as usize)?;
-    for face in 0..h.faces() {
-        corners.push(inner_corner(h, firsts, FaceId(face)))?;
+    let mut corners = base_corners(alloc, h)?;
+    for k in 0..h.records() {
+        let change = h.record_at(k);
+        let (t, u) = h.children(k);
+        add_corner(h, t, &change.left, &mut corners)?;
+        add_corner(h, u, &change.right, &mut corners)?;
     }
     Ok(corners)
 }
