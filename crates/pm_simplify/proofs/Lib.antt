@@ -16,6 +16,7 @@ pub mod KnownBorderLaws
 pub mod RestLaws
 pub mod Waiting
 pub mod Freeing
+pub mod AwaitedLaws
 pub mod Decisions
 pub mod LegalPairs
 pub mod LeastPairs

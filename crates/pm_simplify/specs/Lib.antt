@@ -6,3 +6,4 @@ pub mod Faults
 pub mod SparedFaces
 pub mod Forgetting
 pub mod KnownBorder
+pub mod AwaitedVertices

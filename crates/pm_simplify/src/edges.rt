@@ -9,7 +9,9 @@ ghost use Rattle.pm_shrink.specs.Shrinking.{net_at};
 ghost use Rattle.pm_simplify.specs.OnRuns.{IsOnRun, IsOnSomeRun};
 ghost use Rattle.pm_simplify.specs.Choices.{IsRight};
 ghost use Rattle.pm_simplify.specs.KnownBorder.{AreOnBorder};
+ghost use Rattle.pm_simplify.specs.AwaitedVertices.{AreAwaited};
 
+use crate::awaited::AwaitedVertices;
 use crate::border::KnownBorder;
 use crate::run::OutOfMemory;
 use crate::weigh::filled;
@@ -19,12 +21,13 @@ use pm_queue::Queue;
 use pm_shrink::Shrink;
 use std::alloc::Global;
 
-/// The keys of the edges that have one, those that wait for a face, and the vertices that are known
-/// to be on the border.
+/// The keys of the edges that have one, those that wait for a face, the vertices of such faces, and
+/// the vertices that are known to be on the border.
 #[derive(Drop)]
 pub(crate) struct Edges {
     pub(crate) queue: Queue,
     pub(crate) waiting: Links,
+    pub(crate) awaited: AwaitedVertices,
     pub(crate) border: KnownBorder,
 }
 
@@ -49,6 +52,8 @@ impl Edges {
             ≡ side_count (net_at shrink.now)) }
         ensures heads { IfOk result (λ edges. 3 * length edges.waiting.lists
             ≡ side_count (net_at shrink.now)) }
+        ensures awaited { IfOk result (λ edges.
+            AreAwaited (net_at shrink.now) edges.waiting edges.awaited) }
         ensures noted { IfOk result (λ edges. AreOnBorder shrink.now.surface edges.border) }
         ensures right { IfOk result (λ edges. (p : Policy) (m : Mesh) (log : List Collapse)
             → IsOnRun shrink.now (C.goes_by costs.now) kept.now p m log
@@ -58,10 +63,12 @@ impl Edges {
         let queue = filled(alloc, shrink, costs, kept, sides)?;
         let waiting = Links::new(alloc, sides, faces)?;
         // A collapse makes a vertex, so the numbers go up to twice the vertices.
+        let awaited = AwaitedVertices::new(alloc, 2 * vertices)?;
         let border = KnownBorder::new(alloc, 2 * vertices)?;
         Ok(Edges {
             queue,
             waiting,
+            awaited,
             border,
         })
     }

@@ -9,7 +9,9 @@ ghost use Rattle.pm_shrink.specs.Shrinking.{net_at};
 ghost use Rattle.pm_policies.specs.Policies.{Policy};
 ghost use Rattle.pm_simplify.specs.OnRuns.{IsOnRun, IsOnSomeRun};
 ghost use Rattle.pm_simplify.specs.Choices.{IsRight};
+ghost use Rattle.pm_simplify.specs.AwaitedVertices.{AreAwaited};
 
+use crate::edges::Edges;
 use crate::weigh::weigh;
 use pm_base::Side;
 use pm_costs::Costs;
@@ -71,8 +73,8 @@ fn free<C: Costs>(
     }
 }
 
-/// Weighs the pairs that wait for a face at a live vertex, so that none does.
-pub(crate) fn free_around<C: Costs>(
+// Weighs the pairs that wait for a face at a live vertex, so that none does.
+fn free_around<C: Costs>(
     shrink: &Shrink,
     costs: &C,
     kept: &[bool],
@@ -101,5 +103,38 @@ pub(crate) fn free_around<C: Costs>(
     while let Some(corner) = at {
         free(shrink, costs, kept, queue, waiting, corner.face().0);
         at = shrink.next_corner(corner);
+    }
+}
+
+/// The same. A vertex that isn't flagged has no such face, and takes O(1).
+pub(crate) fn free_at<C: Costs>(
+    shrink: &Shrink,
+    costs: &C,
+    kept: &[bool],
+    edges: &mut Edges,
+    v: u32,
+)
+    requires known { IsOnSomeRun shrink.now (C.goes_by costs.now) kept.now }
+    requires live { is_live_in shrink.now.surface v ≡ true }
+    requires room { length edges.old.queue ≡ side_count (net_at shrink.now) }
+    requires items { edges.old.waiting.items ≡ side_count (net_at shrink.now) }
+    requires heads { 3 * length edges.old.waiting.lists ≡ side_count (net_at shrink.now) }
+    requires awaited { AreAwaited (net_at shrink.now) edges.old.waiting edges.old.awaited }
+    ensures room { length edges.new.queue ≡ length edges.old.queue }
+    ensures items { edges.new.waiting.items ≡ edges.old.waiting.items }
+    ensures heads { length edges.new.waiting.lists ≡ length edges.old.waiting.lists }
+    ensures awaited { AreAwaited (net_at shrink.now) edges.new.waiting edges.new.awaited }
+    ensures border { edges.new.border ≡ edges.old.border }
+    ensures empty { (e : ℕ) → Stands (net_at shrink.now) e → (net_at shrink.now).from e ≡ v
+        → list_of edges.new.waiting (face_of e) ≡ [] }
+    ensures others { (f : ℕ) → list_of edges.old.waiting f ≡ []
+        → list_of edges.new.waiting f ≡ [] }
+    ensures right { (p : Policy) (m : Mesh) (log : List Collapse)
+        → IsOnRun shrink.now (C.goes_by costs.now) kept.now p m log
+        → IsRight p m log edges.old.queue edges.old.waiting
+        → IsRight p m log edges.new.queue edges.new.waiting }
+{
+    if edges.awaited.has(v) {
+        free_around(shrink, costs, kept, &mut edges.queue, &mut edges.waiting, v);
     }
 }

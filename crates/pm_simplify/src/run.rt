@@ -12,6 +12,7 @@ ghost use Rattle.pm_simplify.specs.Faults.{IsSimplifyFault};
 ghost use Rattle.pm_simplify.specs.OnRuns.{IsOnRun};
 ghost use Rattle.pm_simplify.specs.Choices.{IsRight};
 ghost use Rattle.pm_simplify.specs.KnownBorder.{AreOnBorder};
+ghost use Rattle.pm_simplify.specs.AwaitedVertices.{AreAwaited};
 
 use crate::choose::least_pair;
 use crate::edges::Edges;
@@ -139,6 +140,7 @@ fn collapse_to<C: Costs>(
     requires room { length edges.old.queue ≡ side_count (net_at shrink.old) }
     requires items { edges.old.waiting.items ≡ side_count (net_at shrink.old) }
     requires heads { 3 * length edges.old.waiting.lists ≡ side_count (net_at shrink.old) }
+    requires awaited { AreAwaited (net_at shrink.old) edges.old.waiting edges.old.awaited }
     requires noted { AreOnBorder shrink.old.surface edges.old.border }
     requires right { (p : Policy) (m : PlainMesh)
         → IsOnRun shrink.old (C.goes_by costs.old) kept.now p m []
@@ -148,17 +150,15 @@ fn collapse_to<C: Costs>(
         → IsRunBy p m target_faces log.new.items }
 {
     while shrink.face_count() > target_faces {
-        let Some(pair) = least_pair(shrink, costs, &mut edges.queue, &mut edges.waiting) else {
-            break;
-        };
-        log.push_within_room(collapse(
+        let Some(pair) = least_pair(
             shrink,
             costs,
-            kept,
             &mut edges.queue,
             &mut edges.waiting,
-            &mut edges.border,
-            pair,
-        ));
+            &mut edges.awaited,
+        ) else {
+            break;
+        };
+        log.push_within_room(collapse(shrink, costs, kept, edges, pair));
     }
 }

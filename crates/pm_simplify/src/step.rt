@@ -11,16 +11,15 @@ ghost use Rattle.pm_shrink.specs.Shrinking.{net_at};
 ghost use Rattle.pm_simplify.specs.OnRuns.{IsOnRun};
 ghost use Rattle.pm_simplify.specs.Choices.{IsRight};
 ghost use Rattle.pm_simplify.specs.KnownBorder.{AreOnBorder};
+ghost use Rattle.pm_simplify.specs.AwaitedVertices.{AreAwaited};
 
 use crate::around::renew_around;
-use crate::border::KnownBorder;
 use crate::choose::Choice;
+use crate::edges::Edges;
 use crate::forget::forget;
-use crate::free::free_around;
+use crate::free::free_at;
 use pm_base::Collapse;
 use pm_costs::Costs;
-use pm_links::Links;
-use pm_queue::Queue;
 use pm_shrink::Shrink;
 
 /// Collapses a pair that may be collapsed, to its place. The pairs that wait for a face at one of
@@ -30,9 +29,7 @@ pub(crate) fn collapse<C: Costs>(
     shrink: &mut Shrink,
     costs: &mut C,
     kept: &[bool],
-    queue: &mut Queue,
-    waiting: &mut Links,
-    border: &mut KnownBorder,
+    edges: &mut Edges,
     pair: Choice,
 ) -> Collapse
     requires candidate { (p : Policy) × (m : Mesh) × (log : List Entry)
@@ -41,15 +38,17 @@ pub(crate) fn collapse<C: Costs>(
     requires place { (p : Policy) (m : Mesh) (log : List Entry)
         → IsOnRun shrink.old (C.goes_by costs.old) kept.now p m log
         → pair.place ≡ place_by p m log pair.a pair.b }
-    requires room { length queue.old ≡ side_count (net_at shrink.old) }
-    requires items { waiting.old.items ≡ side_count (net_at shrink.old) }
-    requires heads { 3 * length waiting.old.lists ≡ side_count (net_at shrink.old) }
-    requires noted { AreOnBorder shrink.old.surface border.old }
+    requires room { length edges.old.queue ≡ side_count (net_at shrink.old) }
+    requires items { edges.old.waiting.items ≡ side_count (net_at shrink.old) }
+    requires heads { 3 * length edges.old.waiting.lists ≡ side_count (net_at shrink.old) }
+    requires awaited { AreAwaited (net_at shrink.old) edges.old.waiting edges.old.awaited }
+    requires noted { AreOnBorder shrink.old.surface edges.old.border }
     ensures sides { side_count (net_at shrink.new) ≡ side_count (net_at shrink.old) }
-    ensures room { length queue.new ≡ length queue.old }
-    ensures items { waiting.new.items ≡ waiting.old.items }
-    ensures heads { length waiting.new.lists ≡ length waiting.old.lists }
-    ensures noted { AreOnBorder shrink.new.surface border.new }
+    ensures room { length edges.new.queue ≡ length edges.old.queue }
+    ensures items { edges.new.waiting.items ≡ edges.old.waiting.items }
+    ensures heads { length edges.new.waiting.lists ≡ length edges.old.waiting.lists }
+    ensures awaited { AreAwaited (net_at shrink.new) edges.new.waiting edges.new.awaited }
+    ensures noted { AreOnBorder shrink.new.surface edges.new.border }
     ensures entry { (p : Policy) (m : Mesh) (log : List Entry)
         → IsOnRun shrink.old (C.goes_by costs.old) kept.now p m log
         → result ≡ entry_of (surface_after m log) pair.a pair.b (place_by p m log pair.a pair.b) }
@@ -58,16 +57,23 @@ pub(crate) fn collapse<C: Costs>(
         → IsOnRun shrink.new (C.goes_by costs.new) kept.now p m (log ++ result ∷ []) }
     ensures right { (p : Policy) (m : Mesh) (log : List Entry)
         → IsOnRun shrink.old (C.goes_by costs.old) kept.now p m log
-        → IsRight p m log queue.old waiting.old
-        → IsRight p m (log ++ result ∷ []) queue.new waiting.new }
+        → IsRight p m log edges.old.queue edges.old.waiting
+        → IsRight p m (log ++ result ∷ []) edges.new.queue edges.new.waiting }
 {
     shrink.invariant();
-    free_around(shrink, costs, kept, queue, waiting, pair.a);
-    free_around(shrink, costs, kept, queue, waiting, pair.b);
+    free_at(shrink, costs, kept, edges, pair.a);
+    free_at(shrink, costs, kept, edges, pair.b);
     let entry = shrink.collapse(pair.a, pair.b, pair.place);
     costs.merged(shrink, &entry);
-    forget(queue, entry.left);
-    forget(queue, entry.right);
-    renew_around(shrink, costs, kept, queue, border, entry.s);
+    forget(&mut edges.queue, entry.left);
+    forget(&mut edges.queue, entry.right);
+    renew_around(
+        shrink,
+        costs,
+        kept,
+        &mut edges.queue,
+        &mut edges.border,
+        entry.s,
+    );
     entry
 }

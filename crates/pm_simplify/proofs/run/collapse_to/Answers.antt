@@ -23,6 +23,7 @@ loop-shrink-init g c =
       room = c.requires.room;
       items = c.requires.items;
       heads = c.requires.heads;
+      awaited = c.requires.awaited;
       noted = c.requires.noted;
       spare =
           let none = ap (λ (l : List Collapse). length l) c.requires.empty in
@@ -68,7 +69,8 @@ loop-shrink-preserved g c =
           let goes_by = g.C.Costs.goes_by new.costs in
           let target = c.args.target_faces in
           subst (λ (l : List Collapse).
-          IsUnderWay new.shrink goes_by c.args.kept.now p m target l new.queue new.waiting)
+          IsUnderWay new.shrink goes_by c.args.kept.now p m target l new.edges.queue
+          new.edges.waiting)
           (sym pushed) (record {
             on = c.collapse.ensures.goes_on p m log by.on;
             right = c.collapse.ensures.right p m log by.on still;
@@ -80,6 +82,7 @@ loop-shrink-preserved g c =
       heads =
           ap (λ k. 3 * k) (c.collapse.ensures.heads ∙ c.least_pair.ensures.heads) ∙ i.heads
           ∙ sides;
+      awaited = c.collapse.ensures.awaited;
       noted = c.collapse.ensures.noted;
       spare = omega arith;
     }
