@@ -8,10 +8,6 @@ use Rattle.pm_simplify.proofs.Weighing.{renews_right, renews_trans}
 use Rattle.pm_simplify.proofs.AroundLaws.{not_none}
 use Rattle.pm_simplify.proofs.around.renew_beside.Goals as goal
 
-pub returns-then-rests-clause-right : goal.returns-then-rests-clause-right
-returns-then-rests-clause-right g c = λ p m log on.
-    c.rests.ensures c.if-rests.true p m log on.after
-
 pub returns-then-is_none-clause-right : goal.returns-then-is_none-clause-right
 returns-then-is_none-clause-right g c = λ p m log on.
     let n = net_after m log in

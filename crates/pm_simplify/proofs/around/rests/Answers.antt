@@ -16,11 +16,9 @@ returns c = λ t p m log after.
     let e : ℕ = c.args.corner.0 in
     let flags : List Bool = c.args.border.now in
     let queue : Entries = c.args.queue.now in
-    let start : is_noted flags (n.from e) ≡ true =
-    ap (is_noted flags) c.requires.start ∙ sym c.has.ensures ∙ c.if-not-has.false in
     let ahead = ap (is_noted flags) (c.vertex_at.ensures ∙ ap n.from c.next.ensures.value) in
     let onto : is_noted flags (to n e) ≡ true =
-    sym ahead ∙ sym c.has-else-not-has.ensures ∙ c.if-not-has-2.false in
+    sym ahead ∙ sym c.has.ensures ∙ c.if-not-has.false in
     let shared = not_none c.across.result (twin_of n e) c.across.ensures
     (c.is_none.ensures ∙ ap not c.if-is_none.false) in
     let never = not_none c.across-else-is_none.result (twin_of n (prev e))
@@ -29,5 +27,5 @@ returns c = λ t p m log after.
     let bare = sym c.has-2.ensures ∙ not-true c.has-2.result t in
     let empty : key_at queue (item_of n e) ≡ None =
     subst (λ i. key_at queue i ≡ None) c.item_of.ensures.value (no_key _ bare) in
-    rest_right s c.invariant.ensures.kept.surface flags c.requires.noted e c.requires.stands start
-    onto shared p m log after queue empty never
+    rest_right s c.invariant.ensures.kept.surface flags c.requires.noted e c.requires.stands
+    c.requires.start onto shared p m log after queue empty never
