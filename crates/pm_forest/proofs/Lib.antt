@@ -25,6 +25,7 @@ pub mod LeafNodes
 pub mod GrowingTables
 pub mod GrowingLaws
 pub mod GrowthLaws
+pub mod FaceGrowth
 pub mod HierarchyLaws
 pub mod FaultLaws
 pub mod ViewLaws

@@ -1,6 +1,6 @@
 use Rattle.std.proofs.Common.{[], ◌∷◌, ◌++◌, ◌∙◌, ap, sym, subst}
 use Rattle.pm_forest.proofs.GrowingLaws.{TakesFace}
-use Rattle.pm_forest.proofs.GrowthLaws.{face_fits, face_added}
+use Rattle.pm_forest.proofs.FaceGrowth.{face_fits, face_added}
 use Rattle.pm_forest.proofs.growing.Growing.add_face.Goals as goal
 
 pub push_within_room-requires : goal.push_within_room-requires
