@@ -6,7 +6,7 @@ use Rattle.std.proofs.Math.ListN.{drop_of_length-le}
 use Rattle.pm_base.specs.Counts.{one_if}
 use Rattle.pm_forest.specs.declared.parts.Face.{Face}
 use Rattle.pm_forest.specs.declared.parts.Record.{Record}
-use Rattle.pm_forest.specs.Forest.{Hierarchy, Interval, leaf_count, node_count, record_count, t_of}
+use Rattle.pm_forest.specs.Forest.{Hierarchy, Interval, leaf_count, record_count, t_of}
 use Rattle.pm_forest.specs.Forest.{u_of, interval_of}
 use Rattle.pm_forest.specs.Faces.{faces_of, first_face, face_count, revealed_by}
 use Rattle.pm_forest.specs.Rules.{with_record, runs, new_face_is_bad, past_from}
@@ -16,12 +16,7 @@ use Rattle.pm_forest.proofs.FaceLists.{length-faces_of}
 use Rattle.pm_forest.proofs.Prefix.{record_count-with_record, s_of-with_record_last}
 use Rattle.pm_forest.proofs.Prefix.{first_face-with_record, face_count-with_record}
 
--- the children of the coming record are the last two nodes
-pub nodes_coming : (h : Hierarchy) (coming : Option Record) (r : Record) → coming ≡ Some r
-    → node_count (all_of h coming) ≡ t_of h (record_count h) + 2
-nodes_coming h coming r is = rw is (omega (arith, record_count-with_record h r))
-
--- its faces are the last ones
+-- the faces of the coming record are the last ones
 pub faces_coming : (h : Hierarchy) (coming : Option Record) (r : Record) → coming ≡ Some r →
     face_count (all_of h coming) ≡ first_face (all_of h coming) (record_count h) + one_if
     (is_some r.left) + one_if (is_some r.right)

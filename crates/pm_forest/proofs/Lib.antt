@@ -27,6 +27,7 @@ pub mod GrowingLaws
 pub mod GrowthLaws
 pub mod FaceGrowth
 pub mod HierarchyLaws
+pub mod GrownLeaves
 pub mod FaultLaws
 pub mod ViewLaws
 pub mod ShapingLaws

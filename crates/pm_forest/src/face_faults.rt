@@ -57,7 +57,6 @@ fn first_face(forest: &Growing, split: &Record) -> u32
 
 // Whether a face of the coming record has a corner that is no leaf, or doesn't have its corners
 // under the children and outside their parent in its order.
-#[tactic(auto, using(crate::proofs::FaultLaws::nodes_coming))]
 fn is_out_of_place(forest: &Growing, split: &Record, left: bool, f: &Face) -> bool
     requires coming { forest.now.coming ≡ Some split.now }
     requires node { split.now.s < node_count (grown forest.now) }
@@ -73,14 +72,12 @@ fn is_out_of_place(forest: &Growing, split: &Record, left: bool, f: &Face) -> bo
     if f.a >= leaves || f.b >= leaves || f.c >= leaves {
         return true;
     }
-    let first = forest.roots().len() as u32 + 2 * forest.records().len() as u32;
-    let t = forest.interval(first);
-    let u = forest.interval(first + 1);
-    let s = forest.interval(split.s);
+    let (from, until) = forest.interval(split.s);
+    let cut = forest.cut(split);
     if left {
-        !runs(t, u, s, f)
+        !runs((from, cut), (cut, until), (from, until), f)
     } else {
-        !runs(u, t, s, f)
+        !runs((cut, until), (from, cut), (from, until), f)
     }
 }
 

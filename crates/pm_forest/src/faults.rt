@@ -5,7 +5,7 @@ ghost use Rattle.std.specs.Prelude.{IfErr, IfSome, is_some};
 ghost use Rattle.pm_base.specs.declared.limits.TheConstants.{MOST_NODES};
 ghost use Rattle.pm_base.specs.Place.{is_place, place_of};
 ghost use Rattle.pm_forest.specs.Marks.{AreMarked};
-ghost use Rattle.pm_forest.specs.Forest.{widths_of, leaf_count, within};
+ghost use Rattle.pm_forest.specs.Forest.{widths_of, leaf_count, Interval, interval_of, within};
 ghost use Rattle.pm_forest.specs.Rules.{counts_are_bad, width_is_bad, root_inputs, node_inputs};
 ghost use Rattle.pm_forest.specs.Rules.{face_inputs, root_fault, base_is_bad, base_fault};
 ghost use Rattle.pm_forest.specs.Rules.{split_is_bad, children_fault, head_fault, fields_before};
@@ -126,9 +126,7 @@ fn is_split_bad(forest: &Growing, s: u32, width: u32) -> bool
     if s >= forest.nodes() {
         return true;
     }
-    let (from, until) = forest.interval(s);
-    let leaves = until.saturating_sub(from);
-    forest.splitter(s).is_some() || leaves < 2 || width == 0 || leaves <= width
+    forest.splitter(s).is_some() || width == 0 || forest.width(s) <= width
 }
 
 // The places of the two children, where they are in range.
@@ -146,17 +144,17 @@ fn places(head: &Head) -> Option<(Point, Point)>
 
 // What is wrong with the input numbers of the two children.
 #[tactic(auto, unfolding(crate::specs::Rules::children_fault))]
-fn children_fault(forest: &Growing, flags: &[bool], head: &Head) -> Option<Shape>
+fn children_fault(forest: &Growing, flags: &[bool], head: &Head, rest: u32) -> Option<Shape>
     requires settled { forest.now.coming ≡ None }
     requires fits { SplitFits forest.now.h head.now.s head.now.width }
     requires marked { AreMarked flags.now (node_inputs forest.now.h) }
     requires flags { length flags.now ≡ leaf_count forest.now.h }
+    requires rest { let leaves : Interval = interval_of forest.now.h head.now.s in
+        rest ≡ leaves.until - leaves.from - head.now.width }
     ensures exact { children_fault forest.now.h head.now ≡ result }
     ensures within_t { result ≡ None → head.now.t_input ≤ length flags.now }
     ensures within_u { result ≡ None → head.now.u_input ≤ length flags.now }
 {
-    let (from, until) = forest.interval(head.s);
-    let rest = until.saturating_sub(from).saturating_sub(head.width);
     let field = next_field(forest);
     if is_vertex_input_bad(flags, head.width, head.t_input) {
         Some(Shape::BadInput(field))
@@ -187,7 +185,8 @@ pub fn next_record(forest: &Growing, flags: &[bool], head: &Head) -> Result<Reco
     let Some((t, u)) = places(head) else {
         return Err(Shape::BadRecord(number));
     };
-    if let Some(fault) = children_fault(forest, flags, head) {
+    let rest = forest.width(head.s) - head.width;
+    if let Some(fault) = children_fault(forest, flags, head, rest) {
         return Err(fault);
     }
     Ok(Record {

@@ -1,9 +1,9 @@
 //! What is read of a forest that grows.
 ghost use Rattle.std.specs.Prelude.{◌≡◌, ◌+◌, ◌-◌, ◌*◌, ◌<◌, ◌≤◌, length, is_some};
-ghost use Rattle.std.specs.Prelude.{Option, slice_index_or};
+ghost use Rattle.std.specs.Prelude.{Option, Some, slice_index_or};
 ghost use Rattle.pm_base.specs.declared.limits.TheConstants.{MOST_FACES, MOST_NODES, MOST_VERTICES};
 ghost use Rattle.pm_forest.specs.Forest.{widths, leaf_count, node_count, root_of, interval_of};
-ghost use Rattle.pm_forest.specs.Forest.{splitter_of};
+ghost use Rattle.pm_forest.specs.Forest.{Interval, record_count, splitter_of, t_of, u_of};
 ghost use Rattle.pm_forest.specs.Faces.{faces_of, face_count, revealed_by, no_face_corners};
 ghost use Rattle.pm_forest.specs.Tables.{grown, IsSingle, leaf_node_of};
 
@@ -92,6 +92,30 @@ impl Growing {
         ensures { interval_of (grown self.now) node ≡ record { from = result.0; until = result.1 } }
     {
         self.intervals[node as usize]
+    }
+
+    /// How many leaves a node has.
+    pub fn width(&self, node: u32) -> u32
+        requires { node < node_count (grown self.now) }
+        ensures { let leaves : Interval = interval_of (grown self.now) node in
+            result ≡ leaves.until - leaves.from }
+    {
+        let (from, until) = self.intervals[node as usize];
+        until - from
+    }
+
+    /// The first leaf of the second child that the coming record makes. Those before it are the
+    /// first child's.
+    pub fn cut(&self, split: &Record) -> u32
+        requires coming { self.now.coming ≡ Some split.now }
+        requires node { split.now.s < node_count (grown self.now) }
+        ensures first { interval_of (grown self.now) (t_of self.now.h (record_count self.now.h))
+            ≡ record { from = (interval_of (grown self.now) split.now.s).from; until = result } }
+        ensures second { interval_of (grown self.now) (u_of self.now.h (record_count self.now.h))
+            ≡ record { from = result; until = (interval_of (grown self.now) split.now.s).until } }
+    {
+        let (from, _) = self.intervals[split.s as usize];
+        from + split.width
     }
 
     /// The record that splits a node.
