@@ -44,10 +44,12 @@ impl<'a> Words<'a> {
     pub fn next_words<const N: usize>(&mut self) -> Option<[u32; N]>
         ensures { MatchOption result (length self.old < N) (λ ws. self.old ≡ ws ++ self.new) }
     {
-        let mut words = [0; N];
-        for i in 0..N {
-            words[i] = self.next_word()?;
+        if self.rest.len() / 4 < N {
+            return None;
         }
+        let mut words = [0; N];
+        LittleEndian::read_u32_into(&self.rest[..4 * N], &mut words);
+        self.rest = &self.rest[4 * N..];
         Some(words)
     }
 }
