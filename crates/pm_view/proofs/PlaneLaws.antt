@@ -1,7 +1,30 @@
--- The value of a plane at a place, as it is computed.
-use Rattle.std.proofs.Common.{◌≡◌, ◌^◌, ◌≤◌, w32, w64, to_z, of_z, refl, ◌∙◌, lit<}
+-- A plane in range, and its value at a place as it is computed.
+use Rattle.std.proofs.Common.{◌≡◌, ◌^◌, ◌≤◌, true, w32, w64, to_z, of_z, refl, ◌∙◌, lit<}
+use Rattle.std.proofs.lemmas.Bool.{and_parts, leb-true}
 use Rattle.std.specs.Prelude.{ℤ, ◌+ℤ◌, ◌*ℤ◌, unsigned_abs}
+use Rattle.pm_view.specs.declared.limits.TheConstants.{GREATEST_NORMAL_COMPONENT, GREATEST_OFFSET}
+use Rattle.pm_view.specs.declared.plane.Plane.{Plane}
+use Rattle.pm_view.specs.Views.{is_plane}
 use Rattle.pm_view.proofs.Words.{read_is}
+
+-- The numbers of a plane that passes the tests.
+pub record IsSmallPlane (f : Plane) : Type 0 where
+  pub a : unsigned_abs f.a ≤ GREATEST_NORMAL_COMPONENT
+  pub b : unsigned_abs f.b ≤ GREATEST_NORMAL_COMPONENT
+  pub c : unsigned_abs f.c ≤ GREATEST_NORMAL_COMPONENT
+  pub d : unsigned_abs f.d ≤ GREATEST_OFFSET
+
+pub small_plane : (f : Plane) → is_plane f ≡ true → IsSmallPlane f
+small_plane f e =
+    let abc = and_parts _ _ e in
+    let ab = and_parts _ _ abc.0 in
+    let a = and_parts _ _ ab.0 in
+    record {
+      a = leb-true _ _ a.0;
+      b = leb-true _ _ a.1;
+      c = leb-true _ _ ab.1;
+      d = leb-true _ _ abc.1;
+    }
 
 pub term_is : (r a x y : ℤ) → r ≡ to_z w32 (of_z w32 a) *ℤ to_z w32 (of_z w32 y) → y ≡ x
     → unsigned_abs a ≤ 32767 → unsigned_abs x ≤ 32767 → r ≡ a *ℤ x

@@ -26,6 +26,12 @@ is_eye p = nat_le (unsigned_abs p.x) GREATEST_EYE_COORDINATE && nat_le (unsigned
     GREATEST_EYE_COORDINATE
     && nat_le (unsigned_abs p.z) GREATEST_EYE_COORDINATE
 
+-- The same as three facts.
+pub record IsEye (p : Place) : Type 0 where
+  pub x : unsigned_abs p.x ≤ GREATEST_EYE_COORDINATE
+  pub y : unsigned_abs p.y ≤ GREATEST_EYE_COORDINATE
+  pub z : unsigned_abs p.z ≤ GREATEST_EYE_COORDINATE
+
 -- Of a plane a, b and c are from -32,767 to 32,767, and d is from -4,398,046,511,104 to
 -- 4,398,046,511,104.
 abbrev pub is_plane : Plane → Bool
@@ -46,9 +52,7 @@ is_view v = is_eye v.eye && nat_le v.focal GREATEST_FOCAL_LENGTH && are_toleranc
 
 -- The same as facts, with at most six planes.
 pub record IsView (v : View) : Type 0 where
-  pub eye_x : unsigned_abs v.eye.x ≤ GREATEST_EYE_COORDINATE
-  pub eye_y : unsigned_abs v.eye.y ≤ GREATEST_EYE_COORDINATE
-  pub eye_z : unsigned_abs v.eye.z ≤ GREATEST_EYE_COORDINATE
+  pub eye : IsEye v.eye
   pub focal : v.focal ≤ GREATEST_FOCAL_LENGTH
   pub tol : v.tol ≤ GREATEST_TOLERANCE
   pub sil : v.sil ≤ v.tol

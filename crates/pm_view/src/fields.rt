@@ -1,13 +1,13 @@
 //! The fields that spell a view, read from left to right.
 ghost use Rattle.std.specs.Prelude.{◌≡◌, ◌<◌, ◌≤◌, ◌∷◌, [], true, Some, None};
-ghost use Rattle.std.specs.Prelude.{MatchOption, IfSome, IfOk, OnErr, unsigned_abs};
+ghost use Rattle.std.specs.Prelude.{MatchOption, IfSome, IfOk, OnErr};
 ghost use Rattle.std.specs.List.{list_all};
-ghost use Rattle.pm_view.specs.declared.limits.TheConstants.{GREATEST_EYE_COORDINATE};
 ghost use Rattle.pm_view.specs.declared.limits.TheConstants.{GREATEST_TOLERANCE};
-ghost use Rattle.pm_view.specs.Views.{is_plane};
+ghost use Rattle.pm_view.specs.Views.{IsEye, is_plane};
 ghost use Rattle.pm_view.specs.Fields.{spaced_fields, fields_after, eye_of, plane_read};
 ghost use Rattle.pm_view.specs.Fields.{first_plane, planes_of, first_sil, view_of};
 
+use crate::eye::Eye;
 use crate::limits::{
     GREATEST_EYE_COORDINATE, GREATEST_FOCAL_LENGTH, GREATEST_NORMAL_COMPONENT, GREATEST_OFFSET,
     GREATEST_TOLERANCE,
@@ -60,17 +60,14 @@ pub fn next_field(rest: &[u8]) -> Option<(&[u8], &[u8])>
 }
 
 #[tactic(auto, unfolding(crate::specs::Fields::eye_of))]
-fn read_eye(x: &[u8], y: &[u8], z: &[u8]) -> Option<(i32, i32, i32)>
-    ensures value { MatchOption result (eye_of x.now y.now z.now ≡ None)
-        (λ e. eye_of x.now y.now z.now ≡ Some (record { x = e.0; y = e.1; z = e.2 })) }
-    ensures x_small { IfSome result (λ e. unsigned_abs e.0 ≤ GREATEST_EYE_COORDINATE) }
-    ensures y_small { IfSome result (λ e. unsigned_abs e.1 ≤ GREATEST_EYE_COORDINATE) }
-    ensures z_small { IfSome result (λ e. unsigned_abs e.2 ≤ GREATEST_EYE_COORDINATE) }
+fn read_eye(x: &[u8], y: &[u8], z: &[u8]) -> Option<Eye>
+    ensures value { result ≡ eye_of x.now y.now z.now }
+    ensures in_range { IfSome result IsEye }
 {
-    let ex = read_small(x, GREATEST_EYE_COORDINATE)?;
-    let ey = read_small(y, GREATEST_EYE_COORDINATE)?;
-    let ez = read_small(z, GREATEST_EYE_COORDINATE)?;
-    Some((ex, ey, ez))
+    let x = read_small(x, GREATEST_EYE_COORDINATE)?;
+    let y = read_small(y, GREATEST_EYE_COORDINATE)?;
+    let z = read_small(z, GREATEST_EYE_COORDINATE)?;
+    Eye::new(x, y, z)
 }
 
 #[tactic(auto, unfolding(crate::specs::Fields::plane_read))]

@@ -2,6 +2,7 @@
 //! forest.
 #![tactic(auto)]
 
+mod eye;
 mod facing;
 mod fields;
 mod limits;

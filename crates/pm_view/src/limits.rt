@@ -1,4 +1,5 @@
 //! The limits of views, which code and clauses cite by name.
+ghost use Rattle.std.specs.Prelude.{◌≡◌, nat_le, unsigned_abs};
 
 /// The greatest coordinate of the eye in absolute value. The eye may stand outside the range of
 /// points.
@@ -26,3 +27,10 @@ const _: () = prove!(GREATEST_TOLERANCE == 65_535);
 const _: () = prove!(GREATEST_NORMAL_COMPONENT == 32_767);
 
 const _: () = prove!(GREATEST_OFFSET == 4_398_046_511_104);
+
+/// Whether a number is at most `most` away from 0.
+pub fn is_within(n: i32, most: u32) -> bool
+    ensures { result ≡ nat_le (unsigned_abs n) most }
+{
+    n.unsigned_abs() <= most
+}

@@ -8,6 +8,7 @@ ghost use Rattle.pm_view.specs.declared.limits.TheConstants.{GREATEST_NORMAL_COM
 ghost use Rattle.pm_view.specs.Views.{is_plane};
 ghost use Rattle.pm_view.specs.Wanted.{value_at, normal_in, is_outside, is_outside_any};
 
+use crate::limits::{GREATEST_NORMAL_COMPONENT, GREATEST_OFFSET, is_within};
 use crate::size::square;
 use pm_base::Point;
 
@@ -64,6 +65,16 @@ fn is_beyond(m: i64, n: u64, radius: u64) -> bool
 }
 
 impl Plane {
+    // Whether each number is in range.
+    fn is_in_range(&self) -> bool
+        ensures { result ≡ is_plane self.now }
+    {
+        is_within(self.a, GREATEST_NORMAL_COMPONENT)
+            && is_within(self.b, GREATEST_NORMAL_COMPONENT)
+            && is_within(self.c, GREATEST_NORMAL_COMPONENT)
+            && self.d.unsigned_abs() <= GREATEST_OFFSET
+    }
+
     // The value at a place.
     fn value_at(&self, p: Point) -> i64
         requires { is_plane self.now ≡ true }
@@ -95,6 +106,13 @@ impl Plane {
     {
         is_beyond(self.value_at(p), self.squared_length(), radius)
     }
+}
+
+/// Whether each plane is in range.
+pub fn are_planes(planes: &[Plane]) -> bool
+    ensures { result ≡ list_all is_plane planes.now }
+{
+    planes.iter().all(|plane| plane.is_in_range())
 }
 
 /// Whether the whole ball round p lies on the negative side of one of the planes.

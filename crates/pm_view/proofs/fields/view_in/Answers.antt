@@ -11,15 +11,6 @@ within_range-requires-clause-tol c = unsigned_small 65535 c.in_ok-tol-2.tol _ c.
 pub read_sil-requires : goal.read_sil-requires
 read_sil-requires c = unsigned_small 65535 c.in_ok-tol-2.tol _ c.in_ok-tol-2.ensures
 
-pub within_range-requires-clause-x : goal.within_range-requires-clause-x
-within_range-requires-clause-x c = c.in_ok-eye.ensures.x_small
-
-pub within_range-requires-clause-y : goal.within_range-requires-clause-y
-within_range-requires-clause-y c = c.in_ok-eye.ensures.y_small
-
-pub within_range-requires-clause-z : goal.within_range-requires-clause-z
-within_range-requires-clause-z c = c.in_ok-eye.ensures.z_small
-
 pub within_range-requires-clause-sil : goal.within_range-requires-clause-sil
 within_range-requires-clause-sil c = c.in_ok-sil.ensures.small
 

@@ -1,6 +1,6 @@
 use Rattle.std.proofs.Common.{w32, lit<}
 use Rattle.pm_view.proofs.Words.{read_small}
-use Rattle.pm_view.proofs.ViewLaws.{small_plane}
+use Rattle.pm_view.proofs.PlaneLaws.{small_plane}
 use Rattle.pm_view.proofs.plane.Plane.squared_length.Goals as goal
 
 pub square_of_component-requires : goal.square_of_component-requires

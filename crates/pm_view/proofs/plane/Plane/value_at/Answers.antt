@@ -1,7 +1,6 @@
 use Rattle.std.proofs.Common.{◌^◌, w32, w64, lit<}
 use Rattle.pm_view.proofs.Words.{read_small, equal_small}
-use Rattle.pm_view.proofs.PlaneLaws.{term_is, sum_is}
-use Rattle.pm_view.proofs.ViewLaws.{small_plane}
+use Rattle.pm_view.proofs.PlaneLaws.{small_plane, term_is, sum_is}
 use Rattle.pm_view.proofs.plane.Plane.value_at.Goals as goal
 
 pub component-requires : goal.component-requires

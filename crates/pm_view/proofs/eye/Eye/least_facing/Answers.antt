@@ -1,14 +1,14 @@
 use Rattle.std.proofs.Common.{◌≡◌, ◌^◌, refl, FitsSigned, w32, w64, rules, subst, lit<}
 use mir.Syntax.{w128}
 use Rattle.std.proofs.lemmas.Int.{to_z-of_z}
-use Rattle.pm_view.specs.Views.{View}
-use Rattle.pm_view.specs.Wanted.{greatest_facing}
+use Rattle.pm_base.specs.Place.{Place}
+use Rattle.pm_view.specs.Wanted.{least_facing}
 use Rattle.pm_view.proofs.Words.{fits_small, read_small, equal_small}
 use Rattle.pm_view.proofs.Ends.{side_small}
-use Rattle.pm_view.proofs.view.View.greatest_facing.Goals as goal
+use Rattle.pm_view.proofs.eye.Eye.least_facing.Goals as goal
 
-pub greatest_on_axis-x-requires : goal.greatest_on_axis-x-requires
-greatest_on_axis-x-requires c = record {
+pub least_on_axis-x-requires : goal.least_on_axis-x-requires
+least_on_axis-x-requires c = record {
   low_small = side_small c.args.normals.low.x c.requires.box_small.0.0;
   high_small = side_small c.args.normals.high.x c.requires.box_small.1.0;
   at_small =
@@ -16,11 +16,11 @@ greatest_on_axis-x-requires c = record {
       c.x.ensures.in_range.0 (lit< tt);
   radius_small = c.requires.radius_small;
   eye_small =
-      read_small w32 c.self.inside.ex 16777215 c.self.invariant.eye_x (lit< tt);
+      read_small w32 c.self.inside.x 16777215 c.self.invariant.x (lit< tt);
 }
 
-pub greatest_on_axis-y-requires : goal.greatest_on_axis-y-requires
-greatest_on_axis-y-requires c = record {
+pub least_on_axis-y-requires : goal.least_on_axis-y-requires
+least_on_axis-y-requires c = record {
   low_small = side_small c.args.normals.low.y c.requires.box_small.0.1;
   high_small = side_small c.args.normals.high.y c.requires.box_small.1.1;
   at_small =
@@ -28,11 +28,11 @@ greatest_on_axis-y-requires c = record {
       c.y.ensures.in_range.1 (lit< tt);
   radius_small = c.requires.radius_small;
   eye_small =
-      read_small w32 c.self.inside.ey 16777215 c.self.invariant.eye_y (lit< tt);
+      read_small w32 c.self.inside.y 16777215 c.self.invariant.y (lit< tt);
 }
 
-pub greatest_on_axis-z-requires : goal.greatest_on_axis-z-requires
-greatest_on_axis-z-requires c = record {
+pub least_on_axis-z-requires : goal.least_on_axis-z-requires
+least_on_axis-z-requires c = record {
   low_small = side_small c.args.normals.low.z c.requires.box_small.0.2;
   high_small = side_small c.args.normals.high.z c.requires.box_small.1.2;
   at_small =
@@ -40,34 +40,34 @@ greatest_on_axis-z-requires c = record {
       c.z.ensures.in_range.2 (lit< tt);
   radius_small = c.requires.radius_small;
   eye_small =
-      read_small w32 c.self.inside.ez 16777215 c.self.invariant.eye_z (lit< tt);
+      read_small w32 c.self.inside.z 16777215 c.self.invariant.z (lit< tt);
 }
 
 pub add_three-requires : goal.add_three-requires
 add_three-requires c = record {
   a_small =
-      read_small w128 c.greatest_on_axis-x.result (2 ^ 74) c.greatest_on_axis-x.ensures.small
+      read_small w128 c.least_on_axis-x.result (2 ^ 74) c.least_on_axis-x.ensures.small
       (lit< tt);
   b_small =
-      read_small w128 c.greatest_on_axis-y.result (2 ^ 74) c.greatest_on_axis-y.ensures.small
+      read_small w128 c.least_on_axis-y.result (2 ^ 74) c.least_on_axis-y.ensures.small
       (lit< tt);
   c_small =
-      read_small w128 c.greatest_on_axis-z.result (2 ^ 74) c.greatest_on_axis-z.ensures.small
+      read_small w128 c.least_on_axis-z.result (2 ^ 74) c.least_on_axis-z.ensures.small
       (lit< tt);
 }
 
 pub returns : goal.returns
-unfolding greatest_facing
+unfolding least_facing
 returns c error deviation =
     let sum : FitsSigned w128 c.add_three.result = search rules in
     let rx =
-    fits_small w128 c.greatest_on_axis-x.result (2 ^ 74) c.greatest_on_axis-x.ensures.small
+    fits_small w128 c.least_on_axis-x.result (2 ^ 74) c.least_on_axis-x.ensures.small
     (lit< tt) in
     let ry =
-    fits_small w128 c.greatest_on_axis-y.result (2 ^ 74) c.greatest_on_axis-y.ensures.small
+    fits_small w128 c.least_on_axis-y.result (2 ^ 74) c.least_on_axis-y.ensures.small
     (lit< tt) in
     let rz =
-    fits_small w128 c.greatest_on_axis-z.result (2 ^ 74) c.greatest_on_axis-z.ensures.small
+    fits_small w128 c.least_on_axis-z.result (2 ^ 74) c.least_on_axis-z.ensures.small
     (lit< tt) in
     let lx : FitsSigned w64 c.args.normals.low.x = search rules in
     let ly : FitsSigned w64 c.args.normals.low.y = search rules in
@@ -78,23 +78,23 @@ returns c error deviation =
     let px : FitsSigned w32 c.x.result = search rules in
     let py : FitsSigned w32 c.y.result = search rules in
     let pz : FitsSigned w32 c.z.result = search rules in
-    let ex : FitsSigned w32 c.self.inside.ex = search rules in
-    let ey : FitsSigned w32 c.self.inside.ey = search rules in
-    let ez : FitsSigned w32 c.self.inside.ez = search rules in
+    let ex : FitsSigned w32 c.self.inside.x = search rules in
+    let ey : FitsSigned w32 c.self.inside.y = search rules in
+    let ez : FitsSigned w32 c.self.inside.z = search rules in
     simp to_z-of_z
-    (subst (λ (v : View). c.add_three.result
-    ≡ greatest_facing (record {
+    (subst (λ (v : Place). c.add_three.result
+    ≡ least_facing (record {
       place = c.args.place;
       error = error;
       deviation = deviation;
       radius = c.args.radius;
       box = c.args.normals;
-    }) v.eye) c.self.view_is
+    }) v) c.self.view_is
     (rw c.add_three.ensures
     (simp to_z-of_z
     (rw (
-      c.greatest_on_axis-x.ensures.value,
-      c.greatest_on_axis-y.ensures.value,
-      c.greatest_on_axis-z.ensures.value,
+      c.least_on_axis-x.ensures.value,
+      c.least_on_axis-y.ensures.value,
+      c.least_on_axis-z.ensures.value,
     )
     (simp to_z-of_z (rw (c.x.ensures.value, c.y.ensures.value, c.z.ensures.value) refl))))))
