@@ -1,6 +1,7 @@
 pub mod Ring
 pub mod Squares
 pub mod Range
+pub mod ReadBack
 pub mod Lengths
 pub mod Root
 pub mod Sides

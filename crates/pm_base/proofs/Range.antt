@@ -1,7 +1,6 @@
 -- How far from 0 products and normals can be.
-use Rattle.std.proofs.Common.{◌≡◌, ℕ, ◌*◌, ◌^◌, ◌<◌, ◌≤◌, FitsSigned, w32, w64, to_z, of_z, arith}
+use Rattle.std.proofs.Common.{◌≡◌, ℕ, ◌*◌, ◌≤◌, w32, to_z, of_z, arith}
 use Rattle.std.proofs.lemmas.Grind.{common_steps}
-use mir.Syntax.{w128}
 use Rattle.std.specs.Prelude.{ℤ, ◌-ℤ◌, ◌*ℤ◌, unsigned_abs}
 use Rattle.std.proofs.lemmas.Nat.{mul-le}
 use Rattle.std.proofs.lemmas.Int.{unsigned_abs-mul, to_z-of_z, fits_signed_from_abs}
@@ -27,11 +26,3 @@ cross_small a b c p q r = grind (arith, common_steps, above_small, minor_small)
 -- A coordinate stands in 32 bits.
 pub coordinate_kept : (x : ℤ) → unsigned_abs x ≤ 32767 → to_z w32 (of_z w32 x) ≡ x
 coordinate_kept x p = to_z-of_z w32 x (fits_signed_from_abs w32 x (omega arith))
-
--- A number stands in 64 bits that is far from their bound.
-pub read_small : (x : ℤ) (m : ℕ) → unsigned_abs x ≤ m → m ≤ 2 ^ 62
-    → unsigned_abs (to_z w64 (of_z w64 x)) ≤ m
-read_small x m p q = let f = fits_signed_from_abs w64 x (omega arith) in simp to_z-of_z p
-
-pub fits_abs : (x : ℤ) (m : ℕ) → unsigned_abs x ≤ m → m < 2 ^ 127 → FitsSigned w128 x
-fits_abs x m p q = fits_signed_from_abs w128 x (omega arith)

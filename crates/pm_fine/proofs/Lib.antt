@@ -13,6 +13,5 @@ mod LevelLaws
 mod NearLaws
 mod NormalLaws
 mod QuotientLaws
-mod Words
 mod Products
 mod ReadBack

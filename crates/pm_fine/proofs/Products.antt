@@ -1,25 +1,26 @@
 -- Products and their sums in matrices and slopes, read back from their bits.
 use Rattle.std.proofs.Common.{◌≡◌, ℕ, ◌-◌, ◌*◌, ◌^◌, ◌≤◌, FitsSigned, to_z, of_z, refl, ◌∙◌, w64}
-use Rattle.std.proofs.Common.{arith, lit≤}
+use Rattle.std.proofs.Common.{arith, lit≤, lit<}
 use mir.Syntax.{w128}
 use Rattle.std.specs.Prelude.{ℤ, ◌+ℤ◌, ◌-ℤ◌, ◌*ℤ◌, unsigned_abs}
 use Rattle.std.proofs.lemmas.Int.{to_z-of_z}
 use borrow.Author.Differences.{ints}
-use Rattle.pm_quadric.proofs.Words.{read_small}
-use Rattle.pm_fine.proofs.Words.{at_most_product}
+use Rattle.pm_base.proofs.ReadBack.{read_small}
+use Rattle.pm_quadric.proofs.Words.{at_most_product}
 
 -- How great a product of two numbers is.
 pub read_product : (a b : ℤ) (m n k : ℕ) → unsigned_abs a ≤ m → unsigned_abs b ≤ n → m ≤ 2 ^ 125
     → n ≤ 2 ^ 125 → m * n ≤ k
     → unsigned_abs (to_z w128 (of_z w128 a)) * unsigned_abs (to_z w128 (of_z w128 b)) ≤ k
 read_product a b m n k p q r s t =
-    at_most_product _ _ m n k (read_small a m p r) (read_small b n q s) t
+    at_most_product _ _ m n k (read_small w128 a m p (omega arith))
+    (read_small w128 b n q (omega arith)) t
 
 -- A cofactor times a number of a vector.
 pub entry_small : (a x : ℤ) → unsigned_abs a ≤ 2 ^ 67 → unsigned_abs x ≤ 2 ^ 52 - 1
     → unsigned_abs (to_z w128 (of_z w128 a)) * unsigned_abs x ≤ 2 ^ 122
 entry_small a x p q =
-    at_most_product _ _ (2 ^ 67) (2 ^ 52 - 1) (2 ^ 122) (read_small a (2 ^ 67) p (lit≤ tt)) q
+    at_most_product _ _ (2 ^ 67) (2 ^ 52 - 1) (2 ^ 122) (read_small w128 a (2 ^ 67) p (lit< tt)) q
     (lit≤ tt)
 
 pub abs_fits : (a : ℤ) → FitsSigned w64 a → unsigned_abs a ≤ 2 ^ 63

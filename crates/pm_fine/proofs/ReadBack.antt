@@ -1,29 +1,9 @@
--- The eleven numbers of a new quadric, read back from their bits.
-use Rattle.std.proofs.Common.{◌≡◌, ◌+◌, ◌^◌, w64, FitsSigned, to_z, of_z, refl, ◌∙◌, ap, lit≤}
-use mir.Syntax.{w128}
-use Rattle.std.specs.Prelude.{ℤ, pos, ◌*ℤ◌}
-use Rattle.std.proofs.lemmas.Int.{to_z-of_z}
-use Rattle.pm_quadric.specs.Planes.{Plane}
-use Rattle.pm_quadric.specs.Sums.{Sums, plus_sums, coefficients}
+-- Two quadrics together, whose eleven numbers are read back from their bits.
+use Rattle.std.proofs.Common.{◌≡◌, ◌^◌, refl, ◌∙◌, ap, lit≤}
+use Rattle.pm_quadric.specs.Sums.{Sums, plus_sums}
+use Rattle.pm_quadric.proofs.Words.{sum_is}
+use Rattle.pm_quadric.proofs.ReadBack.{sums_read}
 use Rattle.pm_fine.specs.FineSums.{IsFineSmall}
-use Rattle.pm_fine.proofs.Words.{sum_read, sum_is}
-
--- Two quadrics together.
-abbrev pub sums_read : Sums → Sums → Sums
-sums_read s t = record {
-  xx = sum_read s.xx t.xx;
-  xy = sum_read s.xy t.xy;
-  xz = sum_read s.xz t.xz;
-  x = sum_read s.x t.x;
-  yy = sum_read s.yy t.yy;
-  yz = sum_read s.yz t.yz;
-  y = sum_read s.y t.y;
-  zz = sum_read s.zz t.zz;
-  z = sum_read s.z t.z;
-  one = sum_read s.one t.one;
-  count =
-      s.count + t.count;
-}
 
 sums_read-plus : (s t : Sums) → IsFineSmall s → IsFineSmall t → sums_read s t ≡ plus_sums s t
 sums_read-plus s t h k =
@@ -45,42 +25,3 @@ pub sums_read-is : (s t u v : Sums) → IsFineSmall s → IsFineSmall t → s �
 sums_read-is s t u v h k p q =
     sums_read-plus s t h k
     ∙ (ap (λ (r : Sums). plus_sums r t) p ∙ ap (λ (r : Sums). plus_sums u r) q)
-
--- The ten products of two numbers of a plane.
-pub pair_is : (r a b a' b' : ℤ) → FitsSigned w128 r
-    → r ≡ to_z w64 (of_z w64 a) *ℤ to_z w64 (of_z w64 b) → FitsSigned w64 a → FitsSigned w64 b
-    → a ≡ a' → b ≡ b' → to_z w128 (of_z w128 r) ≡ a' *ℤ b'
-pair_is r a b a' b' fr e fa fb ea eb = to_z-of_z w128 r fr ∙ (e ∙ simp to_z-of_z (rw (ea, eb) refl))
-
-pub double_is : (r a b a' b' : ℤ) → FitsSigned w128 r
-    → r ≡ pos 2 *ℤ (to_z w64 (of_z w64 a) *ℤ to_z w64 (of_z w64 b)) → FitsSigned w64 a
-    → FitsSigned w64 b → a ≡ a' → b ≡ b' → to_z w128 (of_z w128 r) ≡ pos 2 *ℤ (a' *ℤ b')
-double_is r a b a' b' fr e fa fb ea eb =
-    to_z-of_z w128 r fr ∙ (e ∙ simp to_z-of_z (rw (ea, eb) refl))
-
-pub coefficients_are : (f : Plane) (r1 r2 r3 r4 r5 r6 r7 r8 r9 r10 : ℤ)
-    → r1 ≡ f.a *ℤ f.a
-    → r2 ≡ pos 2 *ℤ (f.a *ℤ f.b)
-    → r3 ≡ pos 2 *ℤ (f.a *ℤ f.c)
-    → r4 ≡ pos 2 *ℤ (f.a *ℤ f.d)
-    → r5 ≡ f.b *ℤ f.b
-    → r6 ≡ pos 2 *ℤ (f.b *ℤ f.c)
-    → r7 ≡ pos 2 *ℤ (f.b *ℤ f.d)
-    → r8 ≡ f.c *ℤ f.c
-    → r9 ≡ pos 2 *ℤ (f.c *ℤ f.d)
-    → r10 ≡ f.d *ℤ f.d
-    → (let s : Sums = record {
-      xx = r1;
-      xy = r2;
-      xz = r3;
-      x = r4;
-      yy = r5;
-      yz = r6;
-      y = r7;
-      zz = r8;
-      z = r9;
-      one = r10;
-      count = 1;
-    } in s) ≡ coefficients f
-coefficients_are f r1 r2 r3 r4 r5 r6 r7 r8 r9 r10 e1 e2 e3 e4 e5 e6 e7 e8 e9 e10 =
-    rw (e1, e2, e3, e4, e5, e6, e7, e8, e9, e10) refl

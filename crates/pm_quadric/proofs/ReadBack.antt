@@ -6,7 +6,8 @@ use Rattle.std.specs.Prelude.{ℤ, pos, ◌+ℤ◌, ◌*ℤ◌, neg_ℤ, unsigne
 use Rattle.std.proofs.lemmas.Int.{to_z-of_z}
 use Rattle.pm_base.specs.Place.{Place}
 use Rattle.pm_base.specs.Geometry.{Direction}
-use Rattle.pm_base.proofs.Range.{abs_product, fits_abs}
+use Rattle.pm_base.proofs.Range.{abs_product}
+use Rattle.pm_base.proofs.ReadBack.{fits_small}
 use Rattle.pm_quadric.specs.Planes.{Plane, plane_through}
 use Rattle.pm_quadric.specs.Sums.{Sums, plus_sums, coefficients}
 use Rattle.pm_quadric.specs.Quadrics.{IsSmall}
@@ -60,8 +61,8 @@ pub twice_fits : (a b : ℤ) → unsigned_abs a ≤ 2 ^ 50 → unsigned_abs b �
     → FitsSigned w128 (pos 2 *ℤ (a *ℤ b))
 twice_fits a b p q =
     let h = abs_product a b (2 ^ 50) (2 ^ 50) p q in
-    fits_abs (pos 2 *ℤ (a *ℤ b)) (2 ^ 101) (abs_product (pos 2) (a *ℤ b) 2 (2 ^ 100) (lit≤ tt) h)
-    (lit< tt)
+    fits_small w128 (pos 2 *ℤ (a *ℤ b)) (2 ^ 101)
+    (abs_product (pos 2) (a *ℤ b) 2 (2 ^ 100) (lit≤ tt) h) (lit< tt)
 
 pub pair_is : (r a b a' b' : ℤ) → FitsSigned w128 r
     → r ≡ to_z w64 (of_z w64 a) *ℤ to_z w64 (of_z w64 b) → FitsSigned w64 a → FitsSigned w64 b

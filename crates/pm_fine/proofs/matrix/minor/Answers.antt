@@ -1,6 +1,7 @@
-use Rattle.std.proofs.Common.{◌^◌, lit≤, rules}
+use Rattle.std.proofs.Common.{◌^◌, lit≤, rules, lit<}
 use Rattle.std.proofs.Math.Nat.{le_trans}
-use Rattle.pm_quadric.proofs.Words.{read_small}
+use mir.Syntax.{w128}
+use Rattle.pm_base.proofs.ReadBack.{read_small}
 use Rattle.pm_fine.proofs.Products.{read_product, product_is, difference_is}
 use Rattle.pm_fine.proofs.matrix.minor.Goals as goal
 
@@ -16,17 +17,17 @@ product-requires-2 c =
 
 pub minus-requires-clause-a_small : goal.minus-requires-clause-a_small
 minus-requires-clause-a_small c =
-    read_small c.product.result (2 ^ 66)
+    read_small w128 c.product.result (2 ^ 66)
     (le_trans c.product.ensures.small
     (read_product c.args.a c.args.b (2 ^ 33) (2 ^ 33) (2 ^ 66) c.requires.a_small c.requires.b_small
-    (lit≤ tt) (lit≤ tt) (lit≤ tt))) (lit≤ tt)
+    (lit≤ tt) (lit≤ tt) (lit≤ tt))) (lit< tt)
 
 pub minus-requires-clause-b_small : goal.minus-requires-clause-b_small
 minus-requires-clause-b_small c =
-    read_small c.product-2.result (2 ^ 66)
+    read_small w128 c.product-2.result (2 ^ 66)
     (le_trans c.product-2.ensures.small
     (read_product c.args.c c.args.d (2 ^ 33) (2 ^ 33) (2 ^ 66) c.requires.c_small c.requires.d_small
-    (lit≤ tt) (lit≤ tt) (lit≤ tt))) (lit≤ tt)
+    (lit≤ tt) (lit≤ tt) (lit≤ tt))) (lit< tt)
 
 pub returns-clause-value : goal.returns-clause-value
 returns-clause-value c =

@@ -1,6 +1,6 @@
 use Rattle.std.proofs.Common.{lit≤, ◌^◌, unsigned_abs}
 use Rattle.std.proofs.lemmas.Int.{to_z-of_z}
-use Rattle.pm_fine.proofs.Words.{at_most_product}
+use Rattle.pm_quadric.proofs.Words.{at_most_product}
 use Rattle.pm_fine.proofs.terms.linear.Goals as goal
 
 pub times-requires : goal.times-requires

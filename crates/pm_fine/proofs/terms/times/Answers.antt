@@ -1,7 +1,7 @@
 use Rattle.std.proofs.Common.{◌∙◌, ap, ℤ, ◌*ℤ◌, FitsSigned, rules}
 use mir.Syntax.{w128}
 use Rattle.std.proofs.lemmas.Int.{to_z-of_z}
-use Rattle.pm_fine.proofs.Words.{times_fits, times_is, times_small}
+use Rattle.pm_quadric.proofs.Words.{times_fits, times_is, times_small}
 use Rattle.pm_fine.proofs.terms.times.Goals as goal
 
 pub overflow_mul-result : goal.overflow_mul-result

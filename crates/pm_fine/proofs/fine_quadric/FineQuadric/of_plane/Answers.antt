@@ -2,8 +2,8 @@ use Rattle.std.proofs.Common.{◌∙◌, sym, subst, w64, FitsSigned, lit≤, ru
 use Rattle.pm_quadric.specs.Planes.{Plane}
 use Rattle.pm_quadric.proofs.Expansion.{sums-one}
 use Rattle.pm_quadric.proofs.Words.{kept_small}
+use Rattle.pm_quadric.proofs.ReadBack.{pair_is, double_is, coefficients_are}
 use Rattle.pm_fine.specs.FineSums.{IsFineQuadric}
-use Rattle.pm_fine.proofs.ReadBack.{pair_is, double_is, coefficients_are}
 use Rattle.pm_fine.proofs.FineLaws.{fine_one}
 use Rattle.pm_fine.proofs.fine_quadric.FineQuadric.of_plane.Goals as goal
 

@@ -1,20 +1,21 @@
-use Rattle.std.proofs.Common.{◌^◌, ap, lit≤, rules}
+use Rattle.std.proofs.Common.{◌^◌, ap, rules, lit<}
 use Rattle.pm_quadric.specs.Sums.{Sums}
-use Rattle.pm_quadric.proofs.Words.{read_small}
+use mir.Syntax.{w128}
+use Rattle.pm_base.proofs.ReadBack.{read_small}
 use Rattle.pm_quadric.proofs.Evaluated.{quadratic_is, three_are}
 use Rattle.pm_fine.proofs.fine_quadric.FineQuadric.squares_at.Goals as goal
 
 pub add_three-requires-clause-a_small : goal.add_three-requires-clause-a_small
 add_three-requires-clause-a_small c =
-    read_small c.quadratic.result (2 ^ 122) c.quadratic.ensures.small (lit≤ tt)
+    read_small w128 c.quadratic.result (2 ^ 122) c.quadratic.ensures.small (lit< tt)
 
 pub add_three-requires-clause-b_small : goal.add_three-requires-clause-b_small
 add_three-requires-clause-b_small c =
-    read_small c.quadratic-2.result (2 ^ 122) c.quadratic-2.ensures.small (lit≤ tt)
+    read_small w128 c.quadratic-2.result (2 ^ 122) c.quadratic-2.ensures.small (lit< tt)
 
 pub add_three-requires-clause-c_small : goal.add_three-requires-clause-c_small
 add_three-requires-clause-c_small c =
-    read_small c.quadratic-3.result (2 ^ 122) c.quadratic-3.ensures.small (lit≤ tt)
+    read_small w128 c.quadratic-3.result (2 ^ 122) c.quadratic-3.ensures.small (lit< tt)
 
 pub returns-clause-value : goal.returns-clause-value
 returns-clause-value c =

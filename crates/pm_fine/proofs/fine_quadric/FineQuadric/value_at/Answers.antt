@@ -1,6 +1,6 @@
 use Rattle.std.proofs.Common.{ℕ, ◌<◌, ◌^◌, ◌∙◌, sym, subst, FitsSigned, rules}
 use mir.Syntax.{w128}
-use Rattle.pm_fine.proofs.Words.{abs_read}
+use Rattle.pm_quadric.proofs.Words.{abs_read}
 use Rattle.pm_quadric.proofs.QuadricLaws.{polynomial_is}
 use Rattle.pm_fine.proofs.FineLaws.{polynomial_below}
 use Rattle.pm_fine.proofs.fine_quadric.FineQuadric.value_at.Goals as goal

@@ -1,4 +1,5 @@
--- Machine integers, which goals show as bits that are read back.
+-- Machine integers of any width, which goals show as bits that are read back: a number that is far
+-- from the bound of its width, and sums, differences and products of such.
 use Rattle.std.proofs.Common.{◌≡◌, ℕ, ◌+◌, ◌*◌, ◌^◌, ◌<◌, ◌≤◌, FitsSigned, to_z, of_z, refl}
 use Rattle.std.proofs.Common.{arith}
 use Rattle.std.proofs.Math.Nat.{le_trans}
