@@ -2,7 +2,7 @@
 use Rattle.std.proofs.Common.{◌≡◌, ◌^◌, ◌≤◌, w32, w64, to_z, of_z, refl, ◌∙◌, lit<}
 use mir.Syntax.{w128}
 use Rattle.std.specs.Prelude.{ℤ, ◌+ℤ◌, ◌-ℤ◌, ◌*ℤ◌, unsigned_abs}
-use Rattle.pm_view.proofs.Words.{read_is}
+use Rattle.pm_base.proofs.ReadBack.{read_is}
 
 pub minor_is : (r a b c d : ℤ)
     → r ≡ to_z w64 (of_z w64 a) *ℤ to_z w64 (of_z w64 d) -ℤ to_z w64 (of_z w64 b)

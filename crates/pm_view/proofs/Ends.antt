@@ -5,8 +5,8 @@ use Rattle.std.proofs.Math.Nat.{le_trans}
 use mir.Syntax.{w128}
 use Rattle.std.specs.Prelude.{ℤ, pos, ◌+ℤ◌, ◌-ℤ◌, unsigned_abs}
 use Rattle.std.proofs.lemmas.Int.{to_z-of_z, to_z_pos}
-use Rattle.pm_view.proofs.Words.{Computes, read_is, read_small, widened}
-use Rattle.pm_view.proofs.Words.{sum_computes, difference_computes}
+use Rattle.pm_base.proofs.ReadBack.{Computes, read_is, read_small, widened}
+use Rattle.pm_base.proofs.ReadBack.{sum_computes, difference_computes}
 
 abbrev pub read_below : ℤ → ℕ → ℤ
 read_below at radius = to_z w64 (of_z w64 at) -ℤ to_z w64 radius

@@ -1,4 +1,3 @@
-pub mod Words
 pub mod PlaneLaws
 pub mod Ends
 pub mod Premises

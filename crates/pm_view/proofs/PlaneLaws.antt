@@ -5,7 +5,7 @@ use Rattle.std.specs.Prelude.{ℤ, ◌+ℤ◌, ◌*ℤ◌, unsigned_abs}
 use Rattle.pm_view.specs.declared.limits.TheConstants.{GREATEST_NORMAL_COMPONENT, GREATEST_OFFSET}
 use Rattle.pm_view.specs.declared.plane.Plane.{Plane}
 use Rattle.pm_view.specs.Views.{is_plane}
-use Rattle.pm_view.proofs.Words.{read_is}
+use Rattle.pm_base.proofs.ReadBack.{read_is}
 
 -- The numbers of a plane that passes the tests.
 pub record IsSmallPlane (f : Plane) : Type 0 where

@@ -1,6 +1,6 @@
 use Rattle.std.proofs.Common.{◌^◌, w64, lit<}
 use mir.Syntax.{w128}
-use Rattle.pm_view.proofs.Words.{read_small}
+use Rattle.pm_base.proofs.ReadBack.{read_small}
 use Rattle.pm_pick.proofs.WayLaws.{term_is, sum_is}
 use Rattle.pm_pick.proofs.ways.dot_of.Goals as goal
 

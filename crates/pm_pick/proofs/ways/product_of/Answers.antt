@@ -1,5 +1,5 @@
 use Rattle.std.proofs.Common.{◌^◌, w64, lit<}
-use Rattle.pm_view.proofs.Words.{read_small}
+use Rattle.pm_base.proofs.ReadBack.{read_small}
 use Rattle.pm_pick.proofs.WayLaws.{minor_is}
 use Rattle.pm_pick.proofs.ways.product_of.Goals as goal
 

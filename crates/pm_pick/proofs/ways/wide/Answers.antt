@@ -1,7 +1,7 @@
 use Rattle.std.proofs.Common.{◌^◌, w64, to_z, of_z, lit<, lit≤}
 use mir.Syntax.{w128}
 use Rattle.std.specs.Prelude.{◌*ℤ◌}
-use Rattle.pm_view.proofs.Words.{Computes, computed_small, wide_product}
+use Rattle.pm_base.proofs.ReadBack.{Computes, computed_small, wide_product}
 use Rattle.pm_pick.proofs.ways.wide.Goals as goal
 
 product_is : (c : goal.After-from-2)

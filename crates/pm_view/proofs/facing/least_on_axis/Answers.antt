@@ -1,7 +1,7 @@
 use Rattle.std.proofs.Common.{◌^◌, w32, w64, lit<}
 use mir.Syntax.{w128}
 use Rattle.pm_view.specs.Wanted.{least_product}
-use Rattle.pm_view.proofs.Words.{read_small}
+use Rattle.pm_base.proofs.ReadBack.{read_small}
 use Rattle.pm_view.proofs.Ends.{below_is, above_is, on_axis_is}
 use Rattle.pm_view.proofs.facing.least_on_axis.Goals as goal
 

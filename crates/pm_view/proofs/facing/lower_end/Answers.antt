@@ -1,6 +1,6 @@
 use Rattle.std.proofs.Common.{◌^◌, w64}
 use Rattle.std.specs.Prelude.{pos, ◌-ℤ◌}
-use Rattle.pm_view.proofs.Words.{Computes, computed_small}
+use Rattle.pm_base.proofs.ReadBack.{Computes, computed_small}
 use Rattle.pm_view.proofs.Ends.{read_below, below_computes, read_less, less_computes}
 use Rattle.pm_view.proofs.facing.lower_end.Goals as goal
 

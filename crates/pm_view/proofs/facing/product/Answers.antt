@@ -2,7 +2,7 @@ use Rattle.std.proofs.Common.{◌^◌, w64, lit<, lit≤}
 use mir.Syntax.{w128}
 use Rattle.std.specs.Prelude.{◌*ℤ◌}
 use Rattle.std.proofs.Common.{to_z, of_z}
-use Rattle.pm_view.proofs.Words.{Computes, computed_small, wide_product}
+use Rattle.pm_base.proofs.ReadBack.{Computes, computed_small, wide_product}
 use Rattle.pm_view.proofs.facing.product.Goals as goal
 
 product_is : (c : goal.After-from-2)

@@ -1,6 +1,6 @@
 use Rattle.std.proofs.Common.{◌^◌, w64, to_z, of_z, lit<, lit≤}
 use Rattle.std.specs.Prelude.{ℤ, ◌+ℤ◌}
-use Rattle.pm_view.proofs.Words.{Computes, computed_small, read_is, sum_computes}
+use Rattle.pm_base.proofs.ReadBack.{Computes, computed_small, read_is, sum_computes}
 use Rattle.pm_view.proofs.plane.add_four.Goals as goal
 
 abbrev read : ℤ → ℤ

@@ -1,6 +1,6 @@
 use Rattle.std.proofs.Common.{◌^◌, w32, w64, to_z, of_z, lit<, lit≤}
 use Rattle.std.specs.Prelude.{◌*ℤ◌}
-use Rattle.pm_view.proofs.Words.{Computes, computed_small, wide_product}
+use Rattle.pm_base.proofs.ReadBack.{Computes, computed_small, wide_product}
 use Rattle.pm_view.proofs.plane.component.Goals as goal
 
 product_is : (c : goal.After-from-2)

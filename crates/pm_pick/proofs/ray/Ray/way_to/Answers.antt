@@ -1,5 +1,5 @@
 use Rattle.std.proofs.Common.{w32, w64, ap, lit<}
-use Rattle.pm_view.proofs.Words.{read_small, equal_small}
+use Rattle.pm_base.proofs.ReadBack.{read_small, equal_small}
 use Rattle.pm_pick.specs.Rays.{Ray}
 use Rattle.pm_pick.proofs.WayLaws.{apart_is}
 use Rattle.pm_pick.proofs.ray.Ray.way_to.Goals as goal

@@ -3,7 +3,7 @@ use mir.Syntax.{w128}
 use Rattle.std.proofs.lemmas.Int.{to_z-of_z}
 use Rattle.pm_base.specs.Place.{Place}
 use Rattle.pm_view.specs.Wanted.{least_facing}
-use Rattle.pm_view.proofs.Words.{fits_small, read_small, equal_small}
+use Rattle.pm_base.proofs.ReadBack.{fits_small, read_small, equal_small}
 use Rattle.pm_view.proofs.Ends.{side_small}
 use Rattle.pm_view.proofs.eye.Eye.least_facing.Goals as goal
 

@@ -1,5 +1,5 @@
 use Rattle.std.proofs.Common.{w32, lit<}
-use Rattle.pm_view.proofs.Words.{read_small, equal_small}
+use Rattle.pm_base.proofs.ReadBack.{read_small, equal_small}
 use Rattle.pm_view.proofs.eye.Eye.squared_distance.Goals as goal
 
 pub squared_gap-requires : goal.squared_gap-requires

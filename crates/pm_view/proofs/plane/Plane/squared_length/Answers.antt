@@ -1,5 +1,5 @@
 use Rattle.std.proofs.Common.{w32, lit<}
-use Rattle.pm_view.proofs.Words.{read_small}
+use Rattle.pm_base.proofs.ReadBack.{read_small}
 use Rattle.pm_view.proofs.PlaneLaws.{small_plane}
 use Rattle.pm_view.proofs.plane.Plane.squared_length.Goals as goal
 

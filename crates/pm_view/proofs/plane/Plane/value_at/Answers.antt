@@ -1,5 +1,5 @@
 use Rattle.std.proofs.Common.{◌^◌, w32, w64, lit<}
-use Rattle.pm_view.proofs.Words.{read_small, equal_small}
+use Rattle.pm_base.proofs.ReadBack.{read_small, equal_small}
 use Rattle.pm_view.proofs.PlaneLaws.{small_plane, term_is, sum_is}
 use Rattle.pm_view.proofs.plane.Plane.value_at.Goals as goal
 
