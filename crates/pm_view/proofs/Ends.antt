@@ -1,8 +1,10 @@
 -- The ends of a point box less the eye, on one axis, as they are computed.
-use Rattle.std.proofs.Common.{◌≡◌, ℕ, ◌^◌, ◌≤◌, w32, w64, FitsSigned, to_z, of_z, refl, ◌∙◌}
+use Rattle.std.proofs.Common.{◌≡◌, ℕ, ◌^◌, ◌<◌, ◌≤◌, w32, w64, FitsSigned, to_z, of_z, refl, ◌∙◌}
 use Rattle.std.proofs.Common.{arith, lit<, lit≤}
 use Rattle.std.proofs.Math.Nat.{le_trans}
-use mir.Syntax.{w128}
+use mir.Syntax.{Width}
+use mir.Val.{hbits}
+use borrow.Author.Differences.{ints}
 use Rattle.std.specs.Prelude.{ℤ, pos, ◌+ℤ◌, ◌-ℤ◌, unsigned_abs}
 use Rattle.std.proofs.lemmas.Int.{to_z-of_z, to_z_pos}
 use Rattle.pm_base.proofs.ReadBack.{Computes, read_is, read_small, widened}
@@ -53,20 +55,36 @@ pub above_is : (r at eye : ℤ) (radius : ℕ) → FitsSigned w32 at → FitsSig
     → r ≡ at +ℤ pos radius -ℤ eye
 above_is r at eye radius f g e = e ∙ rw (to_z-of_z w32 at f, to_z-of_z w32 eye g) refl
 
+-- The ends for a small ball.
+pub small_below : (r at eye : ℤ) (radius : ℕ) → FitsSigned w32 at → FitsSigned w32 eye
+    → r ≡ to_z w32 (of_z w32 at) -ℤ pos radius -ℤ to_z w32 (of_z w32 eye)
+    → unsigned_abs at ≤ 32767 → radius ≤ 16777216 → unsigned_abs eye ≤ 16777215
+    → unsigned_abs r ≤ 2 ^ 26
+small_below r at eye radius f g e p q s =
+    let is = below_is r at eye radius f g e in omega (arith, ints, is, p, q, s)
+
+pub small_above : (r at eye : ℤ) (radius : ℕ) → FitsSigned w32 at → FitsSigned w32 eye
+    → r ≡ to_z w32 (of_z w32 at) +ℤ pos radius -ℤ to_z w32 (of_z w32 eye)
+    → unsigned_abs at ≤ 32767 → radius ≤ 16777216 → unsigned_abs eye ≤ 16777215
+    → unsigned_abs r ≤ 2 ^ 26
+small_above r at eye radius f g e p q s =
+    let is = above_is r at eye radius f g e in omega (arith, ints, is, p, q, s)
+
 -- A product on an axis, by two ends of each interval.
-pub on_axis_is : (product : ℤ → ℤ → ℤ → ℤ → ℤ) (r a b c d c' d' : ℤ)
+pub on_axis_is : (v : Width) (k n : ℕ) → k < 2 ^ 63 → n < 2 ^ hbits v
+    → (product : ℤ → ℤ → ℤ → ℤ → ℤ) (r a b c d c' d' : ℤ)
     → r ≡ product (to_z w64 (of_z w64 a)) (to_z w64 (of_z w64 b)) (to_z w64 (of_z w64 c))
     (to_z w64 (of_z w64 d))
-    → unsigned_abs a ≤ 2 ^ 34 → unsigned_abs b ≤ 2 ^ 34 → unsigned_abs c ≤ 2 ^ 40
-    → unsigned_abs d ≤ 2 ^ 40 → unsigned_abs r ≤ 2 ^ 74 → c ≡ c' → d ≡ d'
-    → to_z w128 (of_z w128 r) ≡ product a b c' d'
-on_axis_is product r a b c d c' d' e sa sb sc sd sr ec ed =
-    read_is w128 r (2 ^ 74) sr (lit< tt)
+    → unsigned_abs a ≤ 2 ^ 34 → unsigned_abs b ≤ 2 ^ 34 → unsigned_abs c ≤ k
+    → unsigned_abs d ≤ k → unsigned_abs r ≤ n → c ≡ c' → d ≡ d'
+    → to_z v (of_z v r) ≡ product a b c' d'
+on_axis_is v k n kk nn product r a b c d c' d' e sa sb sc sd sr ec ed =
+    read_is v r n sr nn
     ∙ (e ∙ rw (
       read_is w64 a (2 ^ 34) sa (lit< tt),
       read_is w64 b (2 ^ 34) sb (lit< tt),
-      read_is w64 c (2 ^ 40) sc (lit< tt),
-      read_is w64 d (2 ^ 40) sd (lit< tt),
+      read_is w64 c k sc kk,
+      read_is w64 d k sd kk,
       ec,
       ed,
     ) refl)

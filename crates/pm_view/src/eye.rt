@@ -4,12 +4,14 @@ ghost use Rattle.std.specs.Prelude.{IfSome, OnSome, IfNone};
 ghost use Rattle.pm_base.specs.Geometry.{dist2_of};
 ghost use Rattle.pm_bounds.specs.Boxes.{IsSmallBox};
 ghost use Rattle.pm_bounds.specs.declared.normal_box.NormalBox.{NormalBox};
+ghost use Rattle.pm_view.specs.declared.small_ball.TheConstants.{SMALL_RADIUS};
 ghost use Rattle.pm_view.specs.Views.{is_eye};
 ghost use Rattle.pm_view.specs.Wanted.{Bounded, least_facing, greatest_facing, may_turn_away};
 
 use crate::facing::{add_three, greatest_on_axis, least_on_axis};
 use crate::limits::{GREATEST_EYE_COORDINATE, is_within};
 use crate::size::squared_gap;
+use crate::small_ball::{SMALL_RADIUS, add_three_small, least_in_small_ball};
 use pm_base::Point;
 use pm_bounds::NormalBox;
 use std::marker::Model;
@@ -83,6 +85,26 @@ impl Eye {
         add_three(x, y, z)
     }
 
+    // The same for a small ball, in 64 bits.
+    fn least_facing_small_ball(&self, place: Point, radius: u64, normals: NormalBox) -> i64
+        requires radius_small { radius ≤ SMALL_RADIUS }
+        requires box_small { IsSmallBox normals }
+        ensures { (error deviation : ℕ)
+            → result ≡ least_facing (record {
+              place = place;
+              error = error;
+              deviation = deviation;
+              radius = radius;
+              box = normals;
+            }) self.now }
+    {
+        let (low, high) = (normals.low, normals.high);
+        let x = least_in_small_ball(low.x, high.x, place.x(), radius, self.x);
+        let y = least_in_small_ball(low.y, high.y, place.y(), radius, self.y);
+        let z = least_in_small_ball(low.z, high.z, place.z(), radius, self.z);
+        add_three_small(x, y, z)
+    }
+
     // Whether a face in the ball, with its normal in the box, may be turned to the eye.
     pub(crate) fn may_face(&self, place: Point, radius: u64, normals: NormalBox) -> bool
         requires radius_small { radius ≤ 2 ^ 38 }
@@ -97,7 +119,11 @@ impl Eye {
               box = normals;
             }) self.now) (pos 0) }
     {
-        self.least_facing(place, radius, normals) <= 0
+        if radius <= SMALL_RADIUS {
+            self.least_facing_small_ball(place, radius, normals) <= 0
+        } else {
+            self.least_facing(place, radius, normals) <= 0
+        }
     }
 
     // The greatest that the product of a normal in the box and a way from the eye into the ball can

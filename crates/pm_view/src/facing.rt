@@ -43,8 +43,8 @@ fn greatest(a: i64, b: i64, c: i64, d: i64) -> i128
         .max(product(b, c).max(product(b, d)))
 }
 
-// The lower end of the point box less the eye, on one axis.
-fn lower_end(at: i32, radius: u64, eye: i32) -> i64
+/// The lower end of the point box less the eye, on one axis.
+pub(crate) fn lower_end(at: i32, radius: u64, eye: i32) -> i64
     requires at_small { unsigned_abs at ≤ GREATEST_COORDINATE }
     requires radius_small { radius ≤ 2 ^ 38 }
     requires eye_small { unsigned_abs eye ≤ GREATEST_EYE_COORDINATE }
@@ -54,8 +54,8 @@ fn lower_end(at: i32, radius: u64, eye: i32) -> i64
     i64::from(at) - radius as i64 - i64::from(eye)
 }
 
-// The upper end.
-fn upper_end(at: i32, radius: u64, eye: i32) -> i64
+/// The upper end.
+pub(crate) fn upper_end(at: i32, radius: u64, eye: i32) -> i64
     requires at_small { unsigned_abs at ≤ GREATEST_COORDINATE }
     requires radius_small { radius ≤ 2 ^ 38 }
     requires eye_small { unsigned_abs eye ≤ GREATEST_EYE_COORDINATE }

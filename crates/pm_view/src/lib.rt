@@ -10,6 +10,7 @@ mod measure;
 mod number;
 mod plane;
 mod size;
+mod small_ball;
 mod steps;
 mod theory;
 mod view;

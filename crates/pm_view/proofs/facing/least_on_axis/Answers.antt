@@ -37,7 +37,7 @@ least-requires-clause-d_small c =
 
 pub returns-clause-value : goal.returns-clause-value
 returns-clause-value c =
-    on_axis_is least_product c.least.result c.args.low c.args.high c.lower_end.result
+    on_axis_is w128 (2 ^ 40) (2 ^ 74) (lit< tt) (lit< tt) least_product c.least.result c.args.low c.args.high c.lower_end.result
     c.upper_end.result _ _ c.least.ensures.value c.requires.low_small c.requires.high_small
     c.lower_end.ensures.small c.upper_end.ensures.small c.least.ensures.small
     (below_is c.lower_end.result c.args.at c.args.eye c.args.radius c.ranges.at c.ranges.eye
