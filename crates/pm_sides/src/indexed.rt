@@ -5,13 +5,13 @@ ghost use Rattle.pm_base.specs.Counts.{one_if};
 ghost use Rattle.pm_base.specs.Sides.{face_of};
 ghost use Rattle.pm_base.specs.declared.limits.TheConstants.{MOST_FACES, MOST_SIDES};
 ghost use Rattle.pm_forest.specs.Forest.{node_count, record_count, s_of};
-ghost use Rattle.pm_forest.specs.Faces.{face_count, first_face, inner_of, revealed_by};
+ghost use Rattle.pm_forest.specs.Faces.{face_count, first_face, inner_of, is_left, revealed_by};
 ghost use Rattle.pm_forest.specs.Rules.{HasShape};
-ghost use Rattle.pm_beyond.specs.Walks.{across, number_of, mate_of, expected};
+ghost use Rattle.pm_beyond.specs.Walks.{number_of, mate_of, expected};
 ghost use Rattle.pm_sides.specs.Tables.{AreFirstFaces, AreSplitNodes, AreInnerCorners};
 
 use crate::OutOfMemory;
-use crate::inner::{inner_corners, is_left};
+use crate::inner::inner_corners;
 use pm_base::{FaceId, NodeId, Side};
 use pm_forest::{Hierarchy, Record};
 use std::alloc::Global;
@@ -180,25 +180,13 @@ impl IndexedHierarchy {
         face.side(u32::from(self.tables.inner_corners[face.0 as usize]))
     }
 
-    /// From one outer side of a record's face to the other. None for an inner side, and for one of
-    /// a base face. O(1).
-    #[tactic(auto, unfolding(pm_beyond::specs::Walks::across))]
-    pub fn across(&self, side: Side) -> Option<Side>
-        requires { side.0 < 3 * face_count self.now }
-        ensures value { number_of result ≡ across self.now side.0 }
-        ensures there { IfSome result (λ s. s.0 < 3 * face_count self.now) }
+    // Whether a face of record `k` is its left face.
+    #[tactic(auto, unfolding(pm_forest::specs::Faces::is_left))]
+    fn is_left(&self, k: u32, face: FaceId) -> bool
+        requires { k < record_count self.now }
+        ensures { result ≡ is_left self.now k face.0 }
     {
-        let face = side.face();
-        let k = self.hierarchy.revealed_by(face)?;
-        let inner = self.inner(k, face);
-        let first = inner.next();
-        if side == inner {
-            None
-        } else if side == first {
-            Some(first.next())
-        } else {
-            Some(first)
-        }
+        self.hierarchy.record_at(k).left.is_some() && face.0 == self.first_face(k)
     }
 
     // The inner side of the other face of record `k`, where it has two faces.
@@ -212,7 +200,7 @@ impl IndexedHierarchy {
             return None;
         }
         let first = self.first_face(k);
-        let other = FaceId(if is_left(&self.hierarchy, &self.tables.first_faces, k, face) {
+        let other = FaceId(if self.is_left(k, face) {
             first + 1
         } else {
             first
@@ -235,7 +223,7 @@ impl IndexedHierarchy {
             return self.mate(k, face);
         }
         let change = self.hierarchy.record_at(k);
-        let told = if is_left(&self.hierarchy, &self.tables.first_faces, k, face) {
+        let told = if self.is_left(k, face) {
             change.left
         } else {
             change.right

@@ -1,25 +1,14 @@
 //! Which side of each new face is the inner one, found once.
 ghost use Rattle.std.specs.Prelude.{◌≡◌, ◌<◌, ◌++◌, IfOk, OnOk};
-ghost use Rattle.pm_forest.specs.Forest.{record_count, node_count};
-ghost use Rattle.pm_forest.specs.Faces.{face_count, first_face, is_left};
-ghost use Rattle.pm_sides.specs.Tables.{AreFirstFaces, AreInnerCorners};
-ghost use Rattle.pm_sides.specs.Tables.{corner_under, corners_under};
+ghost use Rattle.pm_forest.specs.Forest.{node_count};
+ghost use Rattle.pm_forest.specs.Faces.{face_count, first_face};
+ghost use Rattle.pm_sides.specs.Tables.{AreInnerCorners, corner_under, corners_under};
 
 use crate::OutOfMemory;
 use crate::sides::holds;
-use pm_base::{FaceId, NodeId};
+use pm_base::NodeId;
 use pm_forest::{Face, Hierarchy, NewFace};
 use std::alloc::Global;
-
-/// Whether a face of record `k` is its left face.
-#[tactic(auto, unfolding(pm_forest::specs::Faces::is_left))]
-pub(crate) fn is_left(h: &Hierarchy, firsts: &[u32], k: u32, face: FaceId) -> bool
-    requires record { k < record_count h.now }
-    requires firsts { AreFirstFaces h.now (record_count h.now) firsts.now }
-    ensures { result ≡ is_left h.now k face.0 }
-{
-    h.record_at(k).left.is_some() && face.0 == firsts[k as usize]
-}
 
 // The first corner of a face under a node, or the last one where none of the others is.
 fn corner_under(h: &Hierarchy, node: NodeId, face: &Face) -> u8
