@@ -7,12 +7,11 @@ use Rattle.pm_base.specs.Counts.{one_if}
 use Rattle.pm_base.specs.Sides.{next}
 use Rattle.pm_forest.specs.declared.parts.NewFace.{NewFace}
 use Rattle.pm_forest.specs.Forest.{Hierarchy, record_at, record_count}
-use Rattle.pm_forest.specs.Faces.{first_face, face_count, revealed_by, record_of, inner_of, is_left}
+use Rattle.pm_forest.specs.Faces.{first_face, revealed_by, record_of, inner_of, is_left}
 use Rattle.pm_forest.specs.Faces.{new_face, no_face}
 use Rattle.pm_forest.proofs.ShapeLaws.{left_from}
 use Rattle.pm_forest.proofs.Sides.{inner-face}
 use Rattle.pm_beyond.specs.Walks.{mate_of, expected_at, expected, number_of}
-use Rattle.pm_beyond.proofs.Neighbours.{first_expected, second_expected}
 use Rattle.pm_sides.specs.declared.record_face.RecordFace.{RecordFace}
 use Rattle.pm_sides.specs.Told.{IsFaceOf, inner_side}
 use Rattle.pm_sides.proofs.FirstLaws.{left_there, right_there, left_own, right_own}
@@ -49,42 +48,37 @@ module _ (h : Hierarchy) (k : ℕ) where
       (cond (eqb i (next i)) (number_of (new_face h k f).first)
       (number_of (new_face h k f).second)) (eq-eqb i i refl)
 
-  -- a face made of what a new face tells
-  face_made : (f : ℕ) (n : NewFace) (face : RecordFace) → f < face_count h
-      → revealed_by h f ≡ Some k → new_face h k f ≡ n → face.inner.0 ≡ inner_of h k f
-      → face.first ≡ n.first → face.second ≡ n.second → IsFaceOf h k f face
-  face_made f n face there own told inner first second = record {
-    there = there;
-    own = own;
-    inner = inner;
-    first = ap number_of (first ∙ ap (λ (x : NewFace). x.first) (sym told))
-        ∙ sym (first_expected h k f own) ∙ ap (λ i. expected h (next i)) (sym inner);
-    second = ap number_of (second ∙ ap (λ (x : NewFace). x.second) (sym told))
-        ∙ sym (second_expected h k f own) ∙ ap (λ i. expected h (next (next i))) (sym inner);
-  }
-
   pub left_made : (n : NewFace) (face : RecordFace) → k < record_count h
       → (record_at h k).left ≡ Some n → face.inner.0 ≡ inner_of h k (first_face h k)
-      → face.first ≡ n.first → face.second ≡ n.second → IsFaceOf h k (first_face h k) face
-  left_made n face l is inner first second =
+      → face.told.now ≡ n → IsFaceOf h k (first_face h k) face
+  left_made n face l is inner told =
       let f = first_face h k in
-      let there : is_some (record_at h k).left ≡ true = ap is_some is in
-      face_made f n face (left_there h k l there) (left_own h k l there)
-      (cond-true (is_left h k f) (unwrap_or (record_at h k).left no_face)
-      (unwrap_or (record_at h k).right no_face) (left_from h k f there refl)
-      ∙ ap (λ (o : Option NewFace). unwrap_or o no_face) is) inner first second
+      let has : is_some (record_at h k).left ≡ true = ap is_some is in
+      record {
+        there = left_there h k l has;
+        own = left_own h k l has;
+        inner = inner;
+        told = told ∙ sym (cond-true (is_left h k f) (unwrap_or (record_at h k).left no_face)
+            (unwrap_or (record_at h k).right no_face) (left_from h k f has refl)
+            ∙ ap (λ (o : Option NewFace). unwrap_or o no_face) is);
+      }
 
   pub right_made : (n : NewFace) (face : RecordFace) → k < record_count h
       → (record_at h k).right ≡ Some n
       → face.inner.0 ≡ inner_of h k (first_face h k + one_if (is_some (record_at h k).left))
-      → face.first ≡ n.first → face.second ≡ n.second
+      → face.told.now ≡ n
       → IsFaceOf h k (first_face h k + one_if (is_some (record_at h k).left)) face
-  right_made n face l is inner first second =
-      let there : is_some (record_at h k).right ≡ true = ap is_some is in
-      face_made right_number n face (right_there h k l there) (right_own h k l there)
-      (cond-false (is_left h k right_number) (unwrap_or (record_at h k).left no_face)
-      (unwrap_or (record_at h k).right no_face) right_from
-      ∙ ap (λ (o : Option NewFace). unwrap_or o no_face) is) inner first second
+  right_made n face l is inner told =
+      let f = right_number in
+      let has : is_some (record_at h k).right ≡ true = ap is_some is in
+      record {
+        there = right_there h k l has;
+        own = right_own h k l has;
+        inner = inner;
+        told = told ∙ sym (cond-false (is_left h k f) (unwrap_or (record_at h k).left no_face)
+            (unwrap_or (record_at h k).right no_face) right_from
+            ∙ ap (λ (o : Option NewFace). unwrap_or o no_face) is);
+      }
 
   -- the inner side of a face's mate is told of the face's inner side
   pub left_mate : (left right : Option RecordFace) → is_some left ≡ is_some (record_at h k).left

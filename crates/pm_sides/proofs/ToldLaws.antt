@@ -7,6 +7,7 @@ use Rattle.pm_base.specs.declared.limits.TheConstants.{MOST_SIDES}
 use Rattle.pm_base.specs.Counts.{one_if}
 use Rattle.pm_base.specs.Sides.{NoSideTwice, beside_side, face_of, next}
 use Rattle.pm_base.proofs.Sides.{face_of-next}
+use Rattle.pm_forest.specs.declared.parts.NewFace.{NewFace}
 use Rattle.pm_forest.specs.Forest.{Hierarchy, record_at}
 use Rattle.pm_forest.specs.Fronts.{IsFront}
 use Rattle.pm_forest.specs.Faces.{first_face, face_count, revealed_by, record_of}
@@ -19,6 +20,7 @@ use Rattle.pm_forest.proofs.Sides.{inner-face, three_sides}
 use Rattle.pm_beyond.specs.Walks.{leaf_net, beyond_of, expected, mate_of, number_of}
 use Rattle.pm_beyond.specs.Moves.{same_side}
 use Rattle.pm_beyond.proofs.AnswerLaws.{same_side-from, same_side-parts}
+use Rattle.pm_beyond.proofs.Neighbours.{first_expected, second_expected}
 use Rattle.pm_beyond.proofs.WalkTheory.{one_beyond}
 use Rattle.pm_sides.specs.declared.record_face.RecordFace.{RecordFace}
 use Rattle.pm_sides.specs.Stored.{AreStored}
@@ -41,28 +43,39 @@ module _ (h : Hierarchy) (k f : ℕ) (face : RecordFace) (is : IsFaceOf h k f fa
   inner_on : face_of inner ≡ f
   inner_on = ap face_of is.inner ∙ inner-face h k f
 
+  first_told : number_of face.told.now.first ≡ expected h (next inner)
+  first_told =
+      ap (λ (n : NewFace). number_of n.first) is.told ∙ sym (first_expected h k f is.own)
+      ∙ ap (λ i. expected h (next i)) (sym is.inner)
+
+  second_told : number_of face.told.now.second ≡ expected h (next (next inner))
+  second_told =
+      ap (λ (n : NewFace). number_of n.second) is.told ∙ sym (second_expected h k f is.own)
+      ∙ ap (λ i. expected h (next (next i))) (sym is.inner)
+
   face_tells : tells_face table (Some face) other ≡ true → TellsFace h table f
   face_tells tells e at =
       let parts = and_parts _ (same_side (beside_side table inner) (inner_side other)) tells in
-      let outer = and_parts (same_side (beside_side table (next inner)) (number_of face.first))
-      (same_side (beside_side table (next (next inner))) (number_of face.second)) parts.0 in
+      let told = face.told.now in
+      let outer = and_parts (same_side (beside_side table (next inner)) (number_of told.first))
+      (same_side (beside_side table (next (next inner))) (number_of told.second)) parts.0 in
       let Told : ℕ → Type 0 = λ i. beside_side table i ≡ expected h i in
       elim (three_sides e inner (at ∙ sym inner_on)) [
         | inl here ↦ subst Told (sym here) (same_side-parts _ _ parts.1 ∙ inner_told)
         | inr after ↦ elim after [
-          | inl here ↦ subst Told (sym here) (same_side-parts _ _ outer.0 ∙ is.first)
-          | inr here ↦ subst Told (sym here) (same_side-parts _ _ outer.1 ∙ is.second)
+          | inl here ↦ subst Told (sym here) (same_side-parts _ _ outer.0 ∙ first_told)
+          | inr here ↦ subst Told (sym here) (same_side-parts _ _ outer.1 ∙ second_told)
         ]
       ]
 
   tells_from : TellsFace h table f → tells_face table (Some face) other ≡ true
   tells_from all =
       and_from _ (same_side (beside_side table inner) (inner_side other))
-      (and_from (same_side (beside_side table (next inner)) (number_of face.first))
-      (same_side (beside_side table (next (next inner))) (number_of face.second))
-      (same_side-from _ _ (all (next inner) (face_of-next inner ∙ inner_on) ∙ sym is.first))
+      (and_from (same_side (beside_side table (next inner)) (number_of face.told.now.first))
+      (same_side (beside_side table (next (next inner))) (number_of face.told.now.second))
+      (same_side-from _ _ (all (next inner) (face_of-next inner ∙ inner_on) ∙ sym first_told))
       (same_side-from _ _ (all (next (next inner))
-      (face_of-next (next inner) ∙ face_of-next inner ∙ inner_on) ∙ sym is.second)))
+      (face_of-next (next inner) ∙ face_of-next inner ∙ inner_on) ∙ sym second_told)))
       (same_side-from _ _ (all inner inner_on ∙ sym inner_told))
 
 -- the sides of a record's face are sides of the mesh

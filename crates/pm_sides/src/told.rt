@@ -52,17 +52,17 @@ impl SideTable {
 
     // Whether beside the sides of a record's face, if it is there, stands what the record tells. Of
     // the inner side it tells that of its other face.
-    fn tells_face(&self, face: Option<RecordFace>, other: Option<RecordFace>) -> bool
+    fn tells_face(&self, face: Option<RecordFace<'_>>, other: Option<RecordFace<'_>>) -> bool
         requires sides { IfSome face (λ f. HasSides self.now f.inner.0) }
         requires small { IfSome face (λ f. f.inner.0 < MOST_SIDES) }
-        ensures { result ≡ tells_face self.now face other }
+        ensures { result ≡ tells_face self.now face.entry other.entry }
     {
         let Some(face) = face else {
             return true;
         };
         let first = face.inner.next();
-        self.has_beside(first, face.first)
-            && self.has_beside(first.next(), face.second)
+        self.has_beside(first, face.told.first)
+            && self.has_beside(first.next(), face.told.second)
             && self.has_beside(face.inner, other.map(|o| o.inner))
     }
 

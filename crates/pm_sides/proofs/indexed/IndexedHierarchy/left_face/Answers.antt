@@ -1,4 +1,5 @@
 use Rattle.std.proofs.Common.{◌≡◌, ◌<◌, is_some, Some, refl, sym, ap, ◌∙◌, subst}
+use Rattle.std.specs.Option.{option_copied}
 use Rattle.pm_forest.specs.declared.parts.Record.{Record}
 use Rattle.pm_forest.specs.Forest.{record_at}
 use Rattle.pm_forest.specs.Faces.{face_count, revealed_by, inner_of}
@@ -11,8 +12,9 @@ inner-requires-clause-face c =
     let h = c.args.self.now in
     let k = c.args.k in
     let read = c.record_at.ensures ∙ ap (λ i. record_at i k) c.hierarchy.ensures in
-    let is : (record_at h k).left ≡ Some c.in_ok-told.told =
-    sym (ap (λ (r : Record). r.left) read) ∙ c.in_ok-told.was in
+    let is : (record_at h k).left ≡ Some c.in_ok-told.told.now =
+    sym (c.as_ref.ensures.value ∙ ap (λ (r : Record). r.left) read)
+    ∙ ap option_copied c.in_ok-told.was in
     let number = c.first_face.ensures.value in
     subst (λ f. f < face_count h) (sym number) (left_there h k c.requires (ap is_some is))
 
@@ -21,8 +23,9 @@ inner-requires-clause-own c =
     let h = c.args.self.now in
     let k = c.args.k in
     let read = c.record_at.ensures ∙ ap (λ i. record_at i k) c.hierarchy.ensures in
-    let is : (record_at h k).left ≡ Some c.in_ok-told.told =
-    sym (ap (λ (r : Record). r.left) read) ∙ c.in_ok-told.was in
+    let is : (record_at h k).left ≡ Some c.in_ok-told.told.now =
+    sym (c.as_ref.ensures.value ∙ ap (λ (r : Record). r.left) read)
+    ∙ ap option_copied c.in_ok-told.was in
     let number = c.first_face.ensures.value in
     ap (revealed_by h) number ∙ left_own h k c.requires (ap is_some is)
 
@@ -31,8 +34,9 @@ returns-clause-face c =
     let h = c.args.self.now in
     let k = c.args.k in
     let read = c.record_at.ensures ∙ ap (λ i. record_at i k) c.hierarchy.ensures in
-    let is : (record_at h k).left ≡ Some c.in_ok-told.told =
-    sym (ap (λ (r : Record). r.left) read) ∙ c.in_ok-told.was in
+    let is : (record_at h k).left ≡ Some c.in_ok-told.told.now =
+    sym (c.as_ref.ensures.value ∙ ap (λ (r : Record). r.left) read)
+    ∙ ap option_copied c.in_ok-told.was in
     let number = c.first_face.ensures.value in
-    left_made h k c.in_ok-told.told _ c.requires is
-    (c.inner.ensures.value ∙ ap (inner_of h k) number) refl refl
+    left_made h k c.in_ok-told.told.now _ c.requires is
+    (c.inner.ensures.value ∙ ap (inner_of h k) number) refl

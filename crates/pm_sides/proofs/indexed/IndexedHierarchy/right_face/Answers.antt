@@ -1,4 +1,5 @@
 use Rattle.std.proofs.Common.{◌≡◌, ◌+◌, ◌<◌, is_some, Some, refl, sym, ap, ◌∙◌, subst, arith}
+use Rattle.std.specs.Option.{option_copied}
 use Rattle.pm_base.specs.Counts.{one_if}
 use Rattle.pm_forest.specs.declared.parts.Record.{Record}
 use Rattle.pm_forest.specs.Forest.{record_at}
@@ -12,8 +13,9 @@ inner-requires-clause-face c =
     let h = c.args.self.now in
     let k = c.args.k in
     let read = c.record_at-change.ensures ∙ ap (λ i. record_at i k) c.hierarchy.ensures in
-    let is : (record_at h k).right ≡ Some c.in_ok-told.told =
-    sym (ap (λ (r : Record). r.right) read) ∙ c.in_ok-told.was in
+    let is : (record_at h k).right ≡ Some c.in_ok-told.told.now =
+    sym (c.as_ref.ensures.value ∙ ap (λ (r : Record). r.right) read)
+    ∙ ap option_copied c.in_ok-told.was in
     let left = c.is_some.ensures ∙ ap (λ (r : Record). is_some r.left) read in
     let number : c.first_face.result + c.from.result
     ≡ first_face h k + one_if (is_some (record_at h k).left) =
@@ -25,8 +27,9 @@ inner-requires-clause-own c =
     let h = c.args.self.now in
     let k = c.args.k in
     let read = c.record_at-change.ensures ∙ ap (λ i. record_at i k) c.hierarchy.ensures in
-    let is : (record_at h k).right ≡ Some c.in_ok-told.told =
-    sym (ap (λ (r : Record). r.right) read) ∙ c.in_ok-told.was in
+    let is : (record_at h k).right ≡ Some c.in_ok-told.told.now =
+    sym (c.as_ref.ensures.value ∙ ap (λ (r : Record). r.right) read)
+    ∙ ap option_copied c.in_ok-told.was in
     let left = c.is_some.ensures ∙ ap (λ (r : Record). is_some r.left) read in
     let number : c.first_face.result + c.from.result
     ≡ first_face h k + one_if (is_some (record_at h k).left) =
@@ -38,11 +41,12 @@ returns-clause-face c =
     let h = c.args.self.now in
     let k = c.args.k in
     let read = c.record_at-change.ensures ∙ ap (λ i. record_at i k) c.hierarchy.ensures in
-    let is : (record_at h k).right ≡ Some c.in_ok-told.told =
-    sym (ap (λ (r : Record). r.right) read) ∙ c.in_ok-told.was in
+    let is : (record_at h k).right ≡ Some c.in_ok-told.told.now =
+    sym (c.as_ref.ensures.value ∙ ap (λ (r : Record). r.right) read)
+    ∙ ap option_copied c.in_ok-told.was in
     let left = c.is_some.ensures ∙ ap (λ (r : Record). is_some r.left) read in
     let number : c.first_face.result + c.from.result
     ≡ first_face h k + one_if (is_some (record_at h k).left) =
     omega (arith, c.first_face.ensures.value, c.from.ensures ∙ ap one_if left) in
-    right_made h k c.in_ok-told.told _ c.requires is
-    (c.inner.ensures.value ∙ ap (inner_of h k) number) refl refl
+    right_made h k c.in_ok-told.told.now _ c.requires is
+    (c.inner.ensures.value ∙ ap (inner_of h k) number) refl
