@@ -9,8 +9,8 @@ use Rattle.pm_simplify.proofs.AroundLaws.{not_none}
 use Rattle.pm_simplify.proofs.RestLaws.{no_key, rest_right}
 use Rattle.pm_simplify.proofs.around.rests.Goals as goal
 
-pub returns : goal.returns
-returns c = λ t p m log after.
+pub returns-then-has : goal.returns-then-has
+returns-then-has c = λ t p m log after.
     let s = c.args.shrink.now in
     let n : Net = net_at s in
     let e : ℕ = c.args.corner.0 in
@@ -18,13 +18,13 @@ returns c = λ t p m log after.
     let queue : Entries = c.args.queue.now in
     let ahead = ap (is_noted flags) (c.vertex_at.ensures ∙ ap n.from c.next.ensures.value) in
     let onto : is_noted flags (to n e) ≡ true =
-    sym ahead ∙ sym c.has.ensures ∙ c.if-not-has.false in
+    sym ahead ∙ sym c.has.ensures ∙ c.if-has.true in
     let shared = not_none c.across.result (twin_of n e) c.across.ensures
     (c.is_none.ensures ∙ ap not c.if-is_none.false) in
     let never = not_none c.across-else-is_none.result (twin_of n (prev e))
     (c.across-else-is_none.ensures ∙ ap (twin_of n) c.prev.ensures.value)
     (c.is_none-else-is_none.ensures ∙ ap not c.if-is_none-2.false) in
-    let bare = sym c.has-2.ensures ∙ not-true c.has-2.result t in
+    let bare = sym c.has-then-has.ensures ∙ not-true c.has-then-has.result t in
     let empty : key_at queue (item_of n e) ≡ None =
     subst (λ i. key_at queue i ≡ None) c.item_of.ensures.value (no_key _ bare) in
     rest_right s c.invariant.ensures.kept.surface flags c.requires.noted e c.requires.stands
