@@ -20,24 +20,24 @@ pub(crate) fn base_kept(h: &Hierarchy, faces: &mut Members)
 }
 
 /// The kept faces once record `k` is split: its own too.
-pub(crate) fn split_kept(indexed: &IndexedHierarchy, split: &[bool], faces: &mut Members, k: u32)
+pub(crate) fn split_kept(indexed: &IndexedHierarchy, flags: &[bool], faces: &mut Members, k: u32)
     requires record { k < record_count indexed.now }
-    requires unsplit { set_of split.now k ≡ false }
+    requires unsplit { set_of flags.now k ≡ false }
     requires bound { faces.old.bound ≡ face_count indexed.now }
-    requires right { AreShown indexed.now (set_of split.now) faces.old.list }
-    ensures right { AreShown indexed.now (with (set_of split.now) k) faces.new.list }
+    requires right { AreShown indexed.now (set_of flags.now) faces.old.list }
+    ensures right { AreShown indexed.now (with (set_of flags.now) k) faces.new.list }
     ensures bound { faces.new.bound ≡ faces.old.bound }
 {
     put_in(faces, indexed.first_face(k), indexed.face_after(k));
 }
 
 /// The kept faces once record `k` is collapsed: its own no longer.
-pub(crate) fn collapse_kept(indexed: &IndexedHierarchy, split: &[bool], faces: &mut Members, k: u32)
+pub(crate) fn collapse_kept(indexed: &IndexedHierarchy, flags: &[bool], faces: &mut Members, k: u32)
     requires record { k < record_count indexed.now }
-    requires is_split { set_of split.now k ≡ true }
+    requires is_split { set_of flags.now k ≡ true }
     requires bound { faces.old.bound ≡ face_count indexed.now }
-    requires right { AreShown indexed.now (set_of split.now) faces.old.list }
-    ensures right { AreShown indexed.now (without (set_of split.now) k) faces.new.list }
+    requires right { AreShown indexed.now (set_of flags.now) faces.old.list }
+    ensures right { AreShown indexed.now (without (set_of flags.now) k) faces.new.list }
     ensures bound { faces.new.bound ≡ faces.old.bound }
 {
     take_out(faces, indexed.first_face(k), indexed.face_after(k));

@@ -8,7 +8,7 @@ use Rattle.pm_front.proofs.corners.ancestor_with.Goals as goal
 pub returns-then-holds-clause-value : goal.returns-then-holds-clause-value
 returns-then-holds-clause-value c =
     let h = c.args.h.now in
-    let T = set_of c.args.split.now in
+    let T = set_of c.args.flags.now in
     let k = c.args.k in
     let x = c.leaf-leaf.result in
     let held : holds h (t_of h k) x ≡ true =
@@ -21,7 +21,7 @@ returns-then-holds-clause-value c =
 pub returns-then-holds-2-clause-value : goal.returns-then-holds-2-clause-value
 returns-then-holds-2-clause-value c =
     let h = c.args.h.now in
-    let T = set_of c.args.split.now in
+    let T = set_of c.args.flags.now in
     let k = c.args.k in
     let x = c.leaf-leaf.result in
     let held : holds h (u_of h k) x ≡ true =
@@ -48,14 +48,14 @@ ancestor_across-requires-clause-not_u c =
 pub returns-in-Some-clause-node : goal.returns-in-Some-clause-node
 returns-in-Some-clause-node c =
     let h = c.args.h.now in
-    let W = with (set_of c.args.split.now) c.args.k in
+    let W = with (set_of c.args.flags.now) c.args.k in
     ancestor_there h c.invariant.ensures W c.leaf-leaf.result _ c.leaf-leaf.ensures.leaf
     (c.in-Some.ensures ∙ ap (ancestor_of h W) (sym c.leaf-leaf.ensures.value))
 
 pub returns-in-None-clause-value : goal.returns-in-None-clause-value
 returns-in-None-clause-value c =
     let h = c.args.h.now in
-    let T = set_of c.args.split.now in
+    let T = set_of c.args.flags.now in
     let k = c.args.k in
     let x = c.leaf-leaf.result in
     let not_t : holds h (t_of h k) x ≡ false =
@@ -69,5 +69,5 @@ returns-in-None-clause-value c =
 
 pub returns-in-None-clause-node : goal.returns-in-None-clause-node
 returns-in-None-clause-node c =
-    ancestor_there c.args.h.now c.invariant.ensures (set_of c.args.split.now) c.leaf-leaf.result _
+    ancestor_there c.args.h.now c.invariant.ensures (set_of c.args.flags.now) c.leaf-leaf.result _
     c.leaf-leaf.ensures.leaf c.ancestor.ensures

@@ -11,14 +11,14 @@ take_out-requires-clause-ordered c =
 
 pub take_out-requires-clause-there : goal.take_out-requires-clause-there
 take_out-requires-clause-there c =
-    own_there c.args.indexed.now (set_of c.args.split.now) c.args.k c.requires.record
+    own_there c.args.indexed.now (set_of c.args.flags.now) c.args.k c.requires.record
     c.first_face.result c.face_after.result c.first_face.ensures.value
     c.face_after.ensures.value
     c.args.faces.now.list c.requires.right c.requires.is_split
 
 pub returns-clause-right : goal.returns-clause-right
 returns-clause-right c =
-    collapse-shown c.args.indexed.now (set_of c.args.split.now) c.args.k c.requires.record
+    collapse-shown c.args.indexed.now (set_of c.args.flags.now) c.args.k c.requires.record
     c.first_face.result c.face_after.result c.first_face.ensures.value
     c.face_after.ensures.value
     c.args.faces.now.list c.requires.right c.take_out.new.members.list c.take_out.ensures.list

@@ -11,14 +11,14 @@ put_in-requires-clause-ordered c =
 
 pub put_in-requires-clause-absent : goal.put_in-requires-clause-absent
 put_in-requires-clause-absent c =
-    own_absent c.args.indexed.now (set_of c.args.split.now) c.args.k c.requires.record
+    own_absent c.args.indexed.now (set_of c.args.flags.now) c.args.k c.requires.record
     c.first_face.result c.face_after.result c.first_face.ensures.value
     c.face_after.ensures.value
     c.args.faces.now.list c.requires.right c.requires.unsplit
 
 pub returns-clause-right : goal.returns-clause-right
 returns-clause-right c =
-    split-shown c.args.indexed.now (set_of c.args.split.now) c.args.k c.requires.record
+    split-shown c.args.indexed.now (set_of c.args.flags.now) c.args.k c.requires.record
     c.first_face.result c.face_after.result c.first_face.ensures.value
     c.face_after.ensures.value
     c.args.faces.now.list c.requires.right c.put_in.new.members.list c.put_in.ensures.list

@@ -7,6 +7,6 @@ use Rattle.pm_front.proofs.front_tables.FrontTables.active_count.Goals as goal
 
 pub returns : goal.returns
 returns c =
-    c.len.ensures ∙ active-many c.self.inside.indexed (set_of c.self.inside.split.items)
+    c.len.ensures ∙ active-many c.self.inside.indexed (set_of c.self.inside.flags.items)
     c.self.inside.active.list c.self.invariant.active_list
     ∙ ap (λ (s : State). length (active_nodes s.h (set_of s.flags))) c.self.view_is

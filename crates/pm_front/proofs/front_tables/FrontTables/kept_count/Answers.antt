@@ -10,6 +10,6 @@ pub returns : goal.returns
 returns c =
     let h = c.self.inside.indexed in
     c.len.ensures
-    ∙ kept-many h (shape_is_forest h c.self.invariant.shape) (set_of c.self.inside.split.items)
+    ∙ kept-many h (shape_is_forest h c.self.invariant.shape) (set_of c.self.inside.flags.items)
     c.self.invariant.front c.self.inside.kept.list c.self.invariant.kept_list
     ∙ ap (λ (s : State). length (kept_faces s.h (set_of s.flags))) c.self.view_is

@@ -16,7 +16,7 @@ returns-in_err-face-clause-none c =
     subst (λ (s : State). IfNone c.from_residual.result
     (NonePasses (is_kept s.h (set_of s.flags)) c.args.from (face_count s.h))) c.self.view_is
     (rw c.from_residual.ensures
-    (none_kept h (shape_is_forest h i.shape) (set_of c.self.inside.split.items) i.front
+    (none_kept h (shape_is_forest h i.shape) (set_of c.self.inside.flags.items) i.front
     c.self.inside.kept.list i.kept_list c.args.from
     c.self.inside.kept.bound i.kept_bound c.in_err-face.ensures.none))
 
@@ -26,7 +26,7 @@ returns-clause-some c =
     let i = c.self.invariant in
     subst (λ (s : State). IsLeastFrom (is_kept s.h (set_of s.flags)) c.args.from c.in_ok-face.face)
     c.self.view_is
-    (least_kept h (shape_is_forest h i.shape) (set_of c.self.inside.split.items) i.front
+    (least_kept h (shape_is_forest h i.shape) (set_of c.self.inside.flags.items) i.front
     c.self.inside.kept.list i.kept_list c.args.from
     c.self.inside.kept.bound i.kept_bound c.in_ok-face.face c.in_ok-face.ensures.below
     c.in_ok-face.ensures.some)
