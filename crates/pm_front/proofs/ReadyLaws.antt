@@ -8,8 +8,8 @@ use Rattle.pm_forest.specs.Forest.{Hierarchy, record_count}
 use Rattle.pm_forest.specs.Fronts.{with, without}
 use Rattle.pm_base.specs.Counts.{set_of}
 use Rattle.pm_forest.proofs.Flags.{set_of-set, set_of-clear}
-use Rattle.pm_front.specs.Needed.{AreNeedsOf, AreNeeds}
-use Rattle.pm_front.specs.Candidates.{Candidates, AreCandidates}
+use Rattle.pm_candidates.specs.Needed.{AreNeedsOf, AreNeeds}
+use Rattle.pm_candidates.specs.Candidates.{Candidates, AreCandidates}
 use Rattle.pm_front.specs.State.{State, IsSoundFront, IsReadyFront}
 
 -- What holds of what is read holds of what it is.

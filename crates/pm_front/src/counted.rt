@@ -5,10 +5,10 @@ ghost use Rattle.pm_sets.specs.Sets.{IsEmptySet, IsLast};
 ghost use Rattle.pm_sets.specs.declared.set.TheConstants.{BOUND_LIMIT};
 ghost use Rattle.pm_forest.specs.Forest.{record_count};
 ghost use Rattle.pm_base.specs.Counts.{set_of};
-ghost use Rattle.pm_front.specs.Needed.{AreNeedsOf, AreNeedCounts};
+ghost use Rattle.pm_candidates.specs.Needed.{AreNeedsOf, AreNeedCounts};
 
-use crate::need_counts::{NeedCounts, lower_all, raise_all};
 use crate::{Front, OutOfMemory};
+use pm_candidates::{NeedCounts, lower_all, raise_all};
 use pm_forest::Hierarchy;
 use pm_sets::NumberSet;
 use std::alloc::Global;
@@ -24,7 +24,7 @@ pub struct CountedRecords {
 }
 
 impl Model for CountedRecords {
-    ghost use Rattle.pm_front.specs.Needed.{CountedRecords};
+    ghost use Rattle.pm_front.specs.Counted.{CountedRecords};
 
     ghost Value = { CountedRecords };
 

@@ -49,7 +49,9 @@ impl Front {
             self.old.corners }
     {
         let needed = self.needed.of(k);
-        self.candidates.split(&self.tables, &needed, k);
+        let tables = &self.tables;
+        self.candidates
+            .split(tables.hierarchy(), tables.flags(), &needed, k);
         self.tables.split(k);
     }
 
@@ -92,7 +94,9 @@ impl Front {
         ensures corners { self.new.corners ≡ collapsed_lists self.old.h k self.old.corners }
     {
         let needed = self.needed.of(k);
-        self.candidates.collapse(&self.tables, &needed, k);
+        let tables = &self.tables;
+        self.candidates
+            .collapse(tables.hierarchy(), tables.flags(), &needed, k);
         self.tables.collapse(k);
     }
 }

@@ -12,7 +12,7 @@ use Rattle.pm_beyond.specs.Plans.{less}
 use Rattle.pm_beyond.proofs.TargetLaws.{target-least}
 use Rattle.pm_refine.specs.Aims.{Aim, IsFit, Sets, aimed, is_moved, is_used}
 use Rattle.pm_refine.specs.Finding.{is_due}
-use Rattle.pm_front.specs.Needed.{is_needed, is_unneeded}
+use Rattle.pm_candidates.specs.Needed.{is_needed, is_unneeded}
 use Rattle.pm_refine.specs.Deciding.{IsNext, is_held, is_tested}
 use Rattle.pm_refine.proofs.DecidingLaws.{stays_is}
 

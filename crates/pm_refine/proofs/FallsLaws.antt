@@ -7,8 +7,8 @@ use Rattle.pm_sets.specs.Sets.{IsEmptySet}
 use Rattle.pm_forest.specs.Forest.{Hierarchy, record_count}
 use Rattle.pm_forest.specs.Fronts.{no_records}
 use Rattle.pm_base.specs.Counts.{set_of}
-use Rattle.pm_front.specs.Needed.{need_count, AreNeedCounts}
-use Rattle.pm_front.proofs.NeedCountLaws.{need_count-empty}
+use Rattle.pm_candidates.specs.Needed.{need_count, AreNeedCounts}
+use Rattle.pm_candidates.proofs.NeedCountLaws.{need_count-empty}
 
 -- An empty set is that of no records.
 pub empty_set : (flags : List Bool) → IsEmptySet flags → set_of flags ≡ no_records

@@ -6,7 +6,7 @@ use Rattle.pm_beyond.specs.Moves.{IsClosed}
 use Rattle.pm_beyond.specs.Plans.{differs}
 use Rattle.pm_beyond.specs.Targets.{target_of}
 use Rattle.pm_beyond.specs.Valid.{IsValid}
-use Rattle.pm_front.specs.Needed.{is_unneeded}
+use Rattle.pm_candidates.specs.Needed.{is_unneeded}
 use Rattle.pm_view.specs.Wanted.{Serves, is_wanted}
 use Rattle.pm_refine.specs.Holding.{HoldsMoves}
 use Rattle.pm_refine.specs.declared.plan.Plan.{Plan}

@@ -6,7 +6,7 @@ use Rattle.pm_forest.specs.Forest.{record_count, s_of}
 use Rattle.pm_base.specs.Counts.{count, set_of}
 use Rattle.pm_beyond.specs.Moves.{Needs}
 use Rattle.pm_refine.specs.Aims.{Aim, Sets, HoldsAimed, aimed, is_moved, is_used}
-use Rattle.pm_front.specs.Needed.{is_needed, is_unneeded, remaining}
+use Rattle.pm_candidates.specs.Needed.{is_needed, is_unneeded, remaining}
 use Rattle.pm_refine.specs.Finding.{is_due, is_loose}
 
 -- All records from b on are decided: `rises` has those that will be split, and `falls` those that

@@ -5,7 +5,7 @@ use Rattle.pm_forest.specs.Forest.{record_count, s_of, Makes}
 use Rattle.pm_forest.specs.Fronts.{is_active}
 use Rattle.pm_base.specs.Counts.{set_of}
 use Rattle.pm_forest.specs.Moves.{may_try}
-use Rattle.pm_front.specs.Needed.{is_unneeded}
+use Rattle.pm_candidates.specs.Needed.{is_unneeded}
 use Rattle.pm_refine.specs.Aims.{Aim}
 
 -- The node of record j is wanted, and j isn't split.

@@ -10,8 +10,8 @@ ghost use Rattle.pm_refine.specs.Aims.{IsServed, HoldsAimed, aim_of, is_moved, i
 ghost use Rattle.pm_refine.specs.Holding.{Joins};
 ghost use Rattle.pm_refine.specs.Finding.{IsStartOfPlan};
 ghost use Rattle.pm_refine.specs.Deciding.{AreDecided, IsNext, is_staying, is_tested};
-ghost use Rattle.pm_front.specs.Needed.{is_needed, remaining, AreNeedsOf};
-ghost use Rattle.pm_front.specs.Needed.{AreNeedCounts};
+ghost use Rattle.pm_candidates.specs.Needed.{is_needed, remaining, AreNeedsOf};
+ghost use Rattle.pm_candidates.specs.Needed.{AreNeedCounts};
 
 use crate::marks::mark_all;
 use crate::needs::push_all;

@@ -5,7 +5,7 @@ ghost use Rattle.pm_forest.specs.Forest.{record_count};
 ghost use Rattle.pm_base.specs.Counts.{set_of};
 ghost use Rattle.pm_beyond.specs.Plans.{moved_by, AreLegal};
 ghost use Rattle.pm_front.specs.Corners.{corner_lists_after};
-ghost use Rattle.pm_front.specs.Needed.{AreNeedCounts};
+ghost use Rattle.pm_candidates.specs.Needed.{AreNeedCounts};
 ghost use Rattle.pm_refine.specs.Doing.{splits_of, collapses_of, moves_of};
 ghost use Rattle.pm_refine.specs.Adapting.{adapted_of};
 

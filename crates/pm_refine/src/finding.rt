@@ -6,7 +6,7 @@ ghost use Rattle.pm_base.specs.Counts.{count, set_of};
 ghost use Rattle.pm_sets.specs.Sets.{IsEmptySet};
 ghost use Rattle.pm_forest.specs.Forest.{record_count, node_count};
 ghost use Rattle.pm_forest.specs.Moves.{may_try};
-ghost use Rattle.pm_front.specs.Needed.{is_unneeded};
+ghost use Rattle.pm_candidates.specs.Needed.{is_unneeded};
 ghost use Rattle.pm_refine.specs.Aims.{IsServed, aim_of};
 ghost use Rattle.pm_refine.specs.Holding.{Joins, HoldsBelow, leads_to, leads_below};
 ghost use Rattle.pm_refine.specs.Finding.{is_due, is_due_now, is_loose, IsStartOfPlan};

@@ -3,7 +3,7 @@ ghost use Rattle.std.specs.Prelude.{◌≡◌, ◌<◌, length, IfSome};
 ghost use Rattle.std.specs.List.{All};
 ghost use Rattle.pm_base.specs.Counts.{set_of};
 ghost use Rattle.pm_beyond.specs.Moves.{is_at};
-ghost use Rattle.pm_front.specs.Candidates.{is_among};
+ghost use Rattle.pm_candidates.specs.Candidates.{is_among};
 ghost use Rattle.pm_refine.specs.Holding.{Joins};
 
 use pm_sets::NumberSet;

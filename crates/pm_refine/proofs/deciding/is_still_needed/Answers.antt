@@ -1,8 +1,8 @@
 use Rattle.std.proofs.Common.{eqb, not, ap, ◌∙◌}
 use Rattle.std.proofs.Math.Bool.{not-not}
 use Rattle.pm_base.specs.Counts.{set_of}
-use Rattle.pm_front.specs.Needed.{is_needed, remaining, need_count}
-use Rattle.pm_front.proofs.NeedCountLaws.{remaining_test}
+use Rattle.pm_candidates.specs.Needed.{is_needed, remaining, need_count}
+use Rattle.pm_candidates.proofs.NeedCountLaws.{remaining_test}
 use Rattle.pm_refine.proofs.deciding.is_still_needed.Goals as goal
 
 pub returns : goal.returns

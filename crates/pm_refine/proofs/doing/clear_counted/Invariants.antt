@@ -1,6 +1,6 @@
 use Rattle.std.proofs.Common.{◌≡◌, length}
 use Rattle.pm_base.specs.Counts.{count, set_of}
-use Rattle.pm_front.specs.Needed.{AreNeedCounts}
+use Rattle.pm_candidates.specs.Needed.{AreNeedCounts}
 use Rattle.pm_refine.proofs.doing.clear_counted.Given as goal
 
 abbrev pub invariant-loop-k : goal.invariant-loop-k

@@ -5,7 +5,7 @@ use Rattle.pm_base.specs.Counts.{set_of}
 use Rattle.pm_beyond.specs.Moves.{MayCollapse}
 use Rattle.pm_beyond.specs.Plans.{Collapse, moved_by}
 use Rattle.pm_front.specs.Corners.{collapsed_lists, corner_lists_after}
-use Rattle.pm_front.specs.Needed.{AreNeedCounts}
+use Rattle.pm_candidates.specs.Needed.{AreNeedCounts}
 use Rattle.pm_refine.specs.Doing.{collapses_of, AreToDo}
 use Rattle.pm_refine.proofs.DoingLaws.{collapses_first, collapses_none, may_make, one_made}
 use Rattle.pm_refine.proofs.DoingLaws.{none_taken, all_made}

@@ -2,7 +2,7 @@ use Rattle.std.proofs.Common.{◌≡◌, length, take}
 use Rattle.pm_base.specs.Counts.{set_of}
 use Rattle.pm_beyond.specs.Plans.{moved_by}
 use Rattle.pm_front.specs.Corners.{corner_lists_after}
-use Rattle.pm_front.specs.Needed.{AreNeedCounts}
+use Rattle.pm_candidates.specs.Needed.{AreNeedCounts}
 use Rattle.pm_refine.specs.Doing.{collapses_of, AreToDo}
 use Rattle.pm_refine.proofs.doing.collapse_last.Given as goal
 

@@ -3,7 +3,7 @@ use Rattle.std.proofs.lemmas.Bool.{and_from, and_left, and_right, not_from_false
 use Rattle.pm_base.specs.Counts.{count, set_of}
 use Rattle.pm_base.proofs.Counts.{count-true}
 use Rattle.pm_forest.specs.Forest.{record_count, s_of}
-use Rattle.pm_front.specs.Needed.{is_unneeded}
+use Rattle.pm_candidates.specs.Needed.{is_unneeded}
 use Rattle.pm_refine.specs.Aims.{aim_of}
 use Rattle.pm_refine.specs.Holding.{HoldsBelow}
 use Rattle.pm_refine.specs.Finding.{is_loose}

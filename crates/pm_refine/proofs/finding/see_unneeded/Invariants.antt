@@ -1,7 +1,7 @@
 use Rattle.std.proofs.Common.{◌+◌, ◌-◌, ◌≤◌}
 use Rattle.pm_base.specs.Counts.{count, set_of}
 use Rattle.pm_forest.specs.Forest.{record_count}
-use Rattle.pm_front.specs.Needed.{is_unneeded}
+use Rattle.pm_candidates.specs.Needed.{is_unneeded}
 use Rattle.pm_refine.specs.Aims.{aim_of}
 use Rattle.pm_refine.specs.Holding.{HoldsBelow}
 use Rattle.pm_refine.specs.Finding.{is_loose}

@@ -1,6 +1,6 @@
 use Rattle.std.proofs.Common.{◌≡◌, length, take}
 use Rattle.pm_base.specs.Counts.{set_of}
-use Rattle.pm_front.specs.Candidates.{is_among}
+use Rattle.pm_candidates.specs.Candidates.{is_among}
 use Rattle.pm_refine.specs.Holding.{Joins}
 use Rattle.pm_refine.proofs.needs.push_all.Given as goal
 

@@ -2,8 +2,9 @@ use Rattle.std.proofs.Common.{◌≡◌, false, length, sym, subst, ap, ◌∙�
 use Rattle.pm_base.specs.Counts.{set_of}
 use Rattle.pm_forest.specs.Forest.{record_count}
 use Rattle.pm_forest.proofs.Flags.{set_of-set}
-use Rattle.pm_front.specs.Needed.{CountedRecords, AreNeedCounts}
-use Rattle.pm_front.proofs.CountedLaws.{room_left, counts_with}
+use Rattle.pm_candidates.specs.Needed.{AreNeedCounts}
+use Rattle.pm_front.specs.Counted.{CountedRecords}
+use Rattle.pm_candidates.proofs.CountedLaws.{room_left, counts_with}
 use Rattle.pm_front.proofs.counted.CountedRecords.insert.Goals as goal
 
 pub raise_all-requires-clause-room : goal.raise_all-requires-clause-room

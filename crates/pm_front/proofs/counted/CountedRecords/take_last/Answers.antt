@@ -8,9 +8,10 @@ use Rattle.pm_forest.specs.Forest.{record_count}
 use Rattle.pm_forest.specs.Fronts.{without}
 use Rattle.pm_forest.proofs.Flags.{set_of-clear}
 use Rattle.pm_beyond.proofs.PlanSteps.{without-same}
-use Rattle.pm_front.specs.Needed.{CountedRecords, AreNeedCounts}
-use Rattle.pm_front.proofs.UnneededLaws.{with-without}
-use Rattle.pm_front.proofs.CountedLaws.{needs_counted, counts_without}
+use Rattle.pm_candidates.specs.Needed.{AreNeedCounts}
+use Rattle.pm_front.specs.Counted.{CountedRecords}
+use Rattle.pm_candidates.proofs.UnneededLaws.{with-without}
+use Rattle.pm_candidates.proofs.CountedLaws.{needs_counted, counts_without}
 use Rattle.pm_front.proofs.counted.CountedRecords.take_last.Goals as goal
 
 pub needed_by-requires : goal.needed_by-requires

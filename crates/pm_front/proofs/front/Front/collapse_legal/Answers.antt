@@ -1,14 +1,15 @@
-use Rattle.std.proofs.Common.{◌<◌, length, arith, refl, subst, sym, ap, ◌∙◌}
-use Rattle.pm_forest.specs.Forest.{record_count}
+use Rattle.std.proofs.Common.{List, Bool, ◌<◌, length, arith, subst, sym, ap, ◌∙◌}
+use Rattle.pm_forest.specs.Forest.{Hierarchy, record_count}
 use Rattle.pm_forest.specs.Fronts.{without}
 use Rattle.pm_base.specs.Counts.{set_of}
 use Rattle.pm_forest.proofs.Flags.{set_of-clear}
-use Rattle.pm_beyond.specs.Moves.{MayCollapse}
+use Rattle.pm_beyond.specs.Moves.{IsClosed, MayCollapse}
 use Rattle.pm_firm.specs.Firm.{IsFirm}
+use Rattle.pm_candidates.specs.Candidates.{AreCandidates}
 use Rattle.pm_front.specs.State.{State}
 use Rattle.pm_front.proofs.Surfaces.{shows_surface}
 use Rattle.pm_front.proofs.FrontLaws.{sound-same, collapse_told, collapse_sound}
-use Rattle.pm_front.proofs.ReadyLaws.{ready-same, collapse_ready, row_needed}
+use Rattle.pm_front.proofs.ReadyLaws.{as_read, ready-same, collapse_ready, row_needed}
 use Rattle.pm_front.proofs.front.Front.collapse_legal.Goals as goal
 
 pub of-needed-requires : goal.of-needed-requires
@@ -22,12 +23,14 @@ collapse-requires-clause-needed c =
     let s = c.self.inside.tables in
     let l = subst (λ (s : State). c.args.k < record_count s.h) (sym c.self.view_is)
     c.requires.record in
-    row_needed s.h _ c.self.inside.needed c.self.invariant.needed refl c.args.k l _
+    row_needed s.h _ c.self.inside.needed c.self.invariant.needed c.hierarchy.ensures c.args.k
+    l _
     c.of-needed.ensures
 
 pub collapse-requires-clause-closed : goal.collapse-requires-clause-closed
 collapse-requires-clause-closed c =
-    c.self.invariant.sound.closed
+    as_read (λ (g : Hierarchy) (fs : List Bool). IsClosed g (set_of fs)) _ _ _ _
+    (sym c.hierarchy.ensures) (sym c.flags.ensures) c.self.invariant.sound.closed
 
 pub collapse-requires-2-clause-told : goal.collapse-requires-2-clause-told
 collapse-requires-2-clause-told c =
@@ -47,11 +50,15 @@ invariant_of-self c =
     c.requires.legal in
     let sound = c.self.invariant.sound in
     let at : k < length s.flags = omega (arith, l, sound.flag_len) in
+    let candidates =
+    as_read (λ (g : Hierarchy) (fs : List Bool).
+    AreCandidates g (without (set_of fs) k) c.collapse.new.self) _ _ _ _
+    c.hierarchy.ensures c.flags.ensures c.collapse.ensures in
     ready-same c.collapse-2.new.self s.h _ c.collapse.new.self c.self.inside.needed
     c.collapse-2.ensures.h c.collapse-2.ensures.flags
     (collapse_ready s.h s.flags k at c.collapse.new.self c.self.inside.needed
     c.self.invariant.needed
-    (collapse_sound s.h s.flags sound k l may) c.collapse.ensures)
+    (collapse_sound s.h s.flags sound k l may) candidates)
 
 pub returns-clause-surface : goal.returns-clause-surface
 returns-clause-surface c firm =

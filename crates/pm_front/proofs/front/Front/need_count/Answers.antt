@@ -2,8 +2,8 @@ use Rattle.std.proofs.Common.{◌<◌, ap, sym, ◌∙◌, subst}
 use Rattle.pm_forest.specs.Forest.{record_count}
 use Rattle.pm_base.specs.Counts.{set_of}
 use Rattle.pm_front.specs.State.{State}
-use Rattle.pm_front.specs.Needed.{need_count}
-use Rattle.pm_front.proofs.NeedCountLaws.{unneeded-count, need_count-unneeded}
+use Rattle.pm_candidates.specs.Needed.{need_count}
+use Rattle.pm_candidates.proofs.NeedCountLaws.{unneeded-count, need_count-unneeded}
 use Rattle.pm_front.proofs.front.Front.need_count.Goals as goal
 
 pub returns-clause-zero : goal.returns-clause-zero

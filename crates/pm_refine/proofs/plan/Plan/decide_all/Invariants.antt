@@ -1,6 +1,6 @@
 use Rattle.std.proofs.Common.{◌≡◌, length}
 use Rattle.pm_base.specs.Counts.{set_of}
-use Rattle.pm_front.specs.Needed.{AreNeedCounts}
+use Rattle.pm_candidates.specs.Needed.{AreNeedCounts}
 use Rattle.pm_refine.specs.Aims.{aim_of, sets_of}
 use Rattle.pm_refine.specs.Deciding.{HasDecided}
 use Rattle.pm_refine.proofs.SetLaws.{reach}

@@ -1,0 +1,10 @@
+pub mod NeighbourLaws
+pub mod TimesLaws
+pub mod RaisedLaws
+pub mod NeedCountLaws
+pub mod NeedFlags
+pub mod UnneededLaws
+pub mod WaitingLaws
+pub mod CountedLaws
+pub mod NeededLaws
+pub mod NeedRows
