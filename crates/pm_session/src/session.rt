@@ -1,17 +1,11 @@
 //! A session over one hierarchy. All its memory is taken when it starts.
-ghost use Rattle.std.specs.Prelude.{◌≡◌, ◌≢◌, ◌<◌, true, IfOk, IfErr, OnOk, OnErr};
+ghost use Rattle.std.specs.Prelude.{◌≡◌, ◌<◌, true, IfErr, OnOk, OnErr};
 ghost use Rattle.pm_io.specs.Bytes.{Gains, GainsPart};
 ghost use Rattle.pm_io.specs.Causes.{Rose};
 ghost use Rattle.pm_io.specs.Puts.{Puts};
 ghost use Rattle.pm_forest.specs.Forest.{record_count};
 ghost use Rattle.pm_base.specs.Counts.{set_of};
-ghost use Rattle.pm_base.specs.Sides.{NoSideTwice};
-ghost use Rattle.pm_forest.specs.Fronts.{no_records};
-ghost use Rattle.pm_morph.specs.Marks.{AreMarksOf};
-ghost use Rattle.pm_beyond.specs.Walks.{leaf_net};
-ghost use Rattle.pm_beyond.specs.Valid.{IsValid};
 ghost use Rattle.pm_beyond.specs.Moves.{split_fault, collapse_fault};
-ghost use Rattle.pm_load.specs.Faults.{IsLoadFault};
 ghost use Rattle.pm_frame.specs.Frame.{frame_text};
 ghost use Rattle.pm_change.specs.Texts.{change_text};
 ghost use Rattle.pm_pick.specs.Picks.{pick_of};
@@ -19,7 +13,6 @@ ghost use Rattle.pm_strips.specs.Shown.{strips_text};
 ghost use Rattle.pm_session.specs.Script.{
   command_of,
   line_deed,
-  at_first,
   after_split,
   after_collapse,
   adapted_to,
@@ -30,7 +23,7 @@ ghost use Rattle.pm_session.specs.Script.{
   morph_reply,
 };
 ghost use Rattle.pm_session.specs.Level.{level_reply};
-ghost use Rattle.pm_session.specs.Session.{LineEnds, LineCounts, AreToolsOf, HasItsMeasures};
+ghost use Rattle.pm_session.specs.Session.{LineEnds, LineCounts};
 ghost use Rattle.pm_session.specs.Session.{state_of};
 
 use crate::command::{Command, command_of};
@@ -42,27 +35,24 @@ use crate::picking::put_pick;
 use crate::reply::{put_adapted, put_answer, put_shape};
 use crate::tools::Tools;
 use pm_beyond::MoveFault;
-use pm_forest::Hierarchy;
 use pm_frame::write_frame;
 use pm_front::Front;
 use pm_io::{Line, Sink, WriteFault, put_all};
-use pm_load::{LoadFail, open_front};
 use pm_morph::Marker;
 use pm_pick::{Hit, Ray};
 use pm_refine::Adapted;
 use pm_view::View;
-use std::alloc::{AllocError, Global};
 use std::marker::Model;
 
 /// A hierarchy that is being shown. Contracts see it, which lines a script may have, which records
 /// are split and which are marked, and the budget of moves a view.
 #[derive(Drop)]
 pub struct Session {
-    grammar: Grammar,
-    pub(crate) front: Front,
-    pub(crate) tools: Tools,
+    pub(crate) grammar: Grammar,
+    pub(crate) front: Box<Front>,
+    pub(crate) tools: Box<Tools>,
     pub(crate) marker: Marker,
-    budget: u32,
+    pub(crate) budget: u32,
 }
 
 impl Model for Session {
@@ -71,59 +61,17 @@ impl Model for Session {
     ghost Value = { Shown };
 
     ghost view = { λ s. record {
-      h = s.front.h;
+      h = s.front.value.h;
       grammar = s.grammar;
-      flags = s.front.flags;
+      flags = s.front.value.flags;
       marks = s.marker;
       budget = s.budget;
     } };
 
-    ghost invariant = { λ s. IsFitting s.front.h s.grammar s.tools s.marker };
-}
-
-// What a session over a hierarchy works with, and its marks.
-fn outfit(alloc: Global, h: &Hierarchy, grammar: Grammar) -> Result<(Tools, Marker), AllocError>
-    requires { NoSideTwice (leaf_net h.now) }
-    ensures tools { IfOk result (λ o. AreToolsOf h.now o.0) }
-    ensures serve { IfOk result (λ o. HasItsMeasures grammar o.0.measures) }
-    ensures marks { IfOk result (λ o. AreMarksOf h.now o.1) }
-    ensures base { IfOk result (λ o. set_of o.1 ≡ no_records) }
-{
-    let tools = Tools::new(alloc, h, grammar)?;
-    let marker = Marker::new(alloc, h)?;
-    Ok((tools, marker))
+    ghost invariant = { λ s. IsFitting s.front.value.h s.grammar s.tools.value s.marker };
 }
 
 impl Session {
-    /// A session that shows the base front of a valid hierarchy. It is refused as `open_front`
-    /// says. All the memory that a script can want is taken here.
-    #[tactic(auto, using(pm_forest::proofs::Flags::none_set))]
-    pub fn start(
-        alloc: Global,
-        h: Hierarchy,
-        grammar: Grammar,
-        budget: u32,
-    ) -> Result<Session, LoadFail>
-        ensures shown { IfOk result (λ s. (s.h ≡ h) × (s.grammar ≡ grammar)
-            × (state_of s ≡ at_first budget)) }
-        ensures valid { OnOk result (IsValid h) }
-        ensures fault { IfErr result (IsLoadFault h) }
-        ensures refused { IfErr result (λ e. e ≢ LoadFail.OutOfMemory → IsValid h → ⊥) }
-    {
-        let front = open_front(alloc, h)?;
-        front.invariant();
-        let Ok((tools, marker)) = outfit(alloc, front.hierarchy(), grammar) else {
-            return Err(LoadFail::OutOfMemory);
-        };
-        Ok(Session {
-            grammar,
-            front,
-            tools,
-            marker,
-            budget,
-        })
-    }
-
     // Writes the frame.
     fn show<K: Sink>(&self, out: &mut K) -> Result<(), WriteFault>
         ensures { Puts K.Sink out.old out.new (frame_text self.now.h (set_of self.now.flags))
