@@ -4,6 +4,7 @@ use Rattle.std.specs.Prelude.{Some, None, IfSome, Result, Ok, Err}
 use Rattle.std.specs.Io.KnownBytes.{prepend_known}
 use Rattle.pm_io.specs.Bytes.{Loses, Gains, GainsPart, AtEnd}
 use Rattle.pm_io.specs.Causes.{Rose}
+use Rattle.pm_io.specs.Letters.{line_feed}
 use Rattle.obj_lines.specs.Text.{until, lines}
 use Rattle.pm_forest.specs.Forest.{Hierarchy}
 use Rattle.pm_beyond.specs.Valid.{IsValid}
@@ -28,7 +29,7 @@ pub data RepliesTo (grammar : Grammar) (budget : ℕ) : List ℕ → List ℕ �
   in_stream : (taken : List ℕ) → stream_fault taken ≡ Some (format.Truncated (length taken))
       → RepliesTo grammar budget taken []
   in_script : (digits : ℕ) (h : Hierarchy) (front line : List ℕ) → digits ≤ 4 → IsValid h
-      → AreLines front → until 10 line ≡ line
+      → AreLines front → until line_feed line ≡ line
       → RepliesTo grammar budget (stream digits h ++ (front ++ line))
       (played h grammar (at_first budget) front).text
 

@@ -2,6 +2,7 @@
 use Rattle.std.specs.Prelude.{◌≡◌, ℕ, ◌+◌, ◌<◌, ◌≤◌, Bool, true, false, List, [], ◌∷◌, ◌++◌}
 use Rattle.std.specs.Prelude.{length, Option, None, Result, Ok, Err}
 use Rattle.pm_io.specs.Bytes.{Gains, Loses, AtEnd}
+use Rattle.pm_io.specs.Letters.{line_feed}
 use Rattle.obj_lines.specs.Text.{until, lines}
 use Rattle.pm_forest.specs.Forest.{Hierarchy}
 use Rattle.pm_session.specs.declared.command.ScriptFault.{ScriptFault}
@@ -77,7 +78,7 @@ at_of s = record { bytes = s.at.before; number = s.at.number; state = s.state }
 
 -- The bytes of the open line have no LF, and are few enough.
 pub record IsReady (line : List ℕ) (p : Progress) : Type 0 where
-  pub clean : until 10 line ≡ line
+  pub clean : until line_feed line ≡ line
   pub short : length line ≤ 1024
   pub within : p.before + length line ≤ MOST_SCRIPT_BYTES
   pub numbered : p.number ≤ p.before + 1
@@ -107,9 +108,9 @@ Steps b s (Err e) = Serves b.h b.grammar b.state b.script s.left b.got s.got (Er
 -- The bytes taken end the open line, which has this text before its LF.
 pub record EndsLine (line taken text : List ℕ) : Type 0 where
   pub rest_of_line : List ℕ
-  pub cut : taken ≡ rest_of_line ++ 10 ∷ []
+  pub cut : taken ≡ rest_of_line ++ line_feed ∷ []
   pub text_is : text ≡ line ++ rest_of_line
-  pub clean : until 10 rest_of_line ≡ rest_of_line
+  pub clean : until line_feed rest_of_line ≡ rest_of_line
   pub short : length text ≤ 1024
 
 -- What bytes that are taken make of the open line, where there is room for so many.
@@ -118,11 +119,11 @@ Gathers states.NoMore room line taken line' = (taken ≡ []) × (line' ≡ line)
 Gathers states.Past room line taken line' =
     (room ≡ 0) × (length taken ≡ 1) × (line' ≡ line)
 Gathers states.Partial room line taken line' =
-    (length taken ≤ room) × (0 < length taken) × (line' ≡ line ++ taken) × (until 10 taken ≡ taken)
-    × (length line' ≤ 1024)
+    (length taken ≤ room) × (0 < length taken) × (line' ≡ line ++ taken)
+    × (until line_feed taken ≡ taken) × (length line' ≤ 1024)
 Gathers states.Whole room line taken line' = (length taken ≤ room) × EndsLine line taken line'
 Gathers states.TooLong room line taken line' =
-    (length taken ≤ room) × (until 10 taken ≡ taken) × (length line + length taken ≡ 1025)
+    (length taken ≤ room) × (until line_feed taken ≡ taken) × (length line + length taken ≡ 1025)
     × (line' ≡ line)
 
 -- Bytes are taken of what is left; where none are, nothing is.
