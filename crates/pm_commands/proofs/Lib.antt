@@ -1,5 +1,6 @@
 pub mod SurfaceLaws
 pub mod BeginningLaws
+pub mod StreamLaws
 pub mod ReadingLaws
 pub mod BuildLaws
 pub mod SomePolicyRuns
@@ -11,6 +12,7 @@ pub mod EndingLaws
 pub mod JudgedLaws
 pub mod SomeOutcomes
 pub mod StartLaws
+pub mod ScriptLaws
 pub mod ViewLaws
 pub mod LiveLaws
 pub mod BorderLaws

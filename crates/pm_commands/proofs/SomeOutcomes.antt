@@ -38,7 +38,7 @@ use Rattle.pm_commands.specs.Beginning.{IsHierarchyText, no_hierarchy, bytes_aft
 use Rattle.pm_commands.specs.Ran.{Ran, whole_output, unread, of_script}
 use Rattle.pm_commands.specs.Outcome.{done_with, Follows, counts_line, PlaysScript, SomeOutcome}
 use Rattle.pm_commands.proofs.JudgedLaws.{once_or_repeats, judged}
-use Rattle.pm_commands.proofs.ReadingLaws.{bad_text}
+use Rattle.pm_commands.proofs.StreamLaws.{bad_text}
 use Rattle.pm_commands.proofs.SimplifiedLaws.{some_simplified, some_simplified_with}
 
 -- What the bytes give, and by which place.

@@ -78,9 +78,9 @@ pub fn check<S: Source, K: Sink>(
     Ok(())
 }
 
-/// A script of this grammar: reads the stream of a valid hierarchy, and does the script that
-/// follows it line by line. The reply to a line is put whole before more is asked for than the
-/// window holds.
+// A script of this grammar: reads the stream of a valid hierarchy, and does the script that
+// follows it line by line. The reply to a line is put whole before more is asked for than the
+// window holds.
 fn play<S: Source, K: Sink>(
     alloc: Global,
     grammar: Grammar,
