@@ -1,5 +1,5 @@
 -- What is said of an ending, over devices as they were and as they are.
-use Rattle.std.specs.Prelude.{ℕ, List, Option, IfSome}
+use Rattle.std.specs.Prelude.{ℕ, Option, IfSome}
 use Rattle.pm_io.specs.declared.device.Source as source
 use Rattle.pm_io.specs.declared.device.Sink as sink
 use Rattle.pm_commands.specs.declared.asked.Asked.{Asked}
