@@ -9,9 +9,11 @@ use Rattle.pm_base.proofs.Ring.{diff-of, diff_same, add-diff, mul-diff, neg-diff
 use Rattle.pm_base.proofs.Squares.{square_is}
 use Rattle.pm_quadric.specs.Planes.{Plane, plane_value, squared_value, squares_of}
 use Rattle.pm_quadric.specs.Sums.{sums_of}
+use Rattle.pm_quadric.proofs.Expansion.{sum_times}
 use Rattle.pm_fine.specs.declared.matrix.Vector.{Vector}
 use Rattle.pm_fine.specs.Fourth.{half, half_gradient}
 use Rattle.pm_fine.specs.FourthLaws.{LeastWhereLevel}
+use Rattle.pm_fine.proofs.NearLaws.{twice_is}
 
 -- Half of an even number and another.
 half_is : (z h : ℤ) (r : ℕ) → r < 2 → z ≡ h +ℤ h +ℤ pos r → half z ≡ h
@@ -27,10 +29,6 @@ left_is : (z : ℤ) → (left z < 2) × (z ≡ half z +ℤ half z +ℤ pos (left
 unfolding left
 left_is (pos n) = (omega (arith, ints), omega (arith, ints))
 left_is (negsuc n) = (omega (arith, ints), omega (arith, ints))
-
-twice_is : (k : ℤ) → pos 2 *ℤ k ≡ k +ℤ k
-twice_is k =
-    rw (diff-of k, pos_is_diff 2) (simp (add-diff, mul-diff) (diff_same _ _ _ _ (omega arith)))
 
 half_more : (k z : ℤ) → half (pos 2 *ℤ k +ℤ z) ≡ k +ℤ half z
 half_more k z =
@@ -117,11 +115,6 @@ rise_times v a b c d x y z r s t =
     (rw (diff-of r, diff-of s, diff-of t)
     (simp (add-diff, neg-diff, mul-diff) (diff_same _ _ _ _ (omega arith))))
 
-apart : (s t m : ℤ) → (s +ℤ t) *ℤ m ≡ s *ℤ m +ℤ t *ℤ m
-apart s t m =
-    rw (diff-of s, diff-of t, diff-of m)
-    (simp (add-diff, mul-diff) (diff_same _ _ _ _ (omega arith)))
-
 none : (m : ℤ) → pos 0 *ℤ m ≡ pos 0
 none m = rw (diff-of m, pos_is_diff 0) (simp mul-diff (diff_same _ _ _ _ (omega arith)))
 
@@ -152,9 +145,9 @@ expanded (f ∷ fs) p q =
     let y = q.y -ℤ p.y in
     let z = q.z -ℤ p.z in
     rw (
-      apart (f.a *ℤ v) (x_sum fs p) x,
-      apart (f.b *ℤ v) (y_sum fs p) y,
-      apart (f.c *ℤ v) (z_sum fs p) z,
+      sum_times (f.a *ℤ v) (x_sum fs p) x,
+      sum_times (f.b *ℤ v) (y_sum fs p) y,
+      sum_times (f.c *ℤ v) (z_sum fs p) z,
     )
     (both (f.a *ℤ v *ℤ x) (f.b *ℤ v *ℤ y) (f.c *ℤ v *ℤ z) (x_sum fs p *ℤ x) (y_sum fs p *ℤ y)
     (z_sum fs p *ℤ z) (v *ℤ t) (squared_value f q) (squared_value f p)

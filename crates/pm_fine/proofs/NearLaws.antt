@@ -12,7 +12,7 @@ use Rattle.pm_fine.specs.Rounded.{near}
 pub div_less : (n d m : ℕ) → n < d * m → n / d < m
 div_less n d m l = grind (arith, common_steps, mul-div-le, mul-le)
 
-twice_is : (a : ℤ) → pos 2 *ℤ a ≡ a +ℤ a
+pub twice_is : (a : ℤ) → pos 2 *ℤ a ≡ a +ℤ a
 twice_is a = omega (arith, ints, product_is (pos 2) a)
 
 part_small : (z a : ℤ) (b m : ℕ) → 0 < b → z ≡ a +ℤ a +ℤ pos b → unsigned_abs a ≤ m * b

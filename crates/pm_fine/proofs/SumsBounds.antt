@@ -3,13 +3,12 @@ use Rattle.std.proofs.Common.{◌≡◌, ℕ, ◌+◌, ◌*◌, ◌^◌, ◌≤�
 use Rattle.std.proofs.lemmas.Grind.{common_steps}
 use Rattle.std.proofs.Common.{lit≤}
 use Rattle.std.proofs.Math.Nat.{le_refl}
-use Rattle.std.specs.Prelude.{ℤ, pos, ◌+ℤ◌, ◌*ℤ◌, unsigned_abs}
+use Rattle.std.specs.Prelude.{pos, ◌*ℤ◌, unsigned_abs}
 use Rattle.std.proofs.lemmas.Nat.{mul-le}
-use Rattle.pm_base.proofs.Squares.{abs_plus}
-use Rattle.pm_base.proofs.Range.{abs_product}
 use Rattle.pm_fine.specs.declared.fine_quadric.TheConstants.{MOST_FINE_PLANES}
 use Rattle.pm_quadric.specs.Planes.{Plane}
 use Rattle.pm_quadric.specs.Sums.{Sums, plus_sums, coefficients, sums_of}
+use Rattle.pm_quadric.proofs.SumsBounds.{once, twice, one_more}
 use Rattle.pm_fine.specs.FinePlanes.{IsFinePlane, AreFinePlanes}
 use Rattle.pm_fine.specs.FineSums.{IsFineSmall}
 
@@ -26,19 +25,6 @@ pub record IsWithin (n : ℕ) (s : Sums) : Type 0 where
   pub z : unsigned_abs s.z ≤ n * 2 ^ 72
   pub one : unsigned_abs s.one ≤ n * 2 ^ 88
   pub count : s.count ≡ n
-
-once : (a b : ℤ) (m n k : ℕ) → unsigned_abs a ≤ m → unsigned_abs b ≤ n → m * n ≤ k
-    → unsigned_abs (a *ℤ b) ≤ k
-once a b m n k p q r = omega (arith, abs_product a b m n p q)
-
-twice : (a b : ℤ) (m n k : ℕ) → unsigned_abs a ≤ m → unsigned_abs b ≤ n → 2 * (m * n) ≤ k
-    → unsigned_abs (pos 2 *ℤ (a *ℤ b)) ≤ k
-twice a b m n k p q r =
-    omega (arith, abs_product (pos 2) (a *ℤ b) 2 (m * n) (lit≤ tt) (abs_product a b m n p q))
-
-one_more : (x y : ℤ) (n k : ℕ) → unsigned_abs x ≤ k → unsigned_abs y ≤ n * k
-    → unsigned_abs (x +ℤ y) ≤ (n + 1) * k
-one_more x y n k p q = omega (arith, abs_plus x y)
 
 plane_more : (f : Plane) (s : Sums) (n : ℕ) → IsFinePlane f → IsWithin n s
     → IsWithin (n + 1) (plus_sums (coefficients f) s)

@@ -11,12 +11,13 @@ use Rattle.pm_quadric.specs.Planes.{Plane, plane_value, squared_value, squares_o
 use Rattle.pm_quadric.specs.Sums.{Sums, plus_sums, coefficients, sums_of}
 use Rattle.pm_quadric.specs.Expanded.{polynomial}
 
--- The polynomial of two sums is the sum of both polynomials.
-times : (s t m : ℤ) → (s +ℤ t) *ℤ m ≡ s *ℤ m +ℤ t *ℤ m
-times s t m =
+-- A sum times a number.
+pub sum_times : (s t m : ℤ) → (s +ℤ t) *ℤ m ≡ s *ℤ m +ℤ t *ℤ m
+sum_times s t m =
     rw (diff-of s, diff-of t, diff-of m)
     (simp (add-diff, mul-diff) (diff_same _ _ _ _ (omega arith)))
 
+-- The polynomial of two sums is the sum of both polynomials.
 ten_sums : (a b c d e f g h i j a' b' c' d' e' f' g' h' i' j' : ℤ)
     → ((a +ℤ a') +ℤ (b +ℤ b') +ℤ (c +ℤ c')) +ℤ ((d +ℤ d') +ℤ (e +ℤ e') +ℤ (f +ℤ f')) +ℤ
     ((g +ℤ g') +ℤ (h +ℤ h') +ℤ (i +ℤ i')) +ℤ (j +ℤ j')
@@ -27,7 +28,7 @@ ten_sums a b c d e f g h i j a' b' c' d' e' f' g' h' i' j' = omega (arith, ints)
 pub polynomial-plus : (s t : Sums) (p : Place)
     → polynomial (plus_sums s t) p ≡ polynomial s p +ℤ polynomial t p
 unfolding polynomial
-polynomial-plus s t p = grind (arith, common_steps, ten_sums, times)
+polynomial-plus s t p = grind (arith, common_steps, ten_sums, sum_times)
 
 -- The square of a plane's value, multiplied out.
 multiplied_out : (a b c d x y z : ℤ)

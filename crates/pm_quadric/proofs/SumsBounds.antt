@@ -27,16 +27,17 @@ pub record IsWithin (n : ℕ) (s : Sums) : Type 0 where
   pub one : unsigned_abs s.one ≤ n * 2 ^ 100
   pub count : s.count ≡ n
 
-once : (a b : ℤ) (m n k : ℕ) → unsigned_abs a ≤ m → unsigned_abs b ≤ n → m * n ≤ k
+-- A product, twice a product, and one more of n terms.
+pub once : (a b : ℤ) (m n k : ℕ) → unsigned_abs a ≤ m → unsigned_abs b ≤ n → m * n ≤ k
     → unsigned_abs (a *ℤ b) ≤ k
 once a b m n k p q r = omega (arith, abs_product a b m n p q)
 
-twice : (a b : ℤ) (m n k : ℕ) → unsigned_abs a ≤ m → unsigned_abs b ≤ n → 2 * (m * n) ≤ k
+pub twice : (a b : ℤ) (m n k : ℕ) → unsigned_abs a ≤ m → unsigned_abs b ≤ n → 2 * (m * n) ≤ k
     → unsigned_abs (pos 2 *ℤ (a *ℤ b)) ≤ k
 twice a b m n k p q r =
     omega (arith, abs_product (pos 2) (a *ℤ b) 2 (m * n) (lit≤ tt) (abs_product a b m n p q))
 
-one_more : (x y : ℤ) (n k : ℕ) → unsigned_abs x ≤ k → unsigned_abs y ≤ n * k
+pub one_more : (x y : ℤ) (n k : ℕ) → unsigned_abs x ≤ k → unsigned_abs y ≤ n * k
     → unsigned_abs (x +ℤ y) ≤ (n + 1) * k
 one_more x y n k p q = omega (arith, abs_plus x y)
 
