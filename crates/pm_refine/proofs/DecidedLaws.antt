@@ -55,7 +55,7 @@ module _ {aim : Aim} (fit : IsFit aim) where
   -- After it all records from it on are decided. A record that stays and is split changes nothing;
   pub decided_same : {k : ℕ} {held : Sets} → IsNext aim k held
       → (aim.split k ≡ true) × (aimed aim k ≡ true)
-      → AreDecided aim k (sets (set held.marks k false) held.work held.rises held.falls)
+      → AreDecided aim k (sets (set held.marks k false) held.work held.splits held.collapses)
   decided_same {k} {held} n both =
       let (s, g) = both in
       let l = n.is_record in
@@ -92,7 +92,7 @@ module _ {aim : Aim} (fit : IsFit aim) where
       length marks' ≡ record_count aim.h → length work' ≡ record_count aim.h →
       Joins (set_of (set held.marks k false)) (set_of marks') (needs aim.h k)
       → Joins (set_of held.work) (set_of work') (needs aim.h k)
-      → AreDecided aim k (sets marks' work' (set held.rises k true) held.falls)
+      → AreDecided aim k (sets marks' work' (set held.splits k true) held.collapses)
   decided_split k held marks' work' n s g mark_len work_len m w =
       let T = aimed aim in
       let l = n.is_record in
@@ -150,9 +150,9 @@ module _ {aim : Aim} (fit : IsFit aim) where
         loose = λ j j_lt e. stays j (n.loose j j_lt e);
         pushed = λ i j t need j_lt. stays j (n.pushed i j t need j_lt);
         to_do = record {
-          up = holds_more (record_count aim.h) (less T aim.split) k held.rises l n.to_do.up
+          up = holds_more (record_count aim.h) (less T aim.split) k held.splits l n.to_do.up
               (and_from (T k) (not (aim.split k)) g (not_from_false (aim.split k) s));
-          down = holds_same (record_count aim.h) (less aim.split T) k held.falls n.to_do.down
+          down = holds_same (record_count aim.h) (less aim.split T) k held.collapses n.to_do.down
               (and_left (aim.split k) (not (T k)) s);
         };
       }
@@ -162,19 +162,19 @@ module _ {aim : Aim} (fit : IsFit aim) where
       → aim.split k ≡ true → aimed aim k ≡ false →
       length work' ≡ record_count aim.h → Joins (set_of held.work) (set_of work') (needs aim.h k)
       → AreDecided aim k
-      (sets (set held.marks k false) work' held.rises (set held.falls k true))
+      (sets (set held.marks k false) work' held.splits (set held.collapses k true))
   decided_gone k held work' n s g work_len w =
       let T = aimed aim in
       let l = n.is_record in
       let len = n.mark_len in
       let stays : (j : ℕ) → set_of held.work j ≡ true → set_of work' j ≡ true =
       λ j t. joined-old (set_of held.work) (set_of work') (needs aim.h k) j w t in
-      let gone_cases : (j : ℕ) → set_of (set held.falls k true) j ≡ true
-      → (j ≡ k) ⊎ (set_of held.falls j ≡ true) = λ j t.
+      let gone_cases : (j : ℕ) → set_of (set held.collapses k true) j ≡ true
+      → (j ≡ k) ⊎ (set_of held.collapses j ≡ true) = λ j t.
       elim (cases_eq j k) [
         | inl is ↦ inl is
         | inr other ↦
-            inr (sym (get_or-set_other held.falls k j true false other) ∙ t)
+            inr (sym (get_or-set_other held.collapses k j true false other) ∙ t)
       ] in
       record {
         most = omega arith;
@@ -212,37 +212,39 @@ module _ {aim : Aim} (fit : IsFit aim) where
           | inr u ↦ stays j (n.pushed i j u need j_lt)
         ];
         to_do = record {
-          up = holds_same (record_count aim.h) (less T aim.split) k held.rises n.to_do.up
+          up = holds_same (record_count aim.h) (less T aim.split) k held.splits n.to_do.up
               (and_left (T k) (not (aim.split k)) g);
-          down = holds_more (record_count aim.h) (less aim.split T) k held.falls l n.to_do.down
+          down = holds_more (record_count aim.h) (less aim.split T) k held.collapses l n.to_do.down
               (and_from (aim.split k) (not (T k)) s (not_from_false (T k) g));
         };
       }
 
-  pub decided_by : {k : ℕ} {is_split : Bool} {held : Sets} (marks' work' rises' falls' : List Bool)
+  pub decided_by : {k : ℕ} {is_split : Bool} {held : Sets}
+      (marks' work' splits' collapses' : List Bool)
       → IsNext aim k held → is_split ≡ aim.split k → aimed aim k ≡ not (aim.split k)
       → length marks' ≡ record_count aim.h → length work' ≡ record_count aim.h
       → Joins (set_of held.work) (set_of work') (needs aim.h k)
-      → (is_split ≡ true → (marks' ≡ set held.marks k false) × (rises' ≡ held.rises)
-      × (falls' ≡ set held.falls k true))
+      → (is_split ≡ true → (marks' ≡ set held.marks k false) × (splits' ≡ held.splits)
+      × (collapses' ≡ set held.collapses k true))
       → (is_split ≡ false → Joins (set_of (set held.marks k false)) (set_of marks') (needs aim.h k)
-      × (rises' ≡ set held.rises k true) × (falls' ≡ held.falls))
-      → AreDecided aim k (sets marks' work' rises' falls')
-  decided_by {k} {is_split} {held} marks' work' rises' falls' n split turned mark_len work_len w
-      goes comes =
+      × (splits' ≡ set held.splits k true) × (collapses' ≡ held.collapses))
+      → AreDecided aim k (sets marks' work' splits' collapses')
+  decided_by {k} {is_split} {held} marks' work' splits' collapses' n split turned mark_len work_len
+      w goes comes =
       elim (cases_Bool (aim.split k)) [
         | inl t ↦
             let p = goes (split ∙ t) in
-            subst (λ ms. AreDecided aim k (sets ms work' rises' falls')) (sym p.0)
-            (subst (λ rs. AreDecided aim k (sets (set held.marks k false) work' rs falls'))
+            subst (λ ms. AreDecided aim k (sets ms work' splits' collapses')) (sym p.0)
+            (subst (λ rs. AreDecided aim k (sets (set held.marks k false) work' rs collapses'))
             (sym p.1)
-            (subst (λ fs. AreDecided aim k (sets (set held.marks k false) work' held.rises fs))
+            (subst (λ fs. AreDecided aim k (sets (set held.marks k false) work' held.splits fs))
             (sym p.2)
             (decided_gone k held work' n t (turned ∙ not_from_true (aim.split k) t) work_len w)))
         | inr f ↦
             let p = comes (split ∙ f) in
-            subst (λ rs. AreDecided aim k (sets marks' work' rs falls')) (sym p.1)
-            (subst (λ fs. AreDecided aim k (sets marks' work' (set held.rises k true) fs)) (sym p.2)
+            subst (λ rs. AreDecided aim k (sets marks' work' rs collapses')) (sym p.1)
+            (subst (λ fs. AreDecided aim k (sets marks' work' (set held.splits k true) fs))
+            (sym p.2)
             (decided_split k held marks' work' n f (turned ∙ not_from_false (aim.split k) f)
             mark_len work_len p.0 w))
       ]

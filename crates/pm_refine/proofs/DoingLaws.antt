@@ -134,45 +134,46 @@ module _ (h : Hierarchy) where
   lists-append T (x ∷ xs) ys ls = lists-append (moved T x) xs ys (moved_lists h T x ls)
 
 -- The plan is the splits of the one set and the collapses of the other, and they are legal.
-module _ (h : Hierarchy) (S G : ℕ → Bool) (rises falls : List Bool)
-    (m : HoldsMoves (record_count h) S G 0 rises falls) where
+module _ (h : Hierarchy) (S G : ℕ → Bool) (splits collapses : List Bool)
+    (m : HoldsMoves (record_count h) S G 0 splits collapses) where
   as_held : (p : ℕ → Bool) (flags : List Bool) → HoldsFrom (record_count h) p 0 flags → (j : ℕ)
       → j < record_count h → p j ≡ set_of flags j
   as_held p flags holds j l =
       same_bools (p j) (set_of flags j) (λ t. holds.there j (omega arith) l t)
       (λ t. (holds.only j t).1)
 
-  pub plan_is : plan h S G ≡ moves_of rises falls
+  pub plan_is : plan h S G ≡ moves_of splits collapses
   unfolding plan
   plan_is =
       let n = record_count h in
-      let up : ascending Split (less G S) n ≡ splits_of rises =
-      ascending-same Split (less G S) (set_of rises) n (as_held (less G S) rises m.up)
-      ∙ ap (ascending Split (set_of rises)) (sym m.up.len) in
-      let down : descending Collapse (less S G) n ≡ collapses_of falls =
-      descending-same Collapse (less S G) (set_of falls) n (as_held (less S G) falls m.down)
-      ∙ ap (descending Collapse (set_of falls)) (sym m.down.len) in
-      ap (λ ms. ms ++ descending Collapse (less S G) n) up ∙ ap (λ ms. splits_of rises ++ ms) down
+      let up : ascending Split (less G S) n ≡ splits_of splits =
+      ascending-same Split (less G S) (set_of splits) n (as_held (less G S) splits m.up)
+      ∙ ap (ascending Split (set_of splits)) (sym m.up.len) in
+      let down : descending Collapse (less S G) n ≡ collapses_of collapses =
+      descending-same Collapse (less S G) (set_of collapses) n (as_held (less S G) collapses m.down)
+      ∙ ap (descending Collapse (set_of collapses)) (sym m.down.len) in
+      ap (λ ms. ms ++ descending Collapse (less S G) n) up ∙ ap (λ ms. splits_of splits ++ ms) down
 
-  pub plan_legal : IsValid h → IsClosed h S → IsClosed h G → AreLegal h S (moves_of rises falls)
+  pub plan_legal : IsValid h → IsClosed h S → IsClosed h G
+      → AreLegal h S (moves_of splits collapses)
   plan_legal valid a b = subst (AreLegal h S) plan_is (legal h valid S G a b)
 
 -- The first moves of two sets are the first splits, and then the first collapses with what is left
 -- of the budget.
-module _ (rises falls : List Bool) (budget : ℕ) where
-  pub moves_start : take budget (moves_of rises falls) ≡ take budget (splits_of rises)
-      ++ take (budget - length (splits_of rises)) (collapses_of falls)
-  moves_start = take_both budget (splits_of rises) (collapses_of falls)
+module _ (splits collapses : List Bool) (budget : ℕ) where
+  pub moves_start : take budget (moves_of splits collapses) ≡ take budget (splits_of splits)
+      ++ take (budget - length (splits_of splits)) (collapses_of collapses)
+  moves_start = take_both budget (splits_of splits) (collapses_of collapses)
 
   -- They are legal where all are.
-  pub may_start : (h : Hierarchy) (S : ℕ → Bool) → AreLegal h S (moves_of rises falls)
-      → AreLegal h S (take budget (splits_of rises))
-      × AreLegal h (moved_by S (take budget (splits_of rises)))
-      (take (budget - length (splits_of rises)) (collapses_of falls))
+  pub may_start : (h : Hierarchy) (S : ℕ → Bool) → AreLegal h S (moves_of splits collapses)
+      → AreLegal h S (take budget (splits_of splits))
+      × AreLegal h (moved_by S (take budget (splits_of splits)))
+      (take (budget - length (splits_of splits)) (collapses_of collapses))
   may_start h S all =
-      legal-parts h S (take budget (splits_of rises))
-      (take (budget - length (splits_of rises)) (collapses_of falls))
-      (subst (AreLegal h S) moves_start (legal-take h S budget (moves_of rises falls) all))
+      legal-parts h S (take budget (splits_of splits))
+      (take (budget - length (splits_of splits)) (collapses_of collapses))
+      (subst (AreLegal h S) moves_start (legal-take h S budget (moves_of splits collapses) all))
 
 -- Some moves of a list are to do; its first one is legal,
 module _ (h : Hierarchy) (T U : ℕ → Bool) (before after : List (List ℕ)) (ms : List Move) where

@@ -3,7 +3,7 @@ pub mod AnswerLaws
 pub mod SetLaws
 pub mod CountLaws
 pub mod NeedLaws
-pub mod FallsLaws
+pub mod CollapseLaws
 pub mod FindingLaws
 pub mod DecidingLaws
 pub mod DecidedLaws

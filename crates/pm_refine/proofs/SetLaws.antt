@@ -107,12 +107,12 @@ fewer_left m k t =
     omega arith
 
 -- The moves that two sets hold.
-module _ (n : ℕ) (S G : ℕ → Bool) (b : ℕ) (rises falls : List Bool)
-    (m : HoldsMoves n S G b rises falls) where
-  pub gone-parts : (j : ℕ) → set_of falls j ≡ true → (b ≤ j) × (S j ≡ true) × (G j ≡ false)
+module _ (n : ℕ) (S G : ℕ → Bool) (b : ℕ) (splits collapses : List Bool)
+    (m : HoldsMoves n S G b splits collapses) where
+  pub gone-parts : (j : ℕ) → set_of collapses j ≡ true → (b ≤ j) × (S j ≡ true) × (G j ≡ false)
   gone-parts j t = let o = m.down.only j t in let p = less-parts S G j o.1 in (o.0, p.0, p.1)
 
-  pub gone-from : (j : ℕ) → b ≤ j → j < n → S j ≡ true → G j ≡ false → set_of falls j ≡ true
+  pub gone-from : (j : ℕ) → b ≤ j → j < n → S j ≡ true → G j ≡ false → set_of collapses j ≡ true
   gone-from j low l s f =
       m.down.there j low l (and_from (S j) (not (G j)) s (not_from_false (G j) f))
 

@@ -52,17 +52,22 @@ is_used aim j = aim.split j && not (is_unneeded aim.h aim.split j)
 pub record Sets : Type 0 where
   pub marks : List Bool
   pub work : List Bool
-  pub rises : List Bool
-  pub falls : List Bool
+  pub splits : List Bool
+  pub collapses : List Bool
 
 abbrev pub sets : List Bool → List Bool → List Bool → List Bool → Sets
-sets marks work rises falls = record { marks = marks; work = work; rises = rises; falls = falls }
+sets marks work splits collapses = record {
+  marks = marks;
+  work = work;
+  splits = splits;
+  collapses = collapses;
+}
 
 -- Those of a plan.
 abbrev pub sets_of : Plan → Sets
-sets_of p = sets p.marks.items p.work p.rises p.falls.records
+sets_of p = sets p.marks.items p.work p.splits p.collapses.records
 
 -- They hold the moves of all records from b on.
 abbrev pub HoldsAimed : Aim → ℕ → Sets → Type 0
 HoldsAimed aim b held =
-    HoldsMoves (record_count aim.h) aim.split (aimed aim) b held.rises held.falls
+    HoldsMoves (record_count aim.h) aim.split (aimed aim) b held.splits held.collapses

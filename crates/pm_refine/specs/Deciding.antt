@@ -9,9 +9,9 @@ use Rattle.pm_refine.specs.Aims.{Aim, Sets, HoldsAimed, aimed, is_moved, is_used
 use Rattle.pm_candidates.specs.Needed.{is_needed, is_unneeded, remaining}
 use Rattle.pm_refine.specs.Finding.{is_due, is_loose}
 
--- All records from b on are decided: `rises` has those that will be split, and `falls` those that
--- will be collapsed. Of those below, what a record needs that will be split is marked. Still to be
--- decided is what is marked, what is due, what may go, and what a record needs that will be
+-- All records from b on are decided: `splits` has those that will be split, and `collapses` those
+-- that will be collapsed. Of those below, what a record needs that will be split is marked. Still
+-- to be decided is what is marked, what is due, what may go, and what a record needs that will be
 -- collapsed.
 pub record AreDecided (aim : Aim) (b : ℕ) (held : Sets) : Type 0 where
   pub most : b ≤ record_count aim.h
@@ -28,7 +28,7 @@ pub record AreDecided (aim : Aim) (b : ℕ) (held : Sets) : Type 0 where
       → Needs aim.h i j → j < b → set_of held.marks j ≡ true
   pub due : (j : ℕ) → j < b → is_due aim j ≡ true → set_of held.work j ≡ true
   pub loose : (j : ℕ) → j < b → is_loose aim j ≡ true → set_of held.work j ≡ true
-  pub pushed : (i j : ℕ) → set_of held.falls i ≡ true → Needs aim.h i j → j < b
+  pub pushed : (i j : ℕ) → set_of held.collapses i ≡ true → Needs aim.h i j → j < b
       → set_of held.work j ≡ true
   pub to_do : HoldsAimed aim b held
 
@@ -52,13 +52,13 @@ pub record IsNext (aim : Aim) (k : ℕ) (held : Sets) : Type 0 where
       → Needs aim.h i j → j ≤ k → set_of held.marks j ≡ true
   pub due : (j : ℕ) → j < k → is_due aim j ≡ true → set_of held.work j ≡ true
   pub loose : (j : ℕ) → j < k → is_loose aim j ≡ true → set_of held.work j ≡ true
-  pub pushed : (i j : ℕ) → set_of held.falls i ≡ true → Needs aim.h i j → j < k
+  pub pushed : (i j : ℕ) → set_of held.collapses i ≡ true → Needs aim.h i j → j < k
       → set_of held.work j ≡ true
   pub to_do : HoldsAimed aim (suc k) held
 
 -- A split record that won't be collapsed needs record k.
 abbrev pub is_held : Aim → Sets → ℕ → Bool
-is_held aim held k = is_needed aim.h (remaining aim.split (set_of held.falls)) k
+is_held aim held k = is_needed aim.h (remaining aim.split (set_of held.collapses)) k
 
 -- Whether record k, where it is next, is in the target: where it isn't split, where it is marked,
 -- where a record that stays needs it, and where its node is wanted.

@@ -7,15 +7,15 @@ use Rattle.pm_front.specs.Corners.{corner_lists_after}
 
 -- The splits of the records of a set, ascending.
 abbrev pub splits_of : List Bool → List Move
-splits_of rises = ascending Split (set_of rises) (length rises)
+splits_of records = ascending Split (set_of records) (length records)
 
 -- The collapses of the records of a set, descending.
 abbrev pub collapses_of : List Bool → List Move
-collapses_of falls = descending Collapse (set_of falls) (length falls)
+collapses_of records = descending Collapse (set_of records) (length records)
 
 -- All moves of two sets.
 abbrev pub moves_of : List Bool → List Bool → List Move
-moves_of rises falls = splits_of rises ++ collapses_of falls
+moves_of splits collapses = splits_of splits ++ collapses_of collapses
 
 -- The moves are legal, and lead from a set of records and its corner lists to another one and its
 -- own.

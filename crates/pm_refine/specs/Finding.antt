@@ -20,22 +20,22 @@ is_due_now aim j = may_try aim.h aim.split j && aim.wanted (s_of aim.h j)
 abbrev pub is_loose : Aim → ℕ → Bool
 is_loose aim j = is_unneeded aim.h aim.split j && not (aim.wanted (s_of aim.h j))
 
--- Due records from b on are in `rises`; `work` has those that were in it, and the records that may
+-- Due records from b on are in `splits`; `work` has those that were in it, and the records that may
 -- go. Found are the due records that split active nodes, and those that split children of due
 -- records in `work`.
-pub record AreFound (aim : Aim) (b : ℕ) (rises work : List Bool) : Type 0 where
+pub record AreFound (aim : Aim) (b : ℕ) (splits work : List Bool) : Type 0 where
   pub most : b ≤ record_count aim.h
-  pub rises_len : length rises ≡ record_count aim.h
+  pub splits_len : length splits ≡ record_count aim.h
   pub work_len : length work ≡ record_count aim.h
-  pub rises_only : (j : ℕ) → set_of rises j ≡ true → (b ≤ j) × (is_due aim j ≡ true)
+  pub splits_only : (j : ℕ) → set_of splits j ≡ true → (b ≤ j) × (is_due aim j ≡ true)
   pub work_only : (j : ℕ) → set_of work j ≡ true → (is_due aim j ≡ true) ⊎ (is_loose aim j ≡ true)
   pub loose : (j : ℕ) → j < record_count aim.h → is_loose aim j ≡ true → set_of work j ≡ true
   pub active : (j : ℕ) → j < record_count aim.h → is_due aim j ≡ true
-      → is_active aim.h aim.split (s_of aim.h j) ≡ true → (set_of rises j || set_of work j) ≡ true
+      → is_active aim.h aim.split (s_of aim.h j) ≡ true → (set_of splits j || set_of work j) ≡ true
   pub under :
       (i j : ℕ) → j < record_count aim.h → is_due aim i ≡ true → set_of work i ≡ true
       → Makes aim.h i (s_of aim.h j)
-      → is_due aim j ≡ true → (set_of rises j || set_of work j) ≡ true
+      → is_due aim j ≡ true → (set_of splits j || set_of work j) ≡ true
 
 -- The set has the due records, and those that may go.
 pub record IsStartOfPlan (aim : Aim) (work : List Bool) : Type 0 where

@@ -31,6 +31,6 @@ pub record HoldsBelow (n : ℕ) (p : ℕ → Bool) (b : ℕ) (flags : List Bool)
 
 -- On the way from S to G: the records from b on that are to be split, and those that are to be
 -- collapsed.
-pub record HoldsMoves (n : ℕ) (S G : ℕ → Bool) (b : ℕ) (rises falls : List Bool) : Type 0 where
-  pub up : HoldsFrom n (less G S) b rises
-  pub down : HoldsFrom n (less S G) b falls
+pub record HoldsMoves (n : ℕ) (S G : ℕ → Bool) (b : ℕ) (splits collapses : List Bool) : Type 0 where
+  pub up : HoldsFrom n (less G S) b splits
+  pub down : HoldsFrom n (less S G) b collapses

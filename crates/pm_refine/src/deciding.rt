@@ -24,14 +24,15 @@ use std::sync::ledger::Ledger;
 
 // Whether a split record needs record `k` that won't be collapsed: the split records need it more
 // often than those of them that will be.
-fn is_still_needed(front: &Front, falls: &CountedRecords, k: u32) -> bool
+fn is_still_needed(front: &Front, collapses: &CountedRecords, k: u32) -> bool
     requires record { k < record_count front.now.h }
-    requires split { (j : ℕ) → set_of falls.now.records j ≡ true → set_of front.now.flags j ≡ true }
-    requires counts { AreNeedCounts front.now.h (set_of falls.now.records) falls.now.needs }
+    requires split { (j : ℕ) → set_of collapses.now.records j ≡ true
+        → set_of front.now.flags j ≡ true }
+    requires counts { AreNeedCounts front.now.h (set_of collapses.now.records) collapses.now.needs }
     ensures { result ≡ is_needed front.now.h
-        (remaining (set_of front.now.flags) (set_of falls.now.records)) k }
+        (remaining (set_of front.now.flags) (set_of collapses.now.records)) k }
 {
-    falls.need_count(k) != front.need_count(k)
+    collapses.need_count(k) != front.need_count(k)
 }
 
 impl Plan {
@@ -41,10 +42,10 @@ impl Plan {
         requires measures { IsServed sight.now }
         requires record { k < record_count sight.now.front.now.h }
         requires marks { length self.now.marks.items ≡ record_count sight.now.front.now.h }
-        requires split { (j : ℕ) → set_of self.now.falls.records j ≡ true
+        requires split { (j : ℕ) → set_of self.now.collapses.records j ≡ true
             → set_of sight.now.front.now.flags j ≡ true }
-        requires counts { AreNeedCounts sight.now.front.now.h (set_of self.now.falls.records)
-            self.now.falls.needs }
+        requires counts { AreNeedCounts sight.now.front.now.h (set_of self.now.collapses.records)
+            self.now.collapses.needs }
         ensures value { result ≡ is_staying (aim_of sight.now) (sets_of self.now) k }
         ensures cost { let test = is_tested (aim_of sight.now) (sets_of self.now) k in
             steps.new ≤ steps.old + one_if test }
@@ -55,7 +56,7 @@ impl Plan {
         if self.marks[k as usize] {
             return true;
         }
-        if is_still_needed(sight.front, &self.falls, k) {
+        if is_still_needed(sight.front, &self.collapses, k) {
             return true;
         }
         let node = sight.front.split_node(k);
@@ -69,27 +70,29 @@ impl Plan {
         requires needed { AreNeedsOf h.now k needed.now }
         requires marks { length self.old.marks.items ≡ record_count h.now }
         requires work { length self.old.work ≡ record_count h.now }
-        requires rises { length self.old.rises ≡ record_count h.now }
-        requires falls { length self.old.falls.records ≡ record_count h.now }
-        requires absent { set_of self.old.falls.records k ≡ false }
-        requires counts { AreNeedCounts h.now (set_of self.old.falls.records) self.old.falls.needs }
+        requires splits { length self.old.splits ≡ record_count h.now }
+        requires collapses { length self.old.collapses.records ≡ record_count h.now }
+        requires absent { set_of self.old.collapses.records k ≡ false }
+        requires counts { AreNeedCounts h.now (set_of self.old.collapses.records)
+            self.old.collapses.needs }
         ensures len { length self.new.marks.items ≡ length self.old.marks.items }
         ensures work_len { length self.new.work ≡ length self.old.work }
         ensures work { Joins (set_of self.old.work) (set_of self.new.work) (needs h.now k) }
-        ensures counts { AreNeedCounts h.now (set_of self.new.falls.records) self.new.falls.needs }
+        ensures counts { AreNeedCounts h.now (set_of self.new.collapses.records)
+            self.new.collapses.needs }
         ensures goes { is_split ≡ true → (self.new.marks.items ≡ self.old.marks.items)
-            × (self.new.rises ≡ self.old.rises)
-            × (self.new.falls.records ≡ slice_set self.old.falls.records k true) }
+            × (self.new.splits ≡ self.old.splits)
+            × (self.new.collapses.records ≡ slice_set self.old.collapses.records k true) }
         ensures comes { is_split ≡ false
             → Joins (set_of self.old.marks.items) (set_of self.new.marks.items) (needs h.now k)
-            × (self.new.rises ≡ slice_set self.old.rises k true)
-            × (self.new.falls.records ≡ self.old.falls.records) }
+            × (self.new.splits ≡ slice_set self.old.splits k true)
+            × (self.new.collapses.records ≡ self.old.collapses.records) }
     {
         push_all(&mut self.work, needed);
         if is_split {
-            self.falls.insert(h, needed, k);
+            self.collapses.insert(h, needed, k);
         } else {
-            self.rises.insert(k);
+            self.splits.insert(k);
             mark_all(&mut self.marks, needed);
         }
     }
@@ -98,11 +101,11 @@ impl Plan {
     fn decide<L: Ledger>(&mut self, sight: &Sight, k: u32, steps: &mut Steps<L>) -> bool
         requires measures { IsServed sight.now }
         requires next { IsNext (aim_of sight.now) k (sets_of self.old) }
-        requires counts { AreNeedCounts sight.now.front.now.h (set_of self.old.falls.records)
-            self.old.falls.needs }
+        requires counts { AreNeedCounts sight.now.front.now.h (set_of self.old.collapses.records)
+            self.old.collapses.needs }
         ensures decided { AreDecided (aim_of sight.now) k (sets_of self.new) }
-        ensures counts { AreNeedCounts sight.now.front.now.h (set_of self.new.falls.records)
-            self.new.falls.needs }
+        ensures counts { AreNeedCounts sight.now.front.now.h (set_of self.new.collapses.records)
+            self.new.collapses.needs }
         ensures answer { result ≡ is_moved (aim_of sight.now) k }
         ensures cost { let aim = aim_of sight.now in
             steps.new ≤ steps.old + (one_if (is_used aim k) + one_if (is_moved aim k)) }
@@ -119,26 +122,27 @@ impl Plan {
         true
     }
 
-    /// Puts the records that will be split in the set `rises`, and those that will be collapsed in
-    /// the set `falls`, and answers how many they are. It empties the set `work`.
+    /// Puts the records that will be split in the set `splits`, and those that will be collapsed in
+    /// the set `collapses`, and answers how many they are. It empties the set `work`.
     pub(crate) fn decide_all<L: Ledger>(&mut self, sight: &Sight, steps: &mut Steps<L>) -> u32
         requires measures { IsServed sight.now }
         requires start { IsStartOfPlan (aim_of sight.now) self.old.work }
         requires marks { length self.old.marks.items ≡ record_count sight.now.front.now.h }
         requires clear { (j : ℕ) → set_of self.old.marks.items j ≡ false }
-        requires rises { length self.old.rises ≡ record_count sight.now.front.now.h }
-        requires falls { length self.old.falls.records ≡ record_count sight.now.front.now.h }
-        requires no_rises { IsEmptySet self.old.rises }
-        requires no_falls { IsEmptySet self.old.falls.records }
-        requires counts { AreNeedCounts sight.now.front.now.h (set_of self.old.falls.records)
-            self.old.falls.needs }
+        requires splits { length self.old.splits ≡ record_count sight.now.front.now.h }
+        requires collapses { length self.old.collapses.records
+            ≡ record_count sight.now.front.now.h }
+        requires no_splits { IsEmptySet self.old.splits }
+        requires no_collapses { IsEmptySet self.old.collapses.records }
+        requires counts { AreNeedCounts sight.now.front.now.h (set_of self.old.collapses.records)
+            self.old.collapses.needs }
         ensures len { length self.new.marks.items ≡ length self.old.marks.items }
         ensures clear { (j : ℕ) → set_of self.new.marks.items j ≡ false }
         ensures work_len { length self.new.work ≡ length self.old.work }
         ensures empty { IsEmptySet self.new.work }
         ensures moves { HoldsAimed (aim_of sight.now) 0 (sets_of self.new) }
-        ensures counts { AreNeedCounts sight.now.front.now.h (set_of self.new.falls.records)
-            self.new.falls.needs }
+        ensures counts { AreNeedCounts sight.now.front.now.h (set_of self.new.collapses.records)
+            self.new.collapses.needs }
         ensures answer { let aim = aim_of sight.now in
             result ≡ count (is_moved aim) (record_count aim.h) }
         ensures cost { let aim = aim_of sight.now in

@@ -15,21 +15,21 @@ use pm_sets::NumberSet;
 
 // Splits the first `budget` records of a set, in ascending order, and answers what is left of the
 // budget.
-fn split_first(front: &mut Front, rises: &mut NumberSet, budget: u32) -> u32
-    requires rises { length rises.old ≡ record_count front.old.h }
+fn split_first(front: &mut Front, splits: &mut NumberSet, budget: u32) -> u32
+    requires splits { length splits.old ≡ record_count front.old.h }
     requires legal { AreLegal front.old.h (set_of front.old.flags)
-        (take budget (splits_of rises.old)) }
+        (take budget (splits_of splits.old)) }
     ensures hierarchy { front.new.h ≡ front.old.h }
-    ensures len { length rises.new ≡ length rises.old }
-    ensures left { result ≡ budget - length (splits_of rises.old) }
+    ensures len { length splits.new ≡ length splits.old }
+    ensures left { result ≡ budget - length (splits_of splits.old) }
     ensures moved { set_of front.new.flags
-        ≡ moved_by (set_of front.old.flags) (take budget (splits_of rises.old)) }
+        ≡ moved_by (set_of front.old.flags) (take budget (splits_of splits.old)) }
     ensures corners { front.new.corners ≡ corner_lists_after front.old.h (set_of front.old.flags)
-        (take budget (splits_of rises.old)) front.old.corners }
+        (take budget (splits_of splits.old)) front.old.corners }
 {
     let mut left = budget;
     while left > 0 {
-        let Some(k) = rises.take_first() else {
+        let Some(k) = splits.take_first() else {
             return left;
         };
         front.split_legal(k);
@@ -39,22 +39,22 @@ fn split_first(front: &mut Front, rises: &mut NumberSet, budget: u32) -> u32
 }
 
 // Collapses the last `budget` records of a set, in descending order.
-fn collapse_last(front: &mut Front, falls: &mut CountedRecords, budget: u32)
-    requires falls { length falls.old.records ≡ record_count front.old.h }
-    requires counts { AreNeedCounts front.old.h (set_of falls.old.records) falls.old.needs }
+fn collapse_last(front: &mut Front, collapses: &mut CountedRecords, budget: u32)
+    requires collapses { length collapses.old.records ≡ record_count front.old.h }
+    requires counts { AreNeedCounts front.old.h (set_of collapses.old.records) collapses.old.needs }
     requires legal { AreLegal front.old.h (set_of front.old.flags)
-        (take budget (collapses_of falls.old.records)) }
+        (take budget (collapses_of collapses.old.records)) }
     ensures hierarchy { front.new.h ≡ front.old.h }
-    ensures len { length falls.new.records ≡ length falls.old.records }
-    ensures counts { AreNeedCounts front.old.h (set_of falls.new.records) falls.new.needs }
+    ensures len { length collapses.new.records ≡ length collapses.old.records }
+    ensures counts { AreNeedCounts front.old.h (set_of collapses.new.records) collapses.new.needs }
     ensures moved { set_of front.new.flags
-        ≡ moved_by (set_of front.old.flags) (take budget (collapses_of falls.old.records)) }
+        ≡ moved_by (set_of front.old.flags) (take budget (collapses_of collapses.old.records)) }
     ensures corners { front.new.corners ≡ corner_lists_after front.old.h (set_of front.old.flags)
-        (take budget (collapses_of falls.old.records)) front.old.corners }
+        (take budget (collapses_of collapses.old.records)) front.old.corners }
 {
     let mut left = budget;
     while left > 0 {
-        let Some(k) = falls.take_last(front) else {
+        let Some(k) = collapses.take_last(front) else {
             return;
         };
         front.collapse_legal(k);
@@ -71,44 +71,44 @@ fn clear(numbers: &mut NumberSet)
 }
 
 // Takes all records out of a set with counts.
-fn clear_counted(falls: &mut CountedRecords, front: &Front)
-    requires len { length falls.old.records ≡ record_count front.now.h }
-    requires counts { AreNeedCounts front.now.h (set_of falls.old.records) falls.old.needs }
-    ensures len { length falls.new.records ≡ length falls.old.records }
-    ensures empty { IsEmptySet falls.new.records }
-    ensures counts { AreNeedCounts front.now.h (set_of falls.new.records) falls.new.needs }
+fn clear_counted(collapses: &mut CountedRecords, front: &Front)
+    requires len { length collapses.old.records ≡ record_count front.now.h }
+    requires counts { AreNeedCounts front.now.h (set_of collapses.old.records) collapses.old.needs }
+    ensures len { length collapses.new.records ≡ length collapses.old.records }
+    ensures empty { IsEmptySet collapses.new.records }
+    ensures counts { AreNeedCounts front.now.h (set_of collapses.new.records) collapses.new.needs }
 {
-    while let Some(_k) = falls.take_last(front) {}
+    while let Some(_k) = collapses.take_last(front) {}
 }
 
 /// Makes the first `budget` moves of two sets: the splits of the records of the one, and then the
 /// collapses of those of the other. It empties both.
 pub(crate) fn advance(
     front: &mut Front,
-    rises: &mut NumberSet,
-    falls: &mut CountedRecords,
+    splits: &mut NumberSet,
+    collapses: &mut CountedRecords,
     budget: u32,
 )
-    requires rises { length rises.old ≡ record_count front.old.h }
-    requires falls { length falls.old.records ≡ record_count front.old.h }
+    requires splits { length splits.old ≡ record_count front.old.h }
+    requires collapses { length collapses.old.records ≡ record_count front.old.h }
     requires legal { AreLegal front.old.h (set_of front.old.flags)
-        (moves_of rises.old falls.old.records) }
-    requires counts { AreNeedCounts front.old.h (set_of falls.old.records) falls.old.needs }
+        (moves_of splits.old collapses.old.records) }
+    requires counts { AreNeedCounts front.old.h (set_of collapses.old.records) collapses.old.needs }
     ensures hierarchy { front.new.h ≡ front.old.h }
-    ensures rises_len { length rises.new ≡ length rises.old }
-    ensures falls_len { length falls.new.records ≡ length falls.old.records }
-    ensures no_rises { IsEmptySet rises.new }
-    ensures no_falls { IsEmptySet falls.new.records }
-    ensures counts { AreNeedCounts front.old.h (set_of falls.new.records) falls.new.needs }
+    ensures splits_len { length splits.new ≡ length splits.old }
+    ensures collapses_len { length collapses.new.records ≡ length collapses.old.records }
+    ensures no_splits { IsEmptySet splits.new }
+    ensures no_collapses { IsEmptySet collapses.new.records }
+    ensures counts { AreNeedCounts front.old.h (set_of collapses.new.records) collapses.new.needs }
     ensures moved { set_of front.new.flags ≡ moved_by (set_of front.old.flags)
-        (take budget (moves_of rises.old falls.old.records)) }
+        (take budget (moves_of splits.old collapses.old.records)) }
     ensures corners { front.new.corners ≡ corner_lists_after front.old.h (set_of front.old.flags)
-        (take budget (moves_of rises.old falls.old.records)) front.old.corners }
+        (take budget (moves_of splits.old collapses.old.records)) front.old.corners }
 {
-    let left = split_first(front, rises, budget);
-    collapse_last(front, falls, left);
-    clear(rises);
-    clear_counted(falls, front);
+    let left = split_first(front, splits, budget);
+    collapse_last(front, collapses, left);
+    clear(splits);
+    clear_counted(collapses, front);
 }
 
 /// What is told of this many moves.

@@ -15,9 +15,9 @@ pub(crate) struct Plan {
     // The records that are still to be decided.
     pub(crate) work: NumberSet,
     // The records that will be split.
-    pub(crate) rises: NumberSet,
+    pub(crate) splits: NumberSet,
     // The records that will be collapsed, with the counts of what they need.
-    pub(crate) falls: CountedRecords,
+    pub(crate) collapses: CountedRecords,
 }
 
 impl Plan {
@@ -26,19 +26,19 @@ impl Plan {
         requires { records ≤ BOUND_LIMIT }
         ensures marks { IfOk result (λ p. p.marks.items ≡ replicate records false) }
         ensures work { IfOk result (λ p. p.work ≡ replicate records false) }
-        ensures rises { IfOk result (λ p. p.rises ≡ replicate records false) }
-        ensures falls { IfOk result (λ p. p.falls.records ≡ replicate records false) }
-        ensures needs { IfOk result (λ p. p.falls.needs ≡ replicate records 0) }
+        ensures splits { IfOk result (λ p. p.splits ≡ replicate records false) }
+        ensures collapses { IfOk result (λ p. p.collapses.records ≡ replicate records false) }
+        ensures needs { IfOk result (λ p. p.collapses.needs ≡ replicate records 0) }
     {
         let marks = vec![in alloc; false; records as usize]?;
         let work = NumberSet::new(alloc, records)?;
-        let rises = NumberSet::new(alloc, records)?;
-        let falls = CountedRecords::new(alloc, records)?;
+        let splits = NumberSet::new(alloc, records)?;
+        let collapses = CountedRecords::new(alloc, records)?;
         Ok(Plan {
             marks,
             work,
-            rises,
-            falls,
+            splits,
+            collapses,
         })
     }
 }

@@ -47,7 +47,7 @@ impl Model for Refiner {
 
     ghost view = { λ r. length r.plan.marks.items };
 
-    ghost invariant = { λ r. IsIdle (sets_of r.plan) r.plan.falls.needs };
+    ghost invariant = { λ r. IsIdle (sets_of r.plan) r.plan.collapses.needs };
 }
 
 impl Refiner {
@@ -101,9 +101,14 @@ impl Refiner {
             view,
         };
         sight.invariant();
-        find(&sight, &mut self.plan.rises, &mut self.plan.work, steps);
+        find(&sight, &mut self.plan.splits, &mut self.plan.work, steps);
         let moves = self.plan.decide_all(&sight, steps);
-        advance(front, &mut self.plan.rises, &mut self.plan.falls, budget);
+        advance(
+            front,
+            &mut self.plan.splits,
+            &mut self.plan.collapses,
+            budget,
+        );
         front.invariant();
         adapted(moves, budget)
     }

@@ -9,10 +9,10 @@ pub returns : goal.returns
 returns c =
     let h = c.args.front.now.h in
     let S = set_of c.args.front.now.flags in
-    let F = set_of c.args.falls.now.records in
+    let F = set_of c.args.collapses.now.records in
     let k = c.args.k in
-    let falls = c.need_count.ensures ∙ c.requires.counts.each k c.requires.record in
-    ap (λ n. not (eqb n c.need_count-2.result)) falls
+    let collapses = c.need_count.ensures ∙ c.requires.counts.each k c.requires.record in
+    ap (λ n. not (eqb n c.need_count-2.result)) collapses
     ∙ ap (λ n. not (eqb (need_count h F k) n)) c.need_count-2.ensures.value
     ∙ ap not (remaining_test h S F c.requires.split k)
     ∙ not-not (is_needed h (remaining S F) k)

@@ -5,7 +5,7 @@ use Rattle.pm_refine.proofs.doing.clear_counted.Goals as goal
 
 pub loop-k-smaller : goal.loop-k-smaller
 loop-k-smaller c =
-    let records = c.loop-k.falls.records in
+    let records = c.loop-k.collapses.records in
     let k = c.in-Some._k in
     let fewer = fewer_left records k c.in-Some.ensures.some.there in
     let same = ap (count (set_of (set records k false))) (length-set {A = Bool} records k false) in

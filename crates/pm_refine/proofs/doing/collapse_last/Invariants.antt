@@ -9,14 +9,14 @@ use Rattle.pm_refine.proofs.doing.collapse_last.Given as goal
 abbrev pub invariant-loop-left : goal.invariant-loop-left
 invariant-loop-left l = record {
   hierarchy : l.front.h ≡ l.fn.front.h;
-  len : length l.falls.records ≡ length l.fn.falls.records;
-  counts : AreNeedCounts l.fn.front.h (set_of l.falls.records) l.falls.needs;
+  len : length l.collapses.records ≡ length l.fn.collapses.records;
+  counts : AreNeedCounts l.fn.front.h (set_of l.collapses.records) l.collapses.needs;
   to_do : AreToDo l.fn.front.h (set_of l.front.flags)
-      (moved_by (set_of l.fn.front.flags) (take l.budget (collapses_of l.fn.falls.records)))
+      (moved_by (set_of l.fn.front.flags) (take l.budget (collapses_of l.fn.collapses.records)))
       l.front.corners
       (corner_lists_after l.fn.front.h (set_of l.fn.front.flags)
-      (take l.budget (collapses_of l.fn.falls.records)) l.fn.front.corners)
-      (take l.left (collapses_of l.falls.records));
+      (take l.budget (collapses_of l.fn.collapses.records)) l.fn.front.corners)
+      (take l.left (collapses_of l.collapses.records));
 }
 
 abbrev pub decreases-loop-left : goal.decreases-loop-left

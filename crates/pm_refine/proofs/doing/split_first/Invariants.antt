@@ -8,13 +8,13 @@ use Rattle.pm_refine.proofs.doing.split_first.Given as goal
 abbrev pub invariant-loop-left : goal.invariant-loop-left
 invariant-loop-left l = record {
   hierarchy : l.front.h ≡ l.fn.front.h;
-  len : length l.rises ≡ length l.fn.rises;
-  left : l.left - length (splits_of l.rises) ≡ l.budget - length (splits_of l.fn.rises);
+  len : length l.splits ≡ length l.fn.splits;
+  left : l.left - length (splits_of l.splits) ≡ l.budget - length (splits_of l.fn.splits);
   to_do : AreToDo l.fn.front.h (set_of l.front.flags)
-      (moved_by (set_of l.fn.front.flags) (take l.budget (splits_of l.fn.rises))) l.front.corners
+      (moved_by (set_of l.fn.front.flags) (take l.budget (splits_of l.fn.splits))) l.front.corners
       (corner_lists_after l.fn.front.h (set_of l.fn.front.flags)
-      (take l.budget (splits_of l.fn.rises)) l.fn.front.corners)
-      (take l.left (splits_of l.rises));
+      (take l.budget (splits_of l.fn.splits)) l.fn.front.corners)
+      (take l.left (splits_of l.splits));
 }
 
 abbrev pub decreases-loop-left : goal.decreases-loop-left

@@ -9,7 +9,7 @@ use Rattle.pm_refine.proofs.finding.find.Given as goal
 
 abbrev pub invariant-loop-k : goal.invariant-loop-k
 invariant-loop-k g l = record {
-  found : AreFound (aim_of l.sight) l.from l.rises l.work;
+  found : AreFound (aim_of l.sight) l.from l.splits l.work;
   cost : l.steps ≤ l.fn.steps + count (may_try l.sight.front.now.h (set_of l.sight.front.now.flags))
       (record_count l.sight.front.now.h)
       + count (is_unneeded l.sight.front.now.h (set_of l.sight.front.now.flags))

@@ -20,15 +20,15 @@ returns-then-wants-clause-joined g c =
     ∙ sym c.splitter.ensures.value ∙ c.in-Some.is in
     let v = c.args.node.0 in
     let k = c.in-Some.k in
-    let rises = c.args.rises.now in
-    subst (λ (new : List Bool). Joins (set_of rises) (set_of new) (leads_to aim.h aim.wanted v))
+    let splits = c.args.splits.now in
+    subst (λ (new : List Bool). Joins (set_of splits) (set_of new) (leads_to aim.h aim.wanted v))
     (sym c.insert.ensures)
-    (looked_wanted aim.h aim.wanted v k is rises
+    (looked_wanted aim.h aim.wanted v k is splits
     (omega (
       arith,
       c.in-Some.ensures.below,
       ap record_count c.hierarchy-h.ensures,
-      c.requires.rises,
+      c.requires.splits,
     )) (sym c.wants.ensures.value ∙ c.if-wants.true))
 
 pub returns-else-wants-clause-joined : goal.returns-else-wants-clause-joined
@@ -36,5 +36,5 @@ returns-else-wants-clause-joined g c =
     let aim = aim_of c.args.sight.now in
     let is = ap (λ (x : Hierarchy). splitter_of x c.args.node.0) (sym c.hierarchy-h.ensures)
     ∙ sym c.splitter.ensures.value ∙ c.in-Some.is in
-    looked_unwanted aim.h aim.wanted c.args.node.0 c.in-Some.k is c.args.rises.now
+    looked_unwanted aim.h aim.wanted c.args.node.0 c.in-Some.k is c.args.splits.now
     (sym c.wants.ensures.value ∙ c.if-wants.false)

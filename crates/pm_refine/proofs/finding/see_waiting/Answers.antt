@@ -26,7 +26,7 @@ loop-k-preserved g c =
     let aim = aim_of c.args.sight.now in
     let n = record_count aim.h in
     let k = c.in-Some.k in
-    let flags = c.loop-k.rises in
+    let flags = c.loop-k.splits in
     let test = may_try aim.h aim.split in
     let found = is_due_now aim in
     let first = c.in-Some.ensures.some in
@@ -50,12 +50,12 @@ loop-k-preserved g c =
       seen = elim c.if-wants.branch [
         | then-wants w ↦
             subst (λ (m : List Bool). HoldsBelow n found (k + 1) m)
-            (sym (w.rises-is ∙ w.insert.ensures))
+            (sym (w.splits-is ∙ w.insert.ensures))
             (holds_next n found k flags low up
             (and_from (test k) (aim.wanted (s_of aim.h k)) next.1 (sym answer
             ∙ w.if-wants.true)))
         | else-wants w ↦
-            subst (λ (m : List Bool). HoldsBelow n found (k + 1) m) (sym w.rises-is)
+            subst (λ (m : List Bool). HoldsBelow n found (k + 1) m) (sym w.splits-is)
             (holds_past n found k flags up
             (and_right (test k) (aim.wanted (s_of aim.h k)) (sym answer ∙ w.if-wants.false)))
       ];

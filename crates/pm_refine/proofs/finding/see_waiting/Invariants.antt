@@ -11,7 +11,7 @@ abbrev pub invariant-loop-k : goal.invariant-loop-k
 invariant-loop-k g l = record {
   most : l.from ≤ record_count l.sight.front.now.h;
   seen : HoldsBelow (record_count l.sight.front.now.h)
-      (is_due_now (aim_of l.sight)) l.from l.rises;
+      (is_due_now (aim_of l.sight)) l.from l.splits;
   cost : l.steps ≤ l.fn.steps + count (may_try l.sight.front.now.h (set_of l.sight.front.now.flags))
       l.from;
 }

@@ -4,13 +4,13 @@ use Rattle.pm_forest.specs.Forest.{Hierarchy}
 use Rattle.pm_beyond.specs.Moves.{needs}
 use Rattle.pm_refine.specs.Aims.{sets_of}
 use Rattle.pm_refine.specs.Holding.{Joins}
-use Rattle.pm_refine.proofs.DecidingLaws.{falls_split, next_absent, same_there}
+use Rattle.pm_refine.proofs.DecidingLaws.{collapses_split, next_absent, same_there}
 use Rattle.pm_refine.proofs.DecidedLaws.{stays_same, stays_other, decided_same, decided_by}
 use Rattle.pm_refine.proofs.DecisionCounts.{paid}
 use Rattle.pm_refine.proofs.plan.Plan.decide.Goals as goal
 
 pub stays-stays-requires-clause-split : goal.stays-stays-requires-clause-split
-stays-stays-requires-clause-split g c = falls_split c.invariant.ensures c.requires.next
+stays-stays-requires-clause-split g c = collapses_split c.invariant.ensures c.requires.next
 
 pub note-requires-clause-absent : goal.note-requires-clause-absent
 note-requires-clause-absent g c = next_absent c.invariant.ensures c.requires.next
@@ -35,7 +35,7 @@ returns-clause-decided g c =
     let new = sets_of c.note.new.self in
     let both = stays_other c.invariant.ensures n c.is_split-is_split.ensures
     c.stays-stays.ensures.value c.if-stays-is_split.false in
-    decided_by c.invariant.ensures new.marks new.work new.rises new.falls n
+    decided_by c.invariant.ensures new.marks new.work new.splits new.collapses n
     c.is_split-is_split.ensures both.0
     (c.note.ensures.len ∙ length-set {A = Bool} held.marks k false ∙ n.mark_len)
     (c.note.ensures.work_len ∙ n.work_len)

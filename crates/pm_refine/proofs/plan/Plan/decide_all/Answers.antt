@@ -16,7 +16,8 @@ loop-k-init g c = record {
   so_far = record {
     bound = record_count c.args.sight.now.front.now.h;
     decided = start c.invariant.ensures (sets_of c.args.self.now) c.requires.start c.requires.marks
-        c.requires.clear c.requires.rises c.requires.no_rises c.requires.falls c.requires.no_falls;
+        c.requires.clear c.requires.splits c.requires.no_splits c.requires.collapses
+        c.requires.no_collapses;
     found = omega arith;
     few = omega arith;
     cost = omega arith;
@@ -29,7 +30,7 @@ decide-requires-clause-next g c =
     let held = sets_of c.loop-k.self in
     let taken : c.take_last.new.self ≡ set held.work k false = c.in-Some.ensures.taken in
     subst (λ (w : List Bool). IsNext (aim_of c.args.sight.now) k
-    (sets held.marks w held.rises held.falls)) (sym taken)
+    (sets held.marks w held.splits held.collapses)) (sym taken)
     (next c.invariant.ensures c.loop-k.invariant.so_far.decided
     c.in-Some.ensures.some)
 

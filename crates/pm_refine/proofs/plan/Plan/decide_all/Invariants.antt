@@ -10,7 +10,8 @@ abbrev pub invariant-loop-k : goal.invariant-loop-k
 invariant-loop-k g l = record {
   len : length l.self.marks.items ≡ length l.fn.self.marks.items;
   work_len : length l.self.work ≡ length l.fn.self.work;
-  counts : AreNeedCounts l.sight.front.now.h (set_of l.self.falls.records) l.self.falls.needs;
+  counts : AreNeedCounts l.sight.front.now.h (set_of l.self.collapses.records)
+      l.self.collapses.needs;
   so_far : HasDecided (aim_of l.sight) (sets_of l.self) l.moves_found
       l.fn.steps l.steps;
 }

@@ -12,22 +12,23 @@ use Rattle.pm_front.specs.Corners.{corner_lists_after}
 use Rattle.pm_refine.proofs.AnswerLaws.{settled_there}
 use Rattle.pm_refine.proofs.CountLaws.{active_many, waiting_few}
 use Rattle.pm_refine.proofs.DoingLaws.{plan_is, plan_legal}
-use Rattle.pm_refine.proofs.FallsLaws.{counts_start, counts_end}
+use Rattle.pm_refine.proofs.CollapseLaws.{counts_start, counts_end}
 use Rattle.pm_refine.proofs.DecisionCounts.{due_few, unneeded_and_others}
 use Rattle.pm_refine.proofs.refiner.Refiner.adapt.Goals as goal
 
 pub decide_all-moves-requires-clause-counts : goal.decide_all-moves-requires-clause-counts
 decide_all-moves-requires-clause-counts g c =
     let idle = c.self.invariant in
-    counts_start c.args.front.now.h c.self.inside.plan.falls.needs c.self.inside.plan.falls.records
-    idle.no_falls (idle.count_len ∙ c.self.view_is ∙ c.requires.records) idle.no_counts
+    counts_start c.args.front.now.h c.self.inside.plan.collapses.needs
+    c.self.inside.plan.collapses.records
+    idle.no_collapses (idle.count_len ∙ c.self.view_is ∙ c.requires.records) idle.no_counts
 
 pub advance-requires-clause-legal : goal.advance-requires-clause-legal
 advance-requires-clause-legal g c =
     let h = c.args.front.now.h in
     let S = set_of c.args.front.now.flags in
     let plan = c.decide_all-moves.new.self in
-    plan_legal h S (view_target h c.args.view.now) plan.rises plan.falls.records
+    plan_legal h S (view_target h c.args.view.now) plan.splits plan.collapses.records
     c.decide_all-moves.ensures.moves c.invariant.ensures.valid c.invariant.ensures.closed
     (target-least h c.invariant.ensures.valid.shape (is_wanted h c.args.view.now)).closed
 
@@ -39,15 +40,15 @@ invariant_of-self g c =
     sym (decided.len ∙ c.self.view_is ∙ c.requires.records) in
     record {
       work_len = decided.work_len ∙ c.find.ensures.start.work_len ∙ all;
-      rises_len = done.rises_len ∙ decided.moves.up.len ∙ all;
-      falls_len = done.falls_len ∙ decided.moves.down.len ∙ all;
+      splits_len = done.splits_len ∙ decided.moves.up.len ∙ all;
+      collapses_len = done.collapses_len ∙ decided.moves.down.len ∙ all;
       count_len = done.counts.len ∙ all;
       clear = decided.clear;
       no_work = decided.empty;
-      no_rises = done.no_rises;
-      no_falls = done.no_falls;
-      no_counts = counts_end c.args.front.now.h c.advance.new.falls.needs
-          c.advance.new.falls.records done.no_falls done.counts;
+      no_splits = done.no_splits;
+      no_collapses = done.no_collapses;
+      no_counts = counts_end c.args.front.now.h c.advance.new.collapses.needs
+          c.advance.new.collapses.records done.no_collapses done.counts;
     }
 
 pub returns-clause-moved : goal.returns-clause-moved
@@ -57,7 +58,7 @@ returns-clause-moved g c =
     let plan = c.decide_all-moves.new.self in
     c.advance.ensures.moved
     ∙ sym (ap (λ ms. moved_by S (take c.args.budget ms))
-    (plan_is h S (view_target h c.args.view.now) plan.rises plan.falls.records
+    (plan_is h S (view_target h c.args.view.now) plan.splits plan.collapses.records
     c.decide_all-moves.ensures.moves))
 
 pub returns-clause-corners : goal.returns-clause-corners
@@ -67,7 +68,7 @@ returns-clause-corners g c =
     let plan = c.decide_all-moves.new.self in
     c.advance.ensures.corners
     ∙ sym (ap (λ ms. corner_lists_after h S (take c.args.budget ms) c.args.front.now.corners)
-    (plan_is h S (view_target h c.args.view.now) plan.rises plan.falls.records
+    (plan_is h S (view_target h c.args.view.now) plan.splits plan.collapses.records
     c.decide_all-moves.ensures.moves))
 
 pub returns-clause-answer : goal.returns-clause-answer
@@ -90,7 +91,7 @@ returns-clause-settled g c moves settled =
     let plan = c.decide_all-moves.new.self in
     let moved = c.advance.ensures.moved
     ∙ sym (ap (λ ms. moved_by S (take c.args.budget ms))
-    (plan_is h S (view_target h view) plan.rises plan.falls.records
+    (plan_is h S (view_target h view) plan.splits plan.collapses.records
     c.decide_all-moves.ensures.moves)) in
     settled_there h view S c.advance.new.front.flags c.args.budget moves
     (c.invariant-2.ensures.flags ∙ ap record_count c.advance.ensures.hierarchy) moved
