@@ -17,7 +17,8 @@ use Rattle.pm_refine.specs.Aims.{Aim, IsFit, Sets, sets, aimed, is_moved}
 use Rattle.pm_refine.specs.Holding.{Joins}
 use Rattle.pm_refine.specs.Deciding.{AreDecided, IsNext, is_staying}
 use Rattle.pm_refine.proofs.NeedLaws.{needed_by}
-use Rattle.pm_refine.proofs.DecidingLaws.{stays_is, moves_below}
+use Rattle.pm_refine.proofs.DecidingLaws.{moves_below}
+use Rattle.pm_refine.proofs.StayingLaws.{stays_is}
 use Rattle.pm_refine.proofs.SetLaws.{out-parts, out-other, holds_more, holds_same}
 use Rattle.pm_refine.proofs.FindingLaws.{joined-old, joined-new, joined-cases}
 

@@ -14,7 +14,7 @@ use Rattle.pm_refine.specs.Aims.{Aim, IsFit, Sets, aimed, is_moved, is_used}
 use Rattle.pm_refine.specs.Finding.{is_due}
 use Rattle.pm_candidates.specs.Needed.{is_needed, is_unneeded}
 use Rattle.pm_refine.specs.Deciding.{IsNext, is_held, is_tested}
-use Rattle.pm_refine.proofs.DecidingLaws.{stays_is}
+use Rattle.pm_refine.proofs.StayingLaws.{stays_is}
 
 module _ {aim : Aim} (fit : IsFit aim) where
   -- A test is made of a record that isn't needed any more; either it was needed before, or it goes.

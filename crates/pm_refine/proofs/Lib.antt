@@ -6,6 +6,7 @@ pub mod NeedLaws
 pub mod CollapseLaws
 pub mod FindingLaws
 pub mod DecidingLaws
+pub mod StayingLaws
 pub mod DecidedLaws
 pub mod DecisionCounts
 pub mod DoingLaws

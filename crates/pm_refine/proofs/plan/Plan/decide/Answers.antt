@@ -4,7 +4,8 @@ use Rattle.pm_forest.specs.Forest.{Hierarchy}
 use Rattle.pm_beyond.specs.Moves.{needs}
 use Rattle.pm_refine.specs.Aims.{sets_of}
 use Rattle.pm_refine.specs.Holding.{Joins}
-use Rattle.pm_refine.proofs.DecidingLaws.{collapses_split, next_absent, same_there}
+use Rattle.pm_refine.proofs.DecidingLaws.{same_there}
+use Rattle.pm_refine.proofs.StayingLaws.{collapses_split, next_absent}
 use Rattle.pm_refine.proofs.DecidedLaws.{stays_same, stays_other, decided_same, decided_by}
 use Rattle.pm_refine.proofs.DecisionCounts.{paid}
 use Rattle.pm_refine.proofs.plan.Plan.decide.Goals as goal
