@@ -1,6 +1,6 @@
 -- The target of a view by deviations is near to the planes of the faces that it shows.
-use Rattle.std.proofs.Common.{◌≡◌, ℕ, ◌+◌, ◌*◌, ◌<◌, ◌≤◌, true, false, Option, None, Some, refl}
-use Rattle.std.proofs.Common.{sym, subst, ◌⊎◌, inl, inr, arith}
+use Rattle.std.proofs.Common.{◌≡◌, ℕ, ◌+◌, ◌*◌, ◌<◌, ◌≤◌, true, false, None, Some, refl, sym, subst}
+use Rattle.std.proofs.Common.{inl, inr, arith}
 use Rattle.std.specs.Prelude.{ℤ, pos, ◌+ℤ◌, ◌*ℤ◌, unsigned_abs}
 use Rattle.std.proofs.lemmas.Bool.{false_from_ne_true}
 use Rattle.std.proofs.lemmas.Int.{unsigned_abs-mul}
@@ -24,6 +24,7 @@ use Rattle.pm_deviation.proofs.PlaneValues.{triangles_near}
 use Rattle.pm_deviation.proofs.NearLaws.{planes_near}
 use Rattle.pm_deviation.proofs.StepLaws.{planes_at_leaf}
 use Rattle.pm_base.proofs.Ring.{diff-of, diff_same, add-diff, mul-diff, neg-diff}
+use Rattle.pm_base.proofs.Search.{option_cases}
 use Rattle.pm_view.specs.declared.measure.Measure.TheVariants as measures
 use Rattle.pm_view.specs.Views.{View}
 use Rattle.pm_view.specs.Wanted.{is_wanted}
@@ -32,10 +33,6 @@ use Rattle.pm_view.specs.Laws.{IsWithin as looks_within}
 use Rattle.pm_view.proofs.NodeLaws.{unwanted_for_a_reason}
 use Rattle.pm_refine.specs.Adapting.{view_target}
 use Rattle.pm_refine.specs.Showing.{IsLookedAt, LooksNear, ShownTrianglesAreNear}
-
-some_or_none : (k : Option ℕ) → (k ≡ None) ⊎ ((n : ℕ) × (k ≡ Some n))
-some_or_none None = inl refl
-some_or_none (Some n) = inr (n, refl)
 
 -- A value of 0 fits.
 none_fits : (f a n b : ℕ) → a * a ≤ 0 * 0 * n → f * f * (a * a) ≤ b
@@ -144,7 +141,7 @@ module _ (h : Hierarchy) (shape : HasShape h) (view : View) (by : view.measure �
         let held : Holds h v (from_leaf h under) =
         subst (λ y. Holds h v y) is (holds-ancestor_of h nodes T x leaf) in
         let there = ancestor-lt h nodes T (record_count h) x leaf in
-        elim (some_or_none (splitter_of h v)) [
+        elim (option_cases (splitter_of h v)) [
           | inl alone ↦ alone_fits v e under there side same held alone
           | inr (k, split) ↦
               tiny_fits v e
