@@ -4,3 +4,4 @@ pub mod DigitLaws
 pub mod DecimalLaws
 pub mod PageLaws
 pub mod PutLaws
+pub mod StopLaws
