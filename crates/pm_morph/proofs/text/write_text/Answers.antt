@@ -1,108 +1,56 @@
-use Rattle.std.proofs.Common.{◌++◌}
-use Rattle.std.proofs.lemmas.Result.{err_from_is_err_and}
-use Rattle.pm_io.proofs.PutLaws.{through_then, through_stops, flush_then, flush_stops}
+use Rattle.std.proofs.Common.{Bool, List, ℕ, [], ◌∷◌, drop}
+use Rattle.pm_io.proofs.StopLaws.{◌>>◌, stops_before, stops_at_flush, flushed}
 use Rattle.pm_base.specs.Counts.{set_of}
+use Rattle.pm_front.specs.State.{State}
 use Rattle.pm_frame.specs.Frame.{face_lines, end_line}
-use Rattle.pm_morph.specs.Texts.{first_morph_line, moved_lines, morph_text}
+use Rattle.pm_morph.specs.Texts.{moved_lines, morph_text}
 use Rattle.pm_morph.proofs.text.write_text.Goals as goal
+
+-- The parts of the text after the first, in their order.
+abbrev rest : State → List Bool → ℕ → ℕ → List (List ℕ)
+rest f marks a b =
+    moved_lines f.h (set_of marks) (set_of f.flags) a b
+    ∷ face_lines f.h (set_of f.flags) ∷ end_line ∷ []
 
 pub returns-in_err-put_first : goal.returns-in_err-put_first
 unfolding morph_text
 returns-in_err-put_first g c =
-    let p = err_from_is_err_and c.from_residual.result c.from_residual.ensures.1 in
-    let h = c.args.front.now.h in
-    let T = set_of c.args.marks.now in
-    let S = set_of c.args.front.now.flags in
-    let first = first_morph_line h S c.args.a c.args.b in
-    let moved = moved_lines h T S c.args.a c.args.b in
-    let two = through_stops g.K.Sink _ _ _ _ first moved _ c.in_err-put_first.ensures in
-    let three = through_stops g.K.Sink _ _ _ _ (first ++ moved) (face_lines h S) _ two in
-    rw (p.1, p.2)
-    (flush_stops g.K.Sink _ _ _ _ _ _ c.new-page.ensures
-    (through_stops g.K.Sink _ _ _ _ _ end_line _ three))
+    stops_before (rest c.args.front.now c.args.marks.now c.args.a c.args.b) c.new-page.ensures
+    c.in_err-put_first.ensures c.from_residual.ensures.1
 
 pub returns-in_err-put_nodes : goal.returns-in_err-put_nodes
 unfolding morph_text
 returns-in_err-put_nodes g c =
-    let p = err_from_is_err_and c.from_residual-in_err-put_nodes.result
-    c.from_residual-in_err-put_nodes.ensures.1 in
-    let h = c.args.front.now.h in
-    let T = set_of c.args.marks.now in
-    let S = set_of c.args.front.now.flags in
-    let first = first_morph_line h S c.args.a c.args.b in
-    let moved = moved_lines h T S c.args.a c.args.b in
-    let two = through_then g.K.Sink _ _ _ _ _ _ first moved _ _ c.in_ok-put_first.ensures
-    c.in_err-put_nodes.ensures in
-    let three = through_stops g.K.Sink _ _ _ _ (first ++ moved) (face_lines h S) _ two in
-    rw (p.1, p.2)
-    (flush_stops g.K.Sink _ _ _ _ _ _ c.new-page.ensures
-    (through_stops g.K.Sink _ _ _ _ _ end_line _ three))
+    stops_before (drop 1 (rest c.args.front.now c.args.marks.now c.args.a c.args.b)) c.new-page.ensures
+    (c.in_ok-put_first.ensures >> c.in_err-put_nodes.ensures)
+    c.from_residual-in_err-put_nodes.ensures.1
 
 pub returns-in_err-put_faces : goal.returns-in_err-put_faces
 unfolding morph_text
 returns-in_err-put_faces g c =
-    let p = err_from_is_err_and c.from_residual-in_err-put_faces.result
-    c.from_residual-in_err-put_faces.ensures.1 in
-    let h = c.args.front.now.h in
-    let T = set_of c.args.marks.now in
-    let S = set_of c.args.front.now.flags in
-    let first = first_morph_line h S c.args.a c.args.b in
-    let moved = moved_lines h T S c.args.a c.args.b in
-    let two = through_then g.K.Sink _ _ _ _ _ _ first moved _ _ c.in_ok-put_first.ensures
-    c.in_ok-put_nodes.ensures in
-    let three = through_then g.K.Sink _ _ _ _ _ _ _ (face_lines h S) _ _ two
-    c.in_err-put_faces.ensures in
-    rw (p.1, p.2)
-    (flush_stops g.K.Sink _ _ _ _ _ _ c.new-page.ensures
-    (through_stops g.K.Sink _ _ _ _ _ end_line _ three))
+    stops_before (drop 2 (rest c.args.front.now c.args.marks.now c.args.a c.args.b)) c.new-page.ensures
+    (c.in_ok-put_first.ensures >> c.in_ok-put_nodes.ensures >> c.in_err-put_faces.ensures)
+    c.from_residual-in_err-put_faces.ensures.1
 
 pub returns-in_err-put_last : goal.returns-in_err-put_last
 unfolding morph_text
 returns-in_err-put_last g c =
-    let p = err_from_is_err_and c.from_residual-in_err-put_last.result
-    c.from_residual-in_err-put_last.ensures.1 in
-    let h = c.args.front.now.h in
-    let T = set_of c.args.marks.now in
-    let S = set_of c.args.front.now.flags in
-    let first = first_morph_line h S c.args.a c.args.b in
-    let moved = moved_lines h T S c.args.a c.args.b in
-    let two = through_then g.K.Sink _ _ _ _ _ _ first moved _ _ c.in_ok-put_first.ensures
-    c.in_ok-put_nodes.ensures in
-    let three = through_then g.K.Sink _ _ _ _ _ _ _ (face_lines h S) _ _ two
-    c.in_ok-put_faces.ensures in
-    rw (p.1, p.2)
-    (flush_stops g.K.Sink _ _ _ _ _ _ c.new-page.ensures
-    (through_then g.K.Sink _ _ _ _ _ _ _ end_line _ _ three c.in_err-put_last.ensures))
+    stops_before [] c.new-page.ensures
+    (c.in_ok-put_first.ensures >> c.in_ok-put_nodes.ensures >> c.in_ok-put_faces.ensures
+    >> c.in_err-put_last.ensures) c.from_residual-in_err-put_last.ensures.1
 
 pub returns-in_err-flush : goal.returns-in_err-flush
 unfolding morph_text
 returns-in_err-flush g c =
-    let p = err_from_is_err_and c.from_residual-in_err-flush.result
-    c.from_residual-in_err-flush.ensures.1 in
-    let h = c.args.front.now.h in
-    let T = set_of c.args.marks.now in
-    let S = set_of c.args.front.now.flags in
-    let first = first_morph_line h S c.args.a c.args.b in
-    let moved = moved_lines h T S c.args.a c.args.b in
-    let two = through_then g.K.Sink _ _ _ _ _ _ first moved _ _ c.in_ok-put_first.ensures
-    c.in_ok-put_nodes.ensures in
-    let three = through_then g.K.Sink _ _ _ _ _ _ _ (face_lines h S) _ _ two
-    c.in_ok-put_faces.ensures in
-    let all = through_then g.K.Sink _ _ _ _ _ _ _ end_line _ _ three c.in_ok-put_last.ensures in
-    rw (p.1, p.2)
-    (flush_then g.K.Sink _ _ _ _ _ _ _ _ c.new-page.ensures all c.in_err-flush.ensures.puts)
+    stops_at_flush c.new-page.ensures
+    (c.in_ok-put_first.ensures >> c.in_ok-put_nodes.ensures >> c.in_ok-put_faces.ensures
+    >> c.in_ok-put_last.ensures)
+    c.in_err-flush.ensures.puts c.from_residual-in_err-flush.ensures.1
 
 pub returns : goal.returns
 unfolding morph_text
 returns g c =
-    let h = c.args.front.now.h in
-    let T = set_of c.args.marks.now in
-    let S = set_of c.args.front.now.flags in
-    let first = first_morph_line h S c.args.a c.args.b in
-    let moved = moved_lines h T S c.args.a c.args.b in
-    let two = through_then g.K.Sink _ _ _ _ _ _ first moved _ _ c.in_ok-put_first.ensures
-    c.in_ok-put_nodes.ensures in
-    let three = through_then g.K.Sink _ _ _ _ _ _ _ (face_lines h S) _ _ two
-    c.in_ok-put_faces.ensures in
-    let all = through_then g.K.Sink _ _ _ _ _ _ _ end_line _ _ three c.in_ok-put_last.ensures in
-    flush_then g.K.Sink _ _ _ _ _ _ _ _ c.new-page.ensures all c.in_ok-flush.ensures.puts
+    flushed c.new-page.ensures
+    (c.in_ok-put_first.ensures >> c.in_ok-put_nodes.ensures >> c.in_ok-put_faces.ensures
+    >> c.in_ok-put_last.ensures)
+    c.in_ok-flush.ensures.puts
