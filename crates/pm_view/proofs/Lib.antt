@@ -7,6 +7,7 @@ pub mod OutlineLaws
 pub mod Large
 pub mod Passing
 pub mod NodeLaws
+pub mod ViewLaws
 pub mod FieldLaws
 pub mod NumberLaws
 pub mod Serving
