@@ -1,5 +1,5 @@
--- Laws of a text of several parts, through a page that was empty at first: each part after the one
--- before it, up to the first that fails.
+-- Laws of a text of several parts through a page: each part after the one before it, up to the
+-- first that fails.
 use Rattle.std.proofs.Common.{◌≡◌, ℕ, List, [], ◌∷◌, ◌++◌, Result, Ok, Err, IsErrAnd}
 use Rattle.std.proofs.lemmas.Result.{err_from_is_err_and}
 use Rattle.pm_io.specs.Puts.{Puts, PutsThrough}
