@@ -3,7 +3,7 @@ use Rattle.std.specs.Prelude.{ℤ, unsigned_abs}
 use Rattle.std.specs.Int.{int_min}
 use Rattle.std.proofs.lemmas.Int.{to_z-of_z, clamps}
 use borrow.Author.Differences.{ints}
-use Rattle.pm_view.proofs.Words.{fits_small, read_small}
+use Rattle.pm_base.proofs.ReadBack.{fits_small, read_small}
 use Rattle.pm_view.proofs.small_ball.least.Goals as goal
 
 pub product-requires : goal.product-requires

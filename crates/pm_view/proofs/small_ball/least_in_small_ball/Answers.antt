@@ -1,7 +1,7 @@
 use Rattle.std.proofs.Common.{◌^◌, w32, w64, lit<, lit≤}
 use Rattle.std.proofs.Math.Nat.{le_trans}
 use Rattle.pm_view.specs.Wanted.{least_product}
-use Rattle.pm_view.proofs.Words.{read_small}
+use Rattle.pm_base.proofs.ReadBack.{read_small}
 use Rattle.pm_view.proofs.Ends.{below_is, above_is, small_below, small_above, on_axis_is}
 use Rattle.pm_view.proofs.small_ball.least_in_small_ball.Goals as goal
 

@@ -1,6 +1,6 @@
 use Rattle.std.proofs.Common.{◌≤◌, ◌^◌, w64, to_z, of_z, lit<, lit≤}
 use Rattle.std.specs.Prelude.{ℤ, ◌*ℤ◌, unsigned_abs}
-use Rattle.pm_view.proofs.Words.{Computes, computed_small, read_is, product_computes}
+use Rattle.pm_base.proofs.ReadBack.{Computes, computed_small, read_is, product_computes}
 use Rattle.pm_view.proofs.small_ball.product.Goals as goal
 
 product_is : (a b : ℤ) → unsigned_abs a ≤ 2 ^ 34 → unsigned_abs b ≤ 2 ^ 26

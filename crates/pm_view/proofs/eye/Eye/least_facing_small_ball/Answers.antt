@@ -2,7 +2,7 @@ use Rattle.std.proofs.Common.{◌≡◌, ◌^◌, refl, FitsSigned, w32, w64, ru
 use Rattle.std.proofs.lemmas.Int.{to_z-of_z}
 use Rattle.pm_base.specs.Place.{Place}
 use Rattle.pm_view.specs.Wanted.{least_facing}
-use Rattle.pm_view.proofs.Words.{fits_small, read_small, equal_small}
+use Rattle.pm_base.proofs.ReadBack.{fits_small, read_small, equal_small}
 use Rattle.pm_view.proofs.Ends.{side_small}
 use Rattle.pm_view.proofs.eye.Eye.least_facing_small_ball.Goals as goal
 
