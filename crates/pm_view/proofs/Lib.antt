@@ -1,5 +1,6 @@
 pub mod PlaneLaws
 pub mod Ends
+pub mod AxisLaws
 pub mod Premises
 pub mod Outside
 pub mod FacingLaws

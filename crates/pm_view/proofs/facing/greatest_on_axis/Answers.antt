@@ -1,50 +1,28 @@
-use Rattle.std.proofs.Common.{◌^◌, w32, w64, lit<}
+use Rattle.std.proofs.Common.{◌^◌, lit<}
 use mir.Syntax.{w128}
 use Rattle.pm_view.specs.Wanted.{greatest_product}
-use Rattle.pm_base.proofs.ReadBack.{read_small}
-use Rattle.pm_view.proofs.Ends.{below_is, above_is, on_axis_is}
+use Rattle.pm_view.proofs.AxisLaws.{end_asks, ends_ask, axis_of_ends}
 use Rattle.pm_view.proofs.facing.greatest_on_axis.Goals as goal
 
 pub lower_end-requires : goal.lower_end-requires
-lower_end-requires c = record {
-  at_small = read_small w32 c.args.at 32767 c.requires.at_small (lit< tt);
-  radius_small = c.requires.radius_small;
-  eye_small = read_small w32 c.args.eye 16777215 c.requires.eye_small (lit< tt);
-}
+lower_end-requires c =
+    end_asks c.args.at c.args.eye c.args.radius c.requires.at_small
+    c.requires.radius_small c.requires.eye_small
 
 pub upper_end-requires : goal.upper_end-requires
-upper_end-requires c = record {
-  at_small = read_small w32 c.args.at 32767 c.requires.at_small (lit< tt);
-  radius_small = c.requires.radius_small;
-  eye_small = read_small w32 c.args.eye 16777215 c.requires.eye_small (lit< tt);
-}
+upper_end-requires c =
+    end_asks c.args.at c.args.eye c.args.radius c.requires.at_small
+    c.requires.radius_small c.requires.eye_small
 
-pub greatest-requires-clause-a_small : goal.greatest-requires-clause-a_small
-greatest-requires-clause-a_small c =
-    read_small w64 c.args.low (2 ^ 34) c.requires.low_small (lit< tt)
+pub greatest-requires : goal.greatest-requires
+greatest-requires c =
+    ends_ask (2 ^ 40) (lit< tt) c.args.low c.args.high c.lower_end.result c.upper_end.result
+    c.requires.low_small c.requires.high_small c.lower_end.ensures.small
+    c.upper_end.ensures.small
 
-pub greatest-requires-clause-b_small : goal.greatest-requires-clause-b_small
-greatest-requires-clause-b_small c =
-    read_small w64 c.args.high (2 ^ 34) c.requires.high_small (lit< tt)
-
-pub greatest-requires-clause-c_small : goal.greatest-requires-clause-c_small
-greatest-requires-clause-c_small c =
-    read_small w64 c.lower_end.result (2 ^ 40) c.lower_end.ensures.small (lit< tt)
-
-pub greatest-requires-clause-d_small : goal.greatest-requires-clause-d_small
-greatest-requires-clause-d_small c =
-    read_small w64 c.upper_end.result (2 ^ 40) c.upper_end.ensures.small (lit< tt)
-
-pub returns-clause-value : goal.returns-clause-value
-returns-clause-value c =
-    on_axis_is w128 (2 ^ 40) (2 ^ 74) (lit< tt) (lit< tt) greatest_product c.greatest.result c.args.low c.args.high c.lower_end.result
-    c.upper_end.result _ _ c.greatest.ensures.value c.requires.low_small c.requires.high_small
-    c.lower_end.ensures.small c.upper_end.ensures.small c.greatest.ensures.small
-    (below_is c.lower_end.result c.args.at c.args.eye c.args.radius c.ranges.at c.ranges.eye
-    c.lower_end.ensures.value)
-    (above_is c.upper_end.result c.args.at c.args.eye c.args.radius c.ranges.at c.ranges.eye
-    c.upper_end.ensures.value)
-
-pub returns-clause-small : goal.returns-clause-small
-returns-clause-small c =
-    read_small w128 c.greatest.result (2 ^ 74) c.greatest.ensures.small (lit< tt)
+pub returns : goal.returns
+returns c =
+    axis_of_ends w128 (2 ^ 74) (lit< tt) greatest_product c.greatest.result c.args.low c.args.high
+    c.lower_end.result c.upper_end.result c.args.at c.args.eye c.args.radius c.ranges.at
+    c.ranges.eye c.greatest.ensures.value c.greatest.ensures.small c.requires.low_small
+    c.requires.high_small c.lower_end.ensures c.upper_end.ensures
