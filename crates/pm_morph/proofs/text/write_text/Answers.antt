@@ -28,7 +28,8 @@ returns-in_err-put_nodes g c =
 pub returns-in_err-put_faces : goal.returns-in_err-put_faces
 unfolding morph_text
 returns-in_err-put_faces g c =
-    stops_before (drop 2 (rest c.args.front.now c.args.marks.now c.args.a c.args.b)) c.new-page.ensures
+    stops_before (drop 2 (rest c.args.front.now c.args.marks.now c.args.a c.args.b))
+    c.new-page.ensures
     (c.in_ok-put_first.ensures >> c.in_ok-put_nodes.ensures >> c.in_err-put_faces.ensures)
     c.from_residual-in_err-put_faces.ensures.1
 

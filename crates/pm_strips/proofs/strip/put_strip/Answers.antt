@@ -43,7 +43,8 @@ module _ (v : State) (items : List Bool) (f : ℕ) {after : List Bool} {e exit :
     line : followed (first_text (node v) e) (rest v items f exit)
         ≡ line_of (node v) (strip_from (beyond v) (face_count v.h) (set_of items) f)
     line = sym (strip_text (beyond v) (face_count v.h) (set_of items)
-        (set_of (slice_set items f false)) f e exit (set_of-clear items f low) begins leads (node v))
+        (set_of (slice_set items f false)) f e exit (set_of-clear items f low) begins leads
+        (node v))
 
     left : left_by (set_of (slice_set items f false)) (sides v items f exit)
         ≡ left_by (set_of items) (strip_from (beyond v) (face_count v.h) (set_of items) f)
