@@ -1,6 +1,6 @@
 //! A hierarchy with the first face of each record, the node that it splits, and the inner side of
 //! each face: what no move changes.
-ghost use Rattle.std.specs.Prelude.{◌≡◌, ◌+◌, ◌*◌, ◌<◌, ◌≤◌, is_some, IfOk, IfSome, Some};
+ghost use Rattle.std.specs.Prelude.{◌≡◌, ◌+◌, ◌*◌, ◌<◌, ◌≤◌, is_some, IfOk, Some};
 ghost use Rattle.pm_base.specs.Counts.{one_if};
 ghost use Rattle.pm_base.specs.Sides.{face_of};
 ghost use Rattle.pm_base.specs.declared.limits.TheConstants.{MOST_FACES, MOST_SIDES};

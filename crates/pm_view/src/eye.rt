@@ -6,7 +6,7 @@ ghost use Rattle.pm_bounds.specs.Boxes.{IsSmallBox};
 ghost use Rattle.pm_bounds.specs.declared.normal_box.NormalBox.{NormalBox};
 ghost use Rattle.pm_view.specs.declared.small_ball.TheConstants.{SMALL_RADIUS};
 ghost use Rattle.pm_view.specs.Views.{is_eye};
-ghost use Rattle.pm_view.specs.Wanted.{Bounded, least_facing, greatest_facing, may_turn_away};
+ghost use Rattle.pm_view.specs.Wanted.{least_facing, greatest_facing, may_turn_away};
 
 use crate::facing::{add_three, greatest_on_axis, least_on_axis};
 use crate::limits::{GREATEST_EYE_COORDINATE, is_within};

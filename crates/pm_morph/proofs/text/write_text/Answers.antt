@@ -21,7 +21,8 @@ returns-in_err-put_first g c =
 pub returns-in_err-put_nodes : goal.returns-in_err-put_nodes
 unfolding morph_text
 returns-in_err-put_nodes g c =
-    stops_before (drop 1 (rest c.args.front.now c.args.marks.now c.args.a c.args.b)) c.new-page.ensures
+    stops_before (drop 1 (rest c.args.front.now c.args.marks.now c.args.a c.args.b))
+    c.new-page.ensures
     (c.in_ok-put_first.ensures >> c.in_err-put_nodes.ensures)
     c.from_residual-in_err-put_nodes.ensures.1
 
