@@ -37,7 +37,7 @@ TOP = Path(__file__).resolve().parent.parent
 sys.path.insert(0, str(TOP / "tools"))
 
 from browser import Browser  # noqa: E402
-from viewer.library import built_library  # noqa: E402
+from viewer.library import NOT_BUILT, TO_BUILD, built_library  # noqa: E402
 from viewer.main import programs_of  # noqa: E402
 from viewer.model import model_of  # noqa: E402
 from viewer.server import Server  # noqa: E402
@@ -124,7 +124,10 @@ def arguments() -> argparse.Namespace:
     parser.add_argument("--by", nargs="+", choices=JUDGED, default=JUDGED)
     parser.add_argument("--tolerances", type=float, nargs="*", default=[32, 16, 8])
     parser.add_argument("--steps", type=int, default=100)
-    return parser.parse_args()
+    asked = parser.parse_args()
+    if asked.library and built_library() is None:
+        parser.error(f"{NOT_BUILT}: {TO_BUILD}")
+    return asked
 
 
 def measure(browser: Browser, asked: argparse.Namespace, judged: str) -> None:
