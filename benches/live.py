@@ -16,6 +16,7 @@ import argparse
 import subprocess
 import sys
 import time
+from io import BufferedReader
 from math import cos, pi, sin
 from pathlib import Path
 from typing import Iterator, List, NamedTuple, Tuple
@@ -30,6 +31,7 @@ WIDTH, HEIGHT = 1280, 800
 REACH = 30000  # about half of the width of a model that fills its grid
 LARGEST = 32767
 ALL_MOVES = 4294967295
+BLOCK = 1 << 20
 
 Place = Tuple[float, float, float]
 
@@ -50,7 +52,7 @@ class Session:
         self.child = subprocess.Popen(
             [program, command, str(ALL_MOVES)], stdin=subprocess.PIPE, stdout=subprocess.PIPE
         )
-        assert self.child.stdin and self.child.stdout
+        assert self.child.stdin and isinstance(self.child.stdout, BufferedReader)
         self.to, self.answers = self.child.stdin, self.child.stdout
         self.to.write(model)
 
@@ -64,12 +66,17 @@ class Session:
         return first
 
     def whole(self, text: str) -> Tuple[int, int]:
-        """Sends a line whose reply goes on to `end`, and answers its bytes and its faces."""
+        """Sends a line whose reply goes on to `end`, and answers its bytes and its faces.
+
+        Reads by block and not by line: a client that splits 60,000 lines in Python would be
+        measured and not the program.
+        """
         first = self.line(text)
-        size, line = len(first), first
-        while line != b"end\n":
-            line = self.answers.readline()
-            size += len(line)
+        size, last = len(first), first
+        while not last.endswith(b"\nend\n"):
+            block = self.answers.read1(BLOCK)
+            size += len(block)
+            last = (last + block)[-5:]
         return size, int(first.split()[2])
 
     def close(self) -> None:

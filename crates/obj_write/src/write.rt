@@ -45,7 +45,7 @@ fn put_faces<K: Sink>(mesh: &Mesh, page: &mut Page, out: &mut K) -> Result<(), W
 /// 10 to the power -digits. After a fault the sink has gained a part of the text from its front,
 /// and not the whole.
 ///
-/// The text is put in pages of 4,096 bytes, of which the last may be shorter. It takes no memory.
+/// The text is put in pages of 32,768 bytes, of which the last may be shorter. It takes no memory.
 #[tactic(auto, unfolding(pm_base::specs::Canonical::canonical_text))]
 pub fn write_obj<K: Sink>(mesh: &Mesh, digits: u32, out: &mut K) -> Result<(), WriteFault>
     requires few { digits ≤ 4 }

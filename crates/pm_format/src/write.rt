@@ -211,7 +211,7 @@ fn put_text<K: Sink>(
 
 /// Writes the stream text of a hierarchy whose coordinates have so many decimals, at most four.
 /// After a fault the sink has gained a part of the text from its front, and not the whole. It takes
-/// no memory, and time linear in the text. The text is put in pages of 4,096 bytes, of which the
+/// no memory, and time linear in the text. The text is put in pages of 32,768 bytes, of which the
 /// last may be shorter.
 pub fn encode<K: Sink>(h: &Hierarchy, digits: u32, out: &mut K) -> Result<(), WriteFault>
     requires { digits ≤ 4 }

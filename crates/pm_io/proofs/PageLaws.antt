@@ -6,6 +6,7 @@ use Rattle.std.proofs.Common.{length-append}
 use Rattle.std.specs.List.{flat_map}
 use Rattle.std.proofs.lemmas.Grind.{flat_map-append}
 use Rattle.std.proofs.lemmas.List.{append-nil, take_more, take_all, take-append-drop}
+use Rattle.pm_io.specs.declared.page.TheConstants.{PAGE_BYTES}
 use Rattle.pm_io.specs.Bytes.{Gains, GainsPart, GainsThrough, ArePages}
 use Rattle.pm_io.proofs.Known.{gains_none, gains_both, part_more, part_after}
 
@@ -71,7 +72,7 @@ through_page_part old mid new p q a first part =
 -- held.
 pub pages_put : (old mid new : Option (List ℕ)) (held piece front rest pages last : List ℕ)
     → piece ≡ front ++ rest → rest ≡ pages ++ last
-    → length (held ++ front) ≡ 4096 → ArePages pages → Gains old mid (held ++ front)
+    → length (held ++ front) ≡ PAGE_BYTES → ArePages pages → Gains old mid (held ++ front)
     → Gains mid new pages → GainsThrough old new held last piece
 pages_put old mid new held piece front rest pages last cut again full are first second = record {
   done = (held ++ front) ++ pages;
@@ -79,7 +80,7 @@ pages_put old mid new held piece front rest pages last cut again full are first 
       ap (λ (l : List ℕ). held ++ l) cut ∙ sym (append_assoc held front rest)
       ∙ ap (λ (l : List ℕ). (held ++ front) ++ l) again
       ∙ sym (append_assoc (held ++ front) pages last);
-  pages = pages_both (held ++ front) pages (ap (λ n. n % 4096) full) are;
+  pages = pages_both (held ++ front) pages (ap (λ n. n % PAGE_BYTES) full) are;
   gained = gains_both old mid new (held ++ front) pages first second;
 }
 

@@ -1,19 +1,21 @@
 //! A page of bytes, in which a long text is gathered before it is put.
 ghost use Rattle.std.specs.Prelude.{◌≡◌, ◌+◌, ◌≤◌, [], ◌++◌, length, OnErr};
 ghost use Rattle.pm_io.specs.Puts.{Puts, PutsThrough};
+ghost use Rattle.pm_io.specs.declared.page.TheConstants.{PAGE_BYTES};
 
 use crate::{Sink, WriteFault, put_all};
 use arrayvec::ArrayVec;
 use std::marker::Model;
 
-// How many bytes a page holds.
-const SIZE: usize = 4096;
+/// How many bytes a page holds: half of what a pipe of Linux has room for, so that its reader is
+/// busy with one page while the next is made.
+pub const PAGE_BYTES: usize = 32_768;
 
-/// A page of at most 4,096 bytes on their way to a sink. Contracts see the bytes that it holds. It
-/// takes no memory.
+/// A page of at most 32,768 bytes on their way to a sink, within the value itself. Contracts see the
+/// bytes that it holds. It takes no memory.
 #[derive(Drop)]
 pub struct Page {
-    held: ArrayVec<u8, 4096>,
+    held: ArrayVec<u8, 32_768>,
 }
 
 impl Model for Page {
@@ -36,7 +38,7 @@ impl Page {
 
     // Holds a piece for which there is room.
     fn hold(&mut self, piece: &[u8])
-        requires { length self.old + length piece.now ≤ 4096 }
+        requires { length self.old + length piece.now ≤ PAGE_BYTES }
         ensures { self.new ≡ self.old ++ piece.now }
     {
         let _ = self.held.try_extend_from_slice(piece);
@@ -47,7 +49,7 @@ impl Page {
     /// what was held and the piece, and the page is empty: what wasn't put is lost.
     pub fn add<K: Sink>(&mut self, piece: &[u8], out: &mut K) -> Result<(), WriteFault>
         ensures puts { PutsThrough K.Sink out.old out.new self.old self.new piece.now result }
-        ensures quiet { length self.old + length piece.now ≤ 4096 → out.new ≡ out.old }
+        ensures quiet { length self.old + length piece.now ≤ PAGE_BYTES → out.new ≡ out.old }
         ensures lost { OnErr result (self.new ≡ []) }
     {
         let room = self.held.remaining_capacity();
@@ -58,7 +60,7 @@ impl Page {
         let (front, rest) = piece.split_at(room);
         self.hold(front);
         self.flush(out)?;
-        let (pages, last) = rest.split_at(rest.len() - rest.len() % SIZE);
+        let (pages, last) = rest.split_at(rest.len() - rest.len() % PAGE_BYTES);
         put_all(out, pages)?;
         self.hold(last);
         Ok(())

@@ -95,7 +95,7 @@ fn put_nodes<K: Sink>(
     Ok(())
 }
 
-// Writes the text at a/b of the way from the marked front to a finer one, in pages of 4,096 bytes.
+// Writes the text at a/b of the way from the marked front to a finer one, in pages of 32,768 bytes.
 #[tactic(auto, unfolding(crate::specs::Texts::morph_text))]
 pub(crate) fn write_text<K: Sink>(
     front: &Front,

@@ -49,7 +49,7 @@ impl Stripper {
     /// sides of each kept one; no memory. After a fault the sink has gained a part of the text from
     /// its front, and not the whole. A later call starts anew.
     ///
-    /// The text is put in pages of 4,096 bytes, of which the last may be shorter: when the call
+    /// The text is put in pages of 32,768 bytes, of which the last may be shorter: when the call
     /// returns, nothing is held back.
     #[tactic(auto, using(crate::proofs::ShownLaws::strips_show), unfolding(crate::specs::Shown::strips_text))]
     pub fn write_strips<K: Sink>(&mut self, front: &Front, out: &mut K) -> Result<(), WriteFault>

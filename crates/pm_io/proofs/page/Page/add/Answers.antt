@@ -1,6 +1,7 @@
 use Rattle.std.proofs.Common.{◌≡◌, ◌++◌, length, refl, sym, ◌∙◌, ap, subst, append_assoc, arith}
 use Rattle.std.proofs.Common.{length-append}
 use Rattle.std.proofs.lemmas.Result.{err_from_is_err_and}
+use Rattle.pm_io.specs.declared.page.TheConstants.{PAGE_BYTES}
 use Rattle.pm_io.specs.Bytes.{ArePages, Gains, GainsPart, GainsThrough}
 use Rattle.pm_io.proofs.Known.{part_more}
 use Rattle.pm_io.proofs.PageLaws.{pages_put, pages_part}
@@ -39,7 +40,7 @@ returns-clause-puts g c =
     let got = g.K.Sink.got c.args.out.now in
     let turned = g.K.Sink.got c.flush.new.out in
     let last = c.split_at-2.result.1.now in
-    let full : length (c.args.self.now ++ c.split_at.result.0.now) ≡ 4096 =
+    let full : length (c.args.self.now ++ c.split_at.result.0.now) ≡ PAGE_BYTES =
     omega (
       arith,
       length-append c.args.self.now c.split_at.result.0.now,
