@@ -7,12 +7,12 @@ use Rattle.pm_base.specs.Place.{Place}
 use Rattle.pm_base.specs.Counts.{count}
 use Rattle.pm_base.specs.Sides.{Net, face_of, side_count}
 use Rattle.pm_base.proofs.Counts.{count_same}
+use Rattle.pm_base.proofs.Counted.{count_none}
 use Rattle.pm_turn.specs.Turning.{flag_of, flipped_if, Way, stay, over, AllAgree}
 use Rattle.pm_turn.specs.Sums.{root_at, parity_at}
 use Rattle.pm_turn.specs.Told.{IsCount, IsTwisted, IsInsideOut, AreInsideOut, crowded_of}
 use Rattle.pm_turn.specs.ToldLaws.{TurnCountsAreThere, TurnCountsAreOne, ManifoldsAreStraight}
 use Rattle.pm_turn.proofs.TurnedFaces.{once_agree}
-use Rattle.pm_turn.proofs.Totals.{count_zero}
 use Rattle.pm_turn.proofs.Telling.{tests, twisted_counted, inward_counted}
 use Rattle.pm_turn.proofs.Thirds.{none_crowded}
 use Rattle.pm_turn.proofs.TurnsThere.{all_grown}
@@ -91,7 +91,7 @@ always_even m all f g q (over {e} {k} {p} w a) =
     ap (λ (c : Bool). flipped_if c p) (all e k a) ∙ always_even m all f (face_of e) p w
 
 none_twisted : (m : Net) (k : ℕ) → AllAgree m → IsCount (IsTwisted m) m.faces k → k ≡ 0
-none_twisted m k all h = grind (arith, common_steps, always_even, count_zero)
+none_twisted m k all h = grind (arith, common_steps, always_even, count_none)
 
 pub manifolds_are_straight : ManifoldsAreStraight
 manifolds_are_straight m places flags c stand is s = (

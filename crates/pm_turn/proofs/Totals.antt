@@ -10,7 +10,8 @@ use borrow.Author.Differences.{ints}
 use Rattle.pm_base.specs.Place.{Place}
 use Rattle.pm_base.specs.Geometry.{Direction, IsNormal, dot_of, cross_of}
 use Rattle.pm_base.specs.Counts.{count}
-use Rattle.pm_base.proofs.Counts.{count_same, count-zero, count-true, count-false}
+use Rattle.pm_base.proofs.Counts.{count_same}
+use Rattle.pm_base.proofs.Counted.{count_none, count_some}
 use Rattle.pm_base.proofs.Squares.{abs_plus}
 use Rattle.pm_base.proofs.Range.{abs_product}
 use Rattle.pm_turn.specs.Choice.{total, determinant_of}
@@ -45,16 +46,6 @@ total_small g b zero e = let a : unsigned_abs (total g zero) ≡ 0 =
     ap unsigned_abs (total-zero g) in omega (arith, a)
 total_small g b (suc n) e = grind (arith, common_steps, abs_plus, total-suc, total_small g b n e)
 
--- Counts.
-pub count_zero : (p : ℕ → Bool) (n : ℕ) → ((i : ℕ) → i < n → p i ≡ false) → count p n ≡ 0
-count_zero p zero h = count-zero p
-count_zero p (suc n) h =
-    count-false p n (h n (omega arith)) ∙ count_zero p n (λ i l. h i (omega (arith, l)))
-
-pub count_some : (p : ℕ → Bool) (n i : ℕ) → i < n → p i ≡ true → 0 < count p n
-count_some p zero i l e = absurd (omega (arith, l))
-count_some p (suc n) i l e = grind (arith, common_steps, count-false, count-true, count_some p n i)
-
 -- Tests of the faces of one patch.
 pub in_patch : (root : ℕ → ℕ) (r f : ℕ) (b : Bool) → root f ≡ r → ((root f == r) && b) ≡ b
 in_patch root r f b is = ap (λ (t : Bool). t && b) (eq-eqb (root f) r is)
@@ -69,7 +60,7 @@ patch_same root r n p q h = grind (arith, common_steps, count_same, in_patch, ou
 
 pub patch_none : (root : ℕ → ℕ) (r n : ℕ) (p : ℕ → Bool)
     → ((f : ℕ) → f < n → root f ≡ r → p f ≡ false) → count (λ f. (root f == r) && p f) n ≡ 0
-patch_none root r n p h = grind (arith, common_steps, count_zero, in_patch, out_of_patch)
+patch_none root r n p h = grind (arith, common_steps, count_none, in_patch, out_of_patch)
 
 pub patch_some : (root : ℕ → ℕ) (r n : ℕ) (p : ℕ → Bool) (f : ℕ) → f < n → root f ≡ r → p f ≡ true
     → 0 < count (λ f. (root f == r) && p f) n
