@@ -1,17 +1,14 @@
 -- Flags chosen by sums over patches.
-use Rattle.std.proofs.Common.{◌≡◌, ◌≢◌, ℕ, ◌+◌, ◌*◌, ◌<◌, ◌≤◌, inl, inr, refl, sym, ap, ◌∙◌, subst}
-use Rattle.std.proofs.Common.{Bool, true, false, not, ◌||◌, List, Option, Some, None, length}
-use Rattle.std.proofs.Common.{slice_index_or, arith}
+use Rattle.std.proofs.Common.{◌≡◌, ◌≢◌, ℕ, ◌<◌, ◌≤◌, inl, inr, refl, sym, ap, ◌∙◌, subst, Bool}
+use Rattle.std.proofs.Common.{true, false, not, List, Option, None, length, slice_index_or, arith}
 use Rattle.std.specs.Prelude.{ℤ, pos, neg_ℤ, ◌≤ℤ◌, nat_lt}
-use Rattle.std.specs.Option.{is_none, MatchOption}
-use Rattle.std.proofs.lemmas.Bool.{cases_Bool, cases_eq, cond-true, cond-false, ltb-true, ltb-false}
-use Rattle.std.proofs.lemmas.Bool.{true≢false, or_cases, or_left, or_right}
+use Rattle.std.proofs.lemmas.Bool.{cases_Bool, cond-true, cond-false, ltb-true, ltb-false}
 use Rattle.pm_base.specs.Place.{Place}
 use Rattle.pm_base.specs.Sides.{Net, face_of, side_count, beside_side}
 use Rattle.pm_turn.specs.declared.patches.Root.{Root}
 use Rattle.pm_turn.specs.declared.choice.Sums.{Sums}
-use Rattle.pm_turn.specs.Turning.{flag_of, AreMates, clash, flipped_if, Way, stay, over}
-use Rattle.pm_turn.specs.Turning.{AgreeOnceTurned, AreTraced}
+use Rattle.pm_turn.specs.Turning.{flag_of, clash, flipped_if, Way, stay, over, AgreeOnceTurned}
+use Rattle.pm_turn.specs.Turning.{AreTraced}
 use Rattle.pm_turn.specs.Unions.{AreMated}
 use Rattle.pm_turn.specs.Choice.{AreLeast, IsOpen, IsClosed, Agrees, HasClash, turned_in}
 use Rattle.pm_turn.specs.Choice.{staying_in, IsFewest, volume_at, volume_in, IsOutward}
@@ -23,55 +20,7 @@ use Rattle.pm_turn.proofs.Reversing.{flip_past, stays_without_odd, by_count, at_
 use Rattle.pm_turn.proofs.Reversing.{by_volumes}
 use Rattle.pm_turn.proofs.Totals.{patch_same, patch_none, patch_some, patch_total, patch_opposite}
 use Rattle.pm_turn.proofs.Totals.{determinant_turned}
-
--- A face has a side without a mate.
-bare_side : (mates : List (Option ℕ)) (f e : ℕ) → face_of e ≡ f → beside_side mates e ≡ None
-    → is_bare mates f ≡ true
-bare_side mates f e at none =
-    let one : Bool = is_none (beside_side mates (3 * f)) in
-    let two : Bool = is_none (beside_side mates (3 * f + 1)) in
-    let three : Bool = is_none (beside_side mates (3 * f + 2)) in
-    elim (cases_eq e (3 * f)) [
-      | inl is ↦ or_left (one || two) three
-          (or_left one two (ap (λ i. is_none (beside_side mates i)) (sym is) ∙ ap is_none none))
-      | inr n0 ↦
-          elim (cases_eq e (3 * f + 1)) [
-            | inl is ↦ or_left (one || two) three
-                (or_right one two (ap (λ i. is_none (beside_side mates i)) (sym is)
-                ∙ ap is_none none))
-            | inr n1 ↦
-                let is : e ≡ 3 * f + 2 = omega (arith, at, n0, n1) in
-                or_right (one || two) three (ap (λ i. is_none (beside_side mates i)) (sym is)
-                ∙ ap is_none none)
-          ]
-    ]
-
-side_bare : (mates : List (Option ℕ)) (f : ℕ) → is_bare mates f ≡ true → (e : ℕ) × (face_of e ≡ f)
-    × (is_none (beside_side mates e) ≡ true)
-side_bare mates f t =
-    let one : Bool = is_none (beside_side mates (3 * f)) in
-    let two : Bool = is_none (beside_side mates (3 * f + 1)) in
-    let three : Bool = is_none (beside_side mates (3 * f + 2)) in
-    elim (or_cases (one || two) three t) [
-      | inr c ↦ (3 * f + 2, omega arith, c)
-      | inl ab ↦
-          elim (or_cases one two ab) [
-            | inl a ↦ (3 * f, omega arith, a)
-            | inr b ↦ (3 * f + 1, omega arith, b)
-          ]
-    ]
-
-no_mate : (m : Net) (e : ℕ) (o : Option ℕ) → is_none o ≡ true
-    → MatchOption o ((k : ℕ) → AreMates m e k → ⊥) (λ k. AreMates m e k) → (k : ℕ) → AreMates m e k
-    → ⊥
-no_mate m e None t none = none
-no_mate m e (Some k) t mate = absurd (true≢false (sym t))
-
-none_beside : (m : Net) (e : ℕ) (o : Option ℕ)
-    → MatchOption o ((k : ℕ) → AreMates m e k → ⊥) (λ k. AreMates m e k)
-    → ((k : ℕ) → AreMates m e k → ⊥) → o ≡ None
-none_beside m e None h none = refl
-none_beside m e (Some k) mate none = absurd (none k mate)
+use Rattle.pm_turn.proofs.BareSides.{bare_side, side_bare, no_mate, none_beside}
 
 -- A turned face's volume is the opposite.
 pub volume_turned : (m : Net) (places : List Place) (b : Bool) (f : ℕ)

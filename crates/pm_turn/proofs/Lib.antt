@@ -15,8 +15,10 @@ pub mod TurnMore
 pub mod TurnsThere
 pub mod Totals
 pub mod Reversing
+pub mod BareSides
 pub mod Choosing
 pub mod ChosenThere
+pub mod Rooting
 pub mod Summing
 pub mod OneChoice
 pub mod Renumbered

@@ -80,7 +80,7 @@ pub fn chosen_turns(
 }
 
 // The root of each face, once all that are mates are joined.
-#[tactic(auto, using(crate::proofs::Summing::none_rooted))]
+#[tactic(auto, using(crate::proofs::Rooting::none_rooted))]
 pub(crate) fn all_roots(
     alloc: Global,
     p: &mut Patches,

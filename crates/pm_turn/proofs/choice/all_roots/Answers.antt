@@ -1,7 +1,7 @@
 use Rattle.std.proofs.Common.{◌≡◌, ◌∙◌, subst, arith}
 use Rattle.pm_base.specs.Sides.{Net, net_of, side_count}
 use Rattle.pm_turn.specs.Unions.{AreTables, elders_of}
-use Rattle.pm_turn.proofs.Summing.{rooted_more, rooted_traced}
+use Rattle.pm_turn.proofs.Rooting.{rooted_more, rooted_traced}
 use Rattle.pm_turn.proofs.choice.all_roots.Goals as goal
 
 pub loop-face-preserved : goal.loop-face-preserved
