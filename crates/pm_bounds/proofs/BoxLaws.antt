@@ -1,7 +1,7 @@
 -- Boxes joined in any order, and any number of times, are one box.
 use Rattle.std.proofs.Common.{◌≡◌, ℕ, ◌≤◌, Bool, ◌||◌, List, [], ◌∷◌, ◌++◌, map, Option, None, Some}
-use Rattle.std.proofs.lemmas.Grind.{common_steps}
 use Rattle.std.proofs.Common.{IfSome, inl, inr, refl, sym, ap, ◌∙◌, arith}
+use Rattle.std.proofs.lemmas.Grind.{common_steps}
 use Rattle.std.specs.Prelude.{ℤ, unsigned_abs}
 use Rattle.std.specs.Int.{int_min, int_max}
 use Rattle.std.specs.List.{filter}
@@ -14,29 +14,29 @@ use Rattle.pm_bounds.specs.Boxes.{box_at, joined, join, box_of, IsSmallBox}
 
 -- one number
 
-min_comm : (x y : ℤ) → int_min x y ≡ int_min y x
+pub min_comm : (x y : ℤ) → int_min x y ≡ int_min y x
 min_comm x y = omega (arith, ints, clamps)
 
-max_comm : (x y : ℤ) → int_max x y ≡ int_max y x
+pub max_comm : (x y : ℤ) → int_max x y ≡ int_max y x
 max_comm x y = omega (arith, ints, clamps)
 
-min_assoc : (x y z : ℤ) → int_min (int_min x y) z ≡ int_min x (int_min y z)
+pub min_assoc : (x y z : ℤ) → int_min (int_min x y) z ≡ int_min x (int_min y z)
 min_assoc x y z = omega (arith, ints, clamps)
 
-max_assoc : (x y z : ℤ) → int_max (int_max x y) z ≡ int_max x (int_max y z)
+pub max_assoc : (x y z : ℤ) → int_max (int_max x y) z ≡ int_max x (int_max y z)
 max_assoc x y z = omega (arith, ints, clamps)
 
-min_same : (x : ℤ) → int_min x x ≡ x
+pub min_same : (x : ℤ) → int_min x x ≡ x
 min_same x = omega (arith, ints, clamps)
 
-max_same : (x : ℤ) → int_max x x ≡ x
+pub max_same : (x : ℤ) → int_max x x ≡ x
 max_same x = omega (arith, ints, clamps)
 
-min_small : (x y : ℤ) (m : ℕ) → unsigned_abs x ≤ m → unsigned_abs y ≤ m
+pub min_small : (x y : ℤ) (m : ℕ) → unsigned_abs x ≤ m → unsigned_abs y ≤ m
     → unsigned_abs (int_min x y) ≤ m
 min_small x y m p q = omega (arith, ints, clamps)
 
-max_small : (x y : ℤ) (m : ℕ) → unsigned_abs x ≤ m → unsigned_abs y ≤ m
+pub max_small : (x y : ℤ) (m : ℕ) → unsigned_abs x ≤ m → unsigned_abs y ≤ m
     → unsigned_abs (int_max x y) ≤ m
 max_small x y m p q = omega (arith, ints, clamps)
 
@@ -52,18 +52,7 @@ joined-same : (a : NormalBox) → joined a a ≡ a
 joined-same a = grind (arith, common_steps, max_same, min_same)
 
 joined-small : (a b : NormalBox) → IsSmallBox a → IsSmallBox b → IsSmallBox (joined a b)
-joined-small a b p q = (
-  (
-    min_small a.low.x b.low.x _ p.0.0 q.0.0,
-    min_small a.low.y b.low.y _ p.0.1 q.0.1,
-    min_small a.low.z b.low.z _ p.0.2 q.0.2,
-  ),
-  (
-    max_small a.high.x b.high.x _ p.1.0 q.1.0,
-    max_small a.high.y b.high.y _ p.1.1 q.1.1,
-    max_small a.high.z b.high.z _ p.1.2 q.1.2,
-  ),
-)
+joined-small a b p q = grind (arith, common_steps, max_small, min_small)
 
 -- the same where one may be missing
 

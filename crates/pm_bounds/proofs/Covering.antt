@@ -1,10 +1,8 @@
 -- What lies within a node's error, radius and box.
-use Rattle.std.proofs.Common.{◌≡◌, ℕ, zero, suc, ◌+◌, ◌*◌, ◌<◌, ◌≤◌, true, get_or, None}
+use Rattle.std.proofs.Common.{◌≡◌, ℕ, zero, suc, ◌+◌, ◌*◌, ◌<◌, ◌≤◌, true, get_or, None, Some, ◌⊎◌}
+use Rattle.std.proofs.Common.{inl, inr, refl, sym, ap, ◌∙◌, subst, arith}
 use Rattle.std.proofs.lemmas.Grind.{common_steps}
-use Rattle.std.proofs.Common.{Some, ◌⊎◌, inl, inr, refl, sym, ap, ◌∙◌, subst, arith}
-use Rattle.std.specs.Prelude.{ℤ, ◌-ℤ◌, unsigned_abs}
 use Rattle.std.proofs.lemmas.Nat.{mul-le}
-use borrow.Author.Differences.{ints}
 use Rattle.pm_base.specs.Place.{Place}
 use Rattle.pm_base.specs.Geometry.{Direction, dist2_of}
 use Rattle.pm_base.specs.Rounded.{distance_of}
@@ -13,8 +11,8 @@ use Rattle.pm_base.proofs.Root.{root_up_is}
 use Rattle.pm_base.proofs.Lengths.{distances_le}
 use Rattle.pm_base.proofs.Search.{option_cases}
 use Rattle.pm_forest.specs.declared.parts.Face.{Face}
-use Rattle.pm_forest.specs.Forest.{Hierarchy, record_count, node_count, s_of, t_of, u_of}
-use Rattle.pm_forest.specs.Forest.{Holds, Makes, splitter_of}
+use Rattle.pm_forest.specs.Forest.{Hierarchy, record_count, node_count, s_of, t_of, u_of, Holds}
+use Rattle.pm_forest.specs.Forest.{Makes, splitter_of}
 use Rattle.pm_forest.specs.Faces.{faces_of, face_count, corners_of, from_leaf, no_face_corners}
 use Rattle.pm_forest.specs.Places.{place_of_node}
 use Rattle.pm_forest.specs.Rules.{HasShape}
@@ -30,6 +28,7 @@ use Rattle.pm_bounds.specs.Boxes.{joined, join}
 use Rattle.pm_bounds.specs.Bounds.{normal_of, has_corner_under, reach, leaf_radius, over_children}
 use Rattle.pm_bounds.specs.Bounds.{error_of, radius_of, box_under, normal_box_of}
 use Rattle.pm_bounds.specs.Laws.{Grows, IsIn, IsNested}
+use Rattle.pm_bounds.proofs.MeasuredFaces.{dist2-same}
 use Rattle.pm_bounds.proofs.FacesUnder.{under_from, face_there, child_faces}
 use Rattle.pm_bounds.proofs.ListLaws.{greatest_above, IsInSome, min_left, min_right, max_left}
 use Rattle.pm_bounds.proofs.ListLaws.{max_right, same_z, ≤ℤ_by, box_above}
@@ -40,13 +39,6 @@ use Rattle.pm_bounds.proofs.GrownLaws.{box_under-split}
 
 pub near : (p q : Place) → dist2_of p q ≤ distance_of p q * distance_of p q
 near p q = (root_up_is (dist2_of p q)).enough
-
-self_square : (x : ℤ) → unsigned_abs (x -ℤ x) * unsigned_abs (x -ℤ x) ≡ 0
-self_square x = let z : unsigned_abs (x -ℤ x) ≡ 0 = omega (arith, ints) in rw z refl
-
-no_way : (p : Place) → dist2_of p p ≡ 0
-no_way p = let x = self_square p.x in let y = self_square p.y in let z =
-    self_square p.z in omega arith
 
 once : (n a : ℕ) → n ≤ a * a → n ≤ a * a * 1
 once n a h = omega arith
@@ -150,7 +142,7 @@ module _ (h : Hierarchy) (shape : HasShape h) where
       (child_number leaf number grows k v l makes)
 
   -- a leaf under a node that is split is under one of its children
-  child_of_leaf : (k x : ℕ) → k < record_count h → Holds h (s_of h k) x
+  pub child_of_leaf : (k x : ℕ) → k < record_count h → Holds h (s_of h k) x
       → Holds h (t_of h k) x ⊎ Holds h (u_of h k) x
   child_of_leaf k x l held = grind (arith, common_steps, holds-u_from_s, shape_of_nodes)
 
@@ -164,7 +156,7 @@ module _ (h : Hierarchy) (shape : HasShape h) where
       leaf_node-unsplit h (shape_of_nodes h shape) w x m none held in
       let zero_way : dist2_of (place_of_node h w) (leaf_place h x) ≡ 0 =
       ap (λ n. dist2_of (place_of_node h w) (place_of_node h n)) is
-      ∙ no_way (place_of_node h w) in
+      ∙ dist2-same (place_of_node h w) in
       omega arith)
       (λ k m t u held. elim (child_of_leaf k x m held) [
         | inl a ↦ passes_up (λ w. 0) (error_of h) errors_grow k (t_of h k) m (inl refl)
@@ -228,30 +220,10 @@ module _ (h : Hierarchy) (shape : HasShape h) where
   child_box k v l makes = grind (arith, common_steps, boxed v, child_faces h shape k v l makes)
 
   nested_left : (n : Direction) (a b : NormalBox) → IsIn n a → IsNested a (joined a b)
-  nested_left n a b i = record {
-    low_x = min_left a.low.x b.low.x a.low.x (same_z a.low.x);
-    low_y = min_left a.low.y b.low.y a.low.y (same_z a.low.y);
-    low_z = min_left a.low.z b.low.z a.low.z (same_z a.low.z);
-    high_x = max_left a.high.x b.high.x a.high.x (same_z a.high.x);
-    high_y = max_left a.high.y b.high.y a.high.y (same_z a.high.y);
-    high_z = max_left a.high.z b.high.z a.high.z (same_z a.high.z);
-    box_x = ≤ℤ_by a.low.x n.x a.high.x i.low_x i.high_x;
-    box_y = ≤ℤ_by a.low.y n.y a.high.y i.low_y i.high_y;
-    box_z = ≤ℤ_by a.low.z n.z a.high.z i.low_z i.high_z;
-  }
+  nested_left n a b i = grind (arith, common_steps, max_left, min_left, same_z, ≤ℤ_by)
 
   nested_right : (n : Direction) (a b : NormalBox) → IsIn n b → IsNested b (joined a b)
-  nested_right n a b i = record {
-    low_x = min_right a.low.x b.low.x b.low.x (same_z b.low.x);
-    low_y = min_right a.low.y b.low.y b.low.y (same_z b.low.y);
-    low_z = min_right a.low.z b.low.z b.low.z (same_z b.low.z);
-    high_x = max_right a.high.x b.high.x b.high.x (same_z b.high.x);
-    high_y = max_right a.high.y b.high.y b.high.y (same_z b.high.y);
-    high_z = max_right a.high.z b.high.z b.high.z (same_z b.high.z);
-    box_x = ≤ℤ_by b.low.x n.x b.high.x i.low_x i.high_x;
-    box_y = ≤ℤ_by b.low.y n.y b.high.y i.low_y i.high_y;
-    box_z = ≤ℤ_by b.low.z n.z b.high.z i.low_z i.high_z;
-  }
+  nested_right n a b i = grind (arith, common_steps, max_right, min_right, same_z, ≤ℤ_by)
 
   pub boxes_nest : (k v : ℕ) → k < record_count h → Makes h k v
       → IsNested (normal_box_of h v) (normal_box_of h (s_of h k))

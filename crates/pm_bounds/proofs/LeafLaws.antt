@@ -1,7 +1,7 @@
 -- The radii and boxes of leaves, when one face more is looked at.
 use Rattle.std.proofs.Common.{◌≡◌, ℕ, ◌+◌, ◌<◌, ◌≤◌, max, Bool, cond, List, [], ◌∷◌, ◌++◌, map}
-use Rattle.std.proofs.lemmas.Grind.{common_steps}
 use Rattle.std.proofs.Common.{take, None, Some, Option, inl, inr, refl, sym, ap, ◌∙◌, arith}
+use Rattle.std.proofs.lemmas.Grind.{common_steps}
 use Rattle.std.specs.List.{filter}
 use Rattle.std.proofs.Math.Seq.{take-length}
 use Rattle.std.proofs.lemmas.Bool.{cases_Bool, cond-true, cond-false}
@@ -30,12 +30,12 @@ use Rattle.pm_bounds.proofs.Nodes.{own_faces}
 max_shift : (x y z : ℕ) → max x (max y z) ≡ max (max x y) z
 max_shift x y z = omega arith
 
-greatest-more : (ns : List ℕ) (n : ℕ) → greatest (ns ++ n ∷ []) ≡ max (greatest ns) n
+pub greatest-more : (ns : List ℕ) (n : ℕ) → greatest (ns ++ n ∷ []) ≡ max (greatest ns) n
 greatest-more [] n = omega arith
 greatest-more (m ∷ ns) n = ap (max m) (greatest-more ns n) ∙ max_shift m (greatest ns) n
 
 -- what passes a test, with one item more
-filter-more : {X : Type 0} (p : X → Bool) (xs : List X) (x : X)
+pub filter-more : {X : Type 0} (p : X → Bool) (xs : List X) (x : X)
     → filter p (xs ++ x ∷ []) ≡ cond (p x) (filter p xs ++ x ∷ []) (filter p xs)
 filter-more p [] x = refl
 filter-more p (y ∷ ys) x = grind (arith, common_steps, cond-false, cond-true, filter-more p ys x)

@@ -20,7 +20,7 @@ axis_same x = omega (arith, ints)
 axis_turned : (x y : ℤ) → unsigned_abs (x -ℤ y) ≡ unsigned_abs (y -ℤ x)
 axis_turned x y = omega (arith, ints)
 
-dist2-same : (p : Place) → dist2_of p p ≡ 0
+pub dist2-same : (p : Place) → dist2_of p p ≡ 0
 dist2-same p = rw (axis_same p.x, axis_same p.y, axis_same p.z) refl
 
 dist2-turned : (p q : Place) → dist2_of p q ≡ dist2_of q p

@@ -62,7 +62,7 @@ module _ (h : Hierarchy) (shape : HasShape h) where
       )
 
   -- the leaves below a node that is split are those below its children
-  children_hold : (k x : ℕ) → k < record_count h
+  pub children_hold : (k x : ℕ) → k < record_count h
       → holds h (s_of h k) x ≡ (holds h (t_of h k) x || holds h (u_of h k) x)
   children_hold k x l =
       grind (arith, common_steps, holds-s_from_t, holds-s_from_u, holds-u_from_s, shape_of_nodes)
