@@ -1,8 +1,7 @@
 -- Axes: their numbers, their lengths, and how small parts along them are.
-use Rattle.std.proofs.Common.{◌≡◌, ℕ, zero, suc, ◌+◌, ◌*◌, ◌/◌, ◌<◌, ◌≤◌, Bool, true, ◌-◌}
+use Rattle.std.proofs.Common.{◌≡◌, ℕ, zero, suc, ◌+◌, ◌*◌, ◌/◌, ◌<◌, ◌≤◌, Bool, true, ◌-◌, List, []}
+use Rattle.std.proofs.Common.{◌∷◌, length, get_or, inl, inr, refl, sym, ap, ◌∙◌, subst, arith}
 use Rattle.std.proofs.lemmas.Grind.{common_steps}
-use Rattle.std.proofs.Common.{List, [], ◌∷◌, length, get_or, inl, inr, refl, sym, ap, ◌∙◌, subst}
-use Rattle.std.proofs.Common.{arith}
 use Rattle.std.specs.Prelude.{ℤ, pos, negsuc, neg_ℤ, unwrap_or, Option, None, Some, IfSome, ◌+ℤ◌}
 use Rattle.std.specs.Prelude.{◌*ℤ◌, unsigned_abs}
 use Rattle.std.specs.Int.{div_ceil}
@@ -26,7 +25,8 @@ use Rattle.pm_deviation.specs.Spreads.{times, along, mirrored, no_spread}
 use Rattle.pm_deviation.specs.Normals.{root_down, share, part_of, direction_of, part_along}
 use Rattle.pm_deviation.specs.Normals.{spread_of, x_axis, y_axis, z_axis, unit_box_of, length_of}
 use Rattle.pm_deviation.specs.Tables.{IsSpreadWithin, IsPart, IsSum, IsUnitBox, is_axis}
-use Rattle.pm_deviation.proofs.SpreadLaws.{min_small, max_small, joined-small, joined_all-holds}
+use Rattle.pm_bounds.proofs.BoxLaws.{min_small, max_small}
+use Rattle.pm_deviation.proofs.SpreadLaws.{joined-small, joined_all-holds}
 use Rattle.pm_deviation.proofs.CosineLaws.{quotient_most}
 use Rattle.pm_deviation.proofs.PartLaws.{ceil_least, root_down_is, root_down-some, roots_order}
 use Rattle.pm_deviation.proofs.PartLaws.{parts_of, unit_box_cases}

@@ -1,7 +1,7 @@
 -- Nodes at the border: what passes up, and what the leaf mesh tells.
 use Rattle.std.proofs.Common.{◌≡◌, ℕ, ◌+◌, ◌*◌, ◌<◌, Bool, true, false, ◌||◌, ◌&&◌, List, [], ◌∷◌}
-use Rattle.std.proofs.lemmas.Grind.{common_steps}
 use Rattle.std.proofs.Common.{length, get_or, None, ◌↔◌, inl, inr, refl, sym, ap, ◌∙◌, subst, arith}
+use Rattle.std.proofs.lemmas.Grind.{common_steps}
 use Rattle.std.specs.List.{list_any, range_with_len}
 use Rattle.std.specs.Option.{is_none}
 use Rattle.std.proofs.lemmas.Bool.{cases_Bool, and_from, and_parts, or_left, or_right, or_cases}
@@ -11,8 +11,8 @@ use Rattle.std.proofs.lemmas.List.FromFn.{get_or-range_with_len, length-range_wi
 use Rattle.pm_base.specs.Sides.{IsBorder}
 use Rattle.pm_base.proofs.TwinLaws.{none-twin, twin-none}
 use Rattle.pm_base.proofs.Search.{none_from}
-use Rattle.pm_forest.specs.Forest.{Hierarchy, record_count, leaf_count, s_of, t_of, u_of}
-use Rattle.pm_forest.specs.Forest.{holds, Holds}
+use Rattle.pm_forest.specs.Forest.{Hierarchy, record_count, leaf_count, s_of, t_of, u_of, holds}
+use Rattle.pm_forest.specs.Forest.{Holds}
 use Rattle.pm_forest.specs.Faces.{face_count, from_leaf, to_leaf}
 use Rattle.pm_forest.specs.Rules.{HasShape}
 use Rattle.pm_forest.specs.Tables.{leaf_node_of}
@@ -20,7 +20,7 @@ use Rattle.pm_forest.proofs.HierarchyLaws.{leaf_node-alone}
 use Rattle.pm_forest.proofs.Nodes.{within-true, within-from}
 use Rattle.pm_forest.proofs.ShapeLaws.{shape_is_forest}
 use Rattle.pm_beyond.specs.Walks.{leaf_net, leaf_twin}
-use Rattle.pm_deviation.proofs.Children.{children_hold}
+use Rattle.pm_bounds.proofs.Nodes.{children_hold}
 use Rattle.pm_beyond.proofs.Twins.{side-stands}
 use Rattle.pm_deviation.specs.Borders.{is_border_side_under, is_at_border}
 

@@ -1,8 +1,8 @@
 -- The cosines of nodes: at most 16,384, and falling from a child to its parent.
 use Rattle.std.proofs.Common.{◌≡◌, ℕ, zero, suc, ◌+◌, ◌*◌, ◌/◌, ◌<◌, ◌≤◌, max, List, [], ◌∷◌, map}
-use Rattle.std.proofs.lemmas.Grind.{common_steps}
 use Rattle.std.proofs.Common.{Option, None, Some, IfSome, inl, inr, sym, subst, arith}
-use Rattle.std.proofs.Math.Nat.{le_refl, div-mul-le_self, div-zero}
+use Rattle.std.proofs.lemmas.Grind.{common_steps}
+use Rattle.std.proofs.Math.Nat.{le_refl, div-mul-le_self, div-zero, max-le}
 use Rattle.std.specs.Prelude.{ℤ, pos, negsuc, neg_ℤ, ◌*ℤ◌, ◌≤ℤ◌, unsigned_abs}
 use Rattle.std.specs.Option.{option_map}
 use Rattle.std.proofs.lemmas.Nat.{mul-le, le-div, div_below}
@@ -24,8 +24,8 @@ use Rattle.pm_deviation.specs.declared.unit_box.UnitBox.{UnitBox}
 use Rattle.pm_deviation.specs.Spreads.{joined, join, along}
 use Rattle.pm_deviation.specs.Normals.{direction_of, part_along, spread_of, above_zero, length_of}
 use Rattle.pm_deviation.specs.Normals.{least_cosine, cosine_by, cosine_along, cosine_of}
-use Rattle.pm_deviation.proofs.Products.{scaled_along}
-use Rattle.pm_deviation.proofs.PartLaws.{times_neg, between, parts_of, parts_scaled, high_length}
+use Rattle.pm_deviation.proofs.Products.{scaled_along, between}
+use Rattle.pm_deviation.proofs.PartLaws.{times_neg, neg_falls, parts_of, parts_scaled, high_length}
 use Rattle.pm_deviation.proofs.PartLaws.{unit_box_cases}
 use Rattle.pm_deviation.proofs.SpreadLaws.{IsOver, over_left, over_right, joined_all-holds}
 use Rattle.pm_deviation.proofs.Children.{spread-split}
@@ -37,17 +37,11 @@ above_grows (pos x) (pos y) h = omega (arith, ints)
 above_grows (pos x) (negsuc y) h = absurd (omega (arith, ints))
 above_grows (negsuc x) y h = omega arith
 
-neg_falls : (x y : ℤ) → x ≤ℤ y → neg_ℤ y ≤ℤ neg_ℤ x
-neg_falls x y h = omega (arith, ints)
-
 abbrev pub one_side : Spread → ℕ
 one_side s = max (above_zero s.low) (above_zero (neg_ℤ s.high))
 
 max_le : (a b c d : ℕ) → a ≤ c → b ≤ d → max a b ≤ max c d
 max_le a b c d p q = omega arith
-
-max_le' : (a b c : ℕ) → a ≤ c → b ≤ c → max a b ≤ c
-max_le' a b c p q = omega arith
 
 pub side_falls : (a b : Spread) → IsOver a b → one_side a ≤ one_side b
 side_falls a b o = grind (arith, common_steps, above_grows, max_le, neg_falls)
@@ -115,8 +109,7 @@ along_within n u some =
     let i = scaled_along n m l (parts_of n) (parts_scaled n l (high_length (norm2_of n) some)) in
     let v = unsigned_abs (dot_of n m) in
     let far = (root_up_is (norm2_of n)).enough in
-    max_le' (above_zero (along (parts_of n) m).low) (above_zero (neg_ℤ (along (parts_of n) m).high))
-    (length_of u)
+    max-le
     (within_length l _ v (norm2_of n) (norm2_of m) some
     (low_side l (along (parts_of n) m).low (dot_of n m) i.low) (dot_le n m) far)
     (within_length l _ v (norm2_of n) (norm2_of m) some

@@ -1,7 +1,7 @@
 -- The table of cosines while axes are gone through.
 use Rattle.std.proofs.Common.{◌≡◌, ℕ, ◌+◌, ◌<◌, ◌≤◌, max, List, [], ◌∷◌, ◌++◌, length, map, take}
-use Rattle.std.proofs.lemmas.Grind.{common_steps}
 use Rattle.std.proofs.Common.{get_or, set, length-set, inl, inr, refl, sym, ap, ◌∙◌, subst, arith}
+use Rattle.std.proofs.lemmas.Grind.{common_steps}
 use Rattle.std.proofs.lemmas.Bool.{cases_eq}
 use Rattle.std.proofs.lemmas.List.{map-append, take_more, get_or-set_same, get_or-set_other}
 use Rattle.pm_forest.specs.Forest.{Hierarchy, node_count}
@@ -10,17 +10,11 @@ use Rattle.pm_deviation.specs.declared.axes.Axis.{Axis}
 use Rattle.pm_deviation.specs.declared.axes.TheConstants.{AXES}
 use Rattle.pm_deviation.specs.Normals.{cosine_along, cosine_of}
 use Rattle.pm_deviation.specs.Tables.{AreCosines}
+use Rattle.pm_bounds.proofs.LeafLaws.{greatest-more}
 
 -- The cosine of a node by the first n axes.
 abbrev pub cosine_in : Hierarchy → ℕ → ℕ → ℕ
 cosine_in h n v = greatest (map (cosine_along h v) (take n AXES))
-
-max_shift : (x y z : ℕ) → max x (max y z) ≡ max (max x y) z
-max_shift x y z = omega arith
-
-greatest-more : (ns : List ℕ) (n : ℕ) → greatest (ns ++ n ∷ []) ≡ max (greatest ns) n
-greatest-more [] n = omega arith
-greatest-more (m ∷ ns) n = ap (max m) (greatest-more ns n) ∙ max_shift m (greatest ns) n
 
 cosine_in-more : (h : Hierarchy) (n v : ℕ) (u : Axis) → n < 13 → u ≡ get_or AXES n u
     → cosine_in h (n + 1) v ≡ max (cosine_in h n v) (cosine_along h v u)

@@ -1,8 +1,8 @@
 -- The table of faces, and of leaves while faces are gone through.
-use Rattle.std.proofs.Common.{◌≡◌, ℕ, ◌+◌, ◌<◌, eqb, Bool, cond, List, [], ◌∷◌, ◌++◌, length, map}
+use Rattle.std.proofs.Common.{◌≡◌, ℕ, ◌+◌, ◌<◌, eqb, cond, List, [], ◌∷◌, ◌++◌, length, map, take}
+use Rattle.std.proofs.Common.{get_or, set, Option, None, IfSome, inl, inr, refl, sym, ap, subst}
+use Rattle.std.proofs.Common.{◌∙◌, arith}
 use Rattle.std.proofs.lemmas.Grind.{common_steps}
-use Rattle.std.proofs.Common.{take, get_or, set, Option, None, IfSome, inl, inr, refl, sym, ap}
-use Rattle.std.proofs.Common.{subst, ◌∙◌, arith}
 use Rattle.std.specs.List.{filter}
 use Rattle.std.proofs.Math.Seq.{take-length}
 use Rattle.std.proofs.lemmas.Bool.{cases_Bool, cond-true, cond-false, eq-eqb, ne_eqb}
@@ -16,6 +16,7 @@ use Rattle.pm_forest.proofs.FaceLists.{length-faces_of, corners_of-faces_of}
 use Rattle.pm_forest.proofs.HierarchyLaws.{leaf_node-lt}
 use Rattle.pm_bounds.specs.Bounds.{normal_of, has_corner_under}
 use Rattle.pm_bounds.specs.Leaves.{is_leaf_corner}
+use Rattle.pm_bounds.proofs.LeafLaws.{filter-more}
 use Rattle.pm_bounds.proofs.Nodes.{own_faces, leaf_node-apart, has_leaf}
 use Rattle.pm_bounds.proofs.TableLaws.{three}
 use Rattle.pm_deviation.specs.declared.axes.Axis.{Axis}
@@ -42,12 +43,6 @@ boxes_more h n old new x was is value small =
       each = λ f l. (all f l).0;
       small = λ f l. (all f l).1;
     }
-
--- what passes a test, with one item more
-filter-more : {X : Type 0} (p : X → Bool) (xs : List X) (x : X)
-    → filter p (xs ++ x ∷ []) ≡ cond (p x) (filter p xs ++ x ∷ []) (filter p xs)
-filter-more p [] x = refl
-filter-more p (y ∷ ys) x = grind (arith, common_steps, cond-false, cond-true, filter-more p ys x)
 
 -- What the normals of the first n faces under a node have along an axis.
 unfoldable pub spread_in : Hierarchy → Axis → ℕ → ℕ → Option Spread

@@ -1,9 +1,9 @@
 -- Deviations are at most errors, and grow from a child to its parent.
 use Rattle.std.proofs.Common.{◌≡◌, ℕ, ◌+◌, ◌*◌, ◌<◌, ◌≤◌, max, min, eqb, Bool, true, false, cond}
-use Rattle.std.proofs.lemmas.Grind.{common_steps}
 use Rattle.std.proofs.Common.{◌||◌, None, inl, inr, refl, sym, ◌∙◌, subst, arith}
-use Rattle.std.proofs.lemmas.Bool.{cases_Bool, cond-true, cond-false, or_left, or_right}
-use Rattle.std.proofs.lemmas.Bool.{or_parts, eq-eqb, ne_eqb}
+use Rattle.std.proofs.lemmas.Grind.{common_steps}
+use Rattle.std.proofs.lemmas.Bool.{cases_Bool, cond-true, cond-false, or_left, or_right, or_parts}
+use Rattle.std.proofs.lemmas.Bool.{eq-eqb, ne_eqb}
 use Rattle.std.specs.Int.{div_ceil}
 use Rattle.pm_base.specs.Sides.{IsBorder}
 use Rattle.pm_forest.specs.Forest.{Hierarchy, record_count, node_count, s_of, t_of, u_of, Holds}
@@ -24,9 +24,6 @@ use Rattle.pm_deviation.proofs.BorderLaws.{border-split, at_border-leaf}
 use Rattle.pm_deviation.proofs.CosineLaws.{cosine_falls}
 use Rattle.pm_deviation.proofs.PartLaws.{ceil_grows}
 use Rattle.pm_deviation.proofs.StepLaws.{planes_at_leaf, planes_at_split}
-
-le_by : (a b c : ℕ) → a ≤ b → b ≤ c → a ≤ c
-le_by a b c p q = omega arith
 
 min_le : (a b c d : ℕ) → a ≤ c → b ≤ d → min a b ≤ min c d
 min_le a b c d p q = omega arith

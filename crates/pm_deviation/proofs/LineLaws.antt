@@ -1,14 +1,14 @@
 -- How far the line from a node's place along an axis goes before it meets the plane of a face.
-use Rattle.std.proofs.Common.{◌≡◌, ℕ, zero, suc, ◌*◌, ◌/◌, ◌<◌, ◌≤◌, max, min, eqb, false, List, []}
+use Rattle.std.proofs.Common.{◌≡◌, ℕ, zero, suc, ◌*◌, ◌/◌, ◌<◌, ◌≤◌, max, min, eqb, List, [], ◌∷◌}
+use Rattle.std.proofs.Common.{map, ◌⊎◌, inl, inr, refl, sym, ap, ◌∙◌, subst, arith}
 use Rattle.std.proofs.lemmas.Grind.{common_steps}
-use Rattle.std.proofs.Common.{◌∷◌, map, ◌⊎◌, inl, inr, refl, sym, ap, ◌∙◌, subst, arith}
-use Rattle.std.proofs.Math.Nat.{le_refl, le_of_mul-le-mul_left, div-mul-le_self, div-zero}
+use Rattle.std.proofs.Math.Nat.{le_refl, le_trans, le_of_mul-le-mul_left, div-mul-le_self, div-zero}
 use Rattle.std.specs.Prelude.{ℤ, pos, neg_ℤ, ◌+ℤ◌, ◌*ℤ◌, unsigned_abs}
 use Rattle.std.specs.Int.{div_ceil}
 use Rattle.std.specs.List.{Contains}
 use Rattle.std.proofs.lemmas.Int.{unsigned_abs-mul}
 use Rattle.std.proofs.lemmas.Nat.{mul-le}
-use Rattle.std.proofs.lemmas.Bool.{cases_Bool, cases_lt, or_parts, eq-eqb}
+use Rattle.std.proofs.lemmas.Bool.{cases_Bool, cases_lt, or_parts, eqb-false}
 use borrow.Author.Differences.{ints}
 use Rattle.pm_base.specs.Geometry.{dot_of, norm2_of}
 use Rattle.pm_base.specs.Rounded.{root_up}
@@ -36,9 +36,6 @@ use Rattle.pm_deviation.proofs.Products.{scaled_along}
 -- Numbers alone: s / w is how far the line goes in lengths of the axis, k the product of normal and
 -- axis, v the plane's value, n and u the squared lengths of normal and axis, c the cosine, d and f
 -- the two deviations.
-
-le_by : (a b c : ℕ) → a ≤ b → b ≤ c → a ≤ c
-le_by a b c p q = omega arith
 
 positive : (k c : ℕ) → 0 < k → 0 < c → 0 < k * k * (c * c)
 positive k c p q = grind (arith, common_steps, mul-le)
@@ -84,7 +81,7 @@ tilts_bound s w k v d c f n u k0 c0 e p q r =
     le_of_mul-le-mul_left {m = s * s * u} {n = (w * f) * (w * f)} {k = k * k * (c * c)}
     (subst (λ (t : ℕ). t ≤ k * k * (c * c) * ((w * f) * (w * f))) (sym (gathered s k u c))
     (subst (λ (t : ℕ). t ≤ k * k * (c * c) * ((w * f) * (w * f))) (sym (met s w k v u c e))
-    (le_by _ _ _ (nearer w v d n u c p) (le_by _ _ _ (tilted w d k c n u q) (wide w d k c f r)))))
+    (le_trans (nearer w v d n u c p) (le_trans (tilted w d k c n u q) (wide w d k c f r)))))
     (positive k c k0 c0)
 
 -- c l is at most 16,384 p, and r p at most 16,384 k: the cosine of the axis with the normal is at
@@ -164,7 +161,7 @@ module _ (h : Hierarchy) (shape : HasShape h) (v : ℕ) (l : v < node_count h) w
       let len = quotient_some (16384 * one_side a) (length_of u) c cosine some in
       let a_side = quotient_times (16384 * one_side a) (length_of u) c cosine in
       let p_side =
-      le_by (c * length_of u) (16384 * one_side a) (16384 * one_side p) a_side
+      le_trans a_side
       (mul-le 16384 (one_side a) 16384 (one_side p) (le_refl 16384) (side_falls a p over)) in
       let product =
       some_product c (length_of u) (one_side p) r (unsigned_abs k) some len p_side sides
@@ -178,9 +175,6 @@ module _ (h : Hierarchy) (shape : HasShape h) (v : ℕ) (l : v < node_count h) w
       (steep c (length_of u) (one_side p) r (unsigned_abs k) (norm2_of n) (norm2_of m) p_side
       sides far long) enough
 
-  some_cosine : (c : ℕ) → eqb c 0 ≡ false → 0 < c
-  some_cosine c e = grind (arith, common_steps, eq-eqb)
-
   axis_there : 0 < cosine_of h v → (u : Axis) × Contains AXES u
       × (cosine_along h v u ≡ cosine_of h v)
   unfolding cosine_of
@@ -193,7 +187,8 @@ module _ (h : Hierarchy) (shape : HasShape h) (v : ℕ) (l : v < node_count h) w
     | inr e ↦
         let c = cosine_of h v in
         let d = div_ceil (16384 * planes) c in
-        let some = some_cosine c (or_parts (is_at_border h v) (eqb c 0) e).1 in
+        let never = or_parts (is_at_border h v) (eqb c 0) e in
+        let some : 0 < c = omega (arith, eqb-false c 0 never.1) in
         let is = tilted_there h shape v e in
         elim (cases_lt (error_of h v) d) [
           | inl less ↦ inl (is ∙ min_left (error_of h v) d less)

@@ -1,7 +1,7 @@
 -- The planes of the faces under a node are within its plane deviation.
 use Rattle.std.proofs.Common.{◌≡◌, ℕ, ◌+◌, ◌*◌, ◌<◌, ◌≤◌, max, min, true, get_or, Option, Some, inl}
-use Rattle.std.proofs.lemmas.Grind.{common_steps}
 use Rattle.std.proofs.Common.{inr, sym, ap, subst, arith}
+use Rattle.std.proofs.lemmas.Grind.{common_steps}
 use Rattle.std.specs.Prelude.{ℤ, pos, ◌+ℤ◌, ◌-ℤ◌, ◌*ℤ◌, unsigned_abs}
 use Rattle.std.specs.Option.{option_map, unwrap_or}
 use Rattle.std.proofs.lemmas.Bool.{cases_Bool, cases_eq}
@@ -23,7 +23,7 @@ use Rattle.pm_forest.proofs.LeafNodes.{leaf_node-unsplit}
 use Rattle.pm_forest.proofs.ShapeLaws.{shape_of_nodes}
 use Rattle.pm_bounds.specs.Bounds.{normal_of, has_corner_under, error_of}
 use Rattle.pm_bounds.proofs.FacesUnder.{under_from, face_there}
-use Rattle.pm_bounds.proofs.Covering.{near, up_from_leaves, leaves_covered}
+use Rattle.pm_bounds.proofs.Covering.{near, up_from_leaves, leaves_covered, child_of_leaf}
 use Rattle.pm_bounds.proofs.Nodes.{split_node}
 use Rattle.pm_deviation.specs.declared.axes.Axis.{Axis}
 use Rattle.pm_deviation.specs.declared.spread.Spread.{Spread}
@@ -33,7 +33,6 @@ use Rattle.pm_deviation.specs.Normals.{x_axis, y_axis, z_axis, unit_box_of}
 use Rattle.pm_deviation.specs.Borders.{is_at_border}
 use Rattle.pm_deviation.specs.Deviations.{way, most_along, step_of, plane_deviation_of}
 use Rattle.pm_deviation.specs.Laws.{value_of, IsWithin, Show}
-use Rattle.pm_deviation.proofs.Children.{child_of_leaf}
 use Rattle.pm_deviation.proofs.GrowingLaws.{planes_at_border, planes_inside}
 use Rattle.pm_deviation.proofs.PartLaws.{parts_of, parts_scaled, low_length, root_down_is}
 use Rattle.pm_deviation.proofs.PartLaws.{ceil_enough, unit_box_some}

@@ -1,13 +1,13 @@
 -- A node's deviation is at least how far its place may be from the planes of its faces, since no
 -- cosine is above 1.
-use Rattle.std.proofs.Common.{◌≡◌, ℕ, zero, suc, ◌*◌, ◌<◌, ◌≤◌, eqb, false}
+use Rattle.std.proofs.Common.{ℕ, ◌*◌, ◌<◌, ◌≤◌, eqb, List, [], ◌∷◌, map, Option, None, Some, inl}
+use Rattle.std.proofs.Common.{inr, arith}
 use Rattle.std.proofs.lemmas.Grind.{common_steps}
-use Rattle.std.proofs.Common.{List, [], ◌∷◌, map, Option, None, Some, inl, inr, sym, arith}
 use Rattle.std.specs.Prelude.{IfSome}
 use Rattle.std.specs.Int.{div_ceil}
 use Rattle.std.proofs.Math.Nat.{le_refl}
 use Rattle.std.proofs.lemmas.Nat.{mul-le}
-use Rattle.std.proofs.lemmas.Bool.{cases_Bool, or_parts, false≢true}
+use Rattle.std.proofs.lemmas.Bool.{cases_Bool, or_parts, eqb-false}
 use Rattle.pm_forest.specs.Forest.{Hierarchy, node_count}
 use Rattle.pm_forest.specs.Rules.{HasShape}
 use Rattle.pm_bounds.specs.Bounds.{greatest}
@@ -18,8 +18,7 @@ use Rattle.pm_deviation.specs.Normals.{cosine_by, cosine_along, cosine_of, sprea
 use Rattle.pm_deviation.specs.Borders.{is_at_border}
 use Rattle.pm_deviation.specs.Deviations.{plane_deviation_of, deviation_of}
 use Rattle.pm_deviation.proofs.CosineLaws.{IsWithinAxis, least_most, spread_within}
-use Rattle.pm_deviation.proofs.GrowingLaws.{planes_below, is_error, error_there}
-use Rattle.pm_deviation.proofs.GrowingLaws.{tilted_there}
+use Rattle.pm_deviation.proofs.GrowingLaws.{planes_below, is_error, error_there, tilted_there}
 use Rattle.pm_deviation.proofs.PartLaws.{ceil_enough}
 
 greatest_most : {X : Type 0} (f : X → ℕ) (xs : List X) (m : ℕ) → ((x : X) → f x ≤ m)
@@ -37,10 +36,6 @@ cosine_most h v =
     greatest_most (cosine_along h v) AXES 16384
     (λ u. most u (spread_of h u v) (spread_within h u v))
 
-positive : (n : ℕ) → eqb n 0 ≡ false → 0 < n
-positive zero e = absurd (false≢true (sym e))
-positive (suc n) e = omega arith
-
 spread_out : (p q c : ℕ) → c ≤ 16384 → 16384 * p ≤ q * c → p ≤ q
 spread_out p q c few h = omega (arith, h, mul-le q c q 16384 (le_refl q) few)
 
@@ -53,8 +48,8 @@ module _ (h : Hierarchy) (shape : HasShape h) where
         | inl e ↦ (let is = error_there h shape v e in omega arith)
         | inr e ↦
             let is = tilted_there h shape v e in
-            let some = positive (cosine_of h v)
-            (or_parts (is_at_border h v) (eqb (cosine_of h v) 0) e).1 in
+            let never = or_parts (is_at_border h v) (eqb (cosine_of h v) 0) e in
+            let some : 0 < cosine_of h v = omega (arith, eqb-false (cosine_of h v) 0 never.1) in
             let p = plane_deviation_of h v in
             let q = div_ceil (16384 * p) (cosine_of h v) in
             let enough =

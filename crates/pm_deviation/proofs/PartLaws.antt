@@ -1,12 +1,11 @@
 -- Roots rounded down, quotients rounded up, and the parts of a normal that they give.
 use Rattle.std.proofs.Common.{◌≡◌, ℕ, zero, suc, ◌+◌, ◌-◌, ◌*◌, ◌/◌, ◌<◌, ◌≤◌, eqb, ◌⊎◌, None, Some}
-use Rattle.std.proofs.Common.{sym, subst, arith}
+use Rattle.std.proofs.Common.{subst, arith}
 use Rattle.std.proofs.Math.Nat.{le_refl, div-mul-le_self}
 use Rattle.std.specs.Prelude.{ℤ, pos, negsuc, neg_ℤ, ◌*ℤ◌, ◌≤ℤ◌}
 use Rattle.std.specs.Int.{div_ceil}
 use Rattle.std.proofs.lemmas.Nat.{mul-le}
-use Rattle.std.proofs.lemmas.Bool.{cond-true, cond-false, leb-true}
-use Rattle.std.proofs.lemmas.Bool.{leb-false, eq-eqb, ne_eqb}
+use Rattle.std.proofs.lemmas.Bool.{cond-true, cond-false, leb-true, leb-false, eq-eqb, ne_eqb}
 use Rattle.std.proofs.lemmas.Grind.{div_ceil_times, common_steps}
 use borrow.Author.Differences.{ints}
 use Rattle.pm_base.specs.Geometry.{Direction, norm2_of}
@@ -18,7 +17,7 @@ use Rattle.pm_deviation.specs.declared.spread.Spread.{Spread}
 use Rattle.pm_deviation.specs.declared.unit_box.UnitBox.{UnitBox}
 use Rattle.pm_deviation.specs.Spreads.{mirrored}
 use Rattle.pm_deviation.specs.Normals.{root_down, share, part_of, unit_box}
-use Rattle.pm_deviation.proofs.Products.{IsScaledIn, IsScaledInBox}
+use Rattle.pm_deviation.proofs.Products.{IsScaledIn, IsScaledInBox, between}
 
 -- Quotients rounded up
 
@@ -99,19 +98,16 @@ pub times_neg : (k z : ℤ) → k *ℤ neg_ℤ z ≡ neg_ℤ (k *ℤ z)
 times_neg k z =
     rw (diff-of k, diff-of z) (simp (neg-diff, mul-diff) (diff_same _ _ _ _ (omega arith)))
 
-turned_order : (x y : ℤ) → x ≤ℤ y → neg_ℤ y ≤ℤ neg_ℤ x
-turned_order x y h = omega (arith, ints)
-
-pub between : (x x' y y' : ℤ) → x ≡ x' → y ≡ y' → x' ≤ℤ y' → x ≤ℤ y
-between x x' y y' e f h = subst (λ (z : ℤ). z ≤ℤ y) (sym e) (subst (λ (z : ℤ). x' ≤ℤ z) (sym f) h)
+pub neg_falls : (x y : ℤ) → x ≤ℤ y → neg_ℤ y ≤ℤ neg_ℤ x
+neg_falls x y h = omega (arith, ints)
 
 mirrored_scaled : (n : ℤ) (l : ℕ) (s : Spread) → IsScaledIn n l s
     → IsScaledIn (neg_ℤ n) l (mirrored s)
 mirrored_scaled n l s i = record {
   low = between _ _ _ _ (times_neg (pos l) s.high) (times_neg (pos 16384) n)
-      (turned_order (pos 16384 *ℤ n) (pos l *ℤ s.high) i.high);
+      (neg_falls (pos 16384 *ℤ n) (pos l *ℤ s.high) i.high);
   high = between _ _ _ _ (times_neg (pos 16384) n) (times_neg (pos l) s.low)
-      (turned_order (pos l *ℤ s.low) (pos 16384 *ℤ n) i.low);
+      (neg_falls (pos l *ℤ s.low) (pos 16384 *ℤ n) i.low);
 }
 
 neg_suc : (n : ℕ) → neg_ℤ (pos (n + 1)) ≡ negsuc n

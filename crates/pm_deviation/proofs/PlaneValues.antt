@@ -1,6 +1,6 @@
 -- Values of planes that are small beside the normal: sums, multiples, and the values after a move.
-use Rattle.std.proofs.Common.{◌≡◌, ℕ, ◌+◌, ◌*◌, ◌<◌, ◌≤◌, inl, inr, sym, subst, arith}
-use Rattle.std.proofs.Math.Nat.{le_refl}
+use Rattle.std.proofs.Common.{◌≡◌, ℕ, ◌+◌, ◌*◌, ◌≤◌, inl, inr, sym, subst, arith}
+use Rattle.std.proofs.Math.Nat.{le_refl, le_of_lt}
 use Rattle.std.specs.Prelude.{ℤ, pos, ◌+ℤ◌, ◌-ℤ◌, ◌*ℤ◌, ◌≤ℤ◌, unsigned_abs}
 use Rattle.std.proofs.lemmas.Nat.{mul-le}
 use Rattle.std.proofs.lemmas.Bool.{cases_lt}
@@ -8,7 +8,7 @@ use Rattle.std.proofs.lemmas.Int.{unsigned_abs-mul}
 use borrow.Author.Differences.{ints}
 use Rattle.pm_base.specs.Place.{Place}
 use Rattle.pm_base.specs.Geometry.{Direction, dot_of, norm2_of}
-use Rattle.pm_base.proofs.Squares.{root_le, abs_plus}
+use Rattle.pm_base.proofs.Squares.{abs_plus, sum_le}
 use Rattle.pm_base.proofs.Lengths.{dot_le}
 use Rattle.pm_base.proofs.Ring.{diff-of, diff_same, add-diff, mul-diff, neg-diff}
 use Rattle.pm_deviation.specs.declared.unit_box.UnitBox.{UnitBox}
@@ -17,14 +17,9 @@ use Rattle.pm_deviation.specs.Deviations.{way}
 use Rattle.pm_deviation.specs.Laws.{IsWithin}
 use Rattle.pm_deviation.proofs.Products.{IsScaledInBox, scaled_along}
 
--- a b is at most d e n, where a a is at most d d n and b b at most e e n
-products : (a b d e n : ℕ) → a * a ≤ d * d * n → b * b ≤ e * e * n
-    → (a * b) * (a * b) ≤ (d * e * n) * (d * e * n)
-products a b d e n p q = omega (arith, mul-le (a * a) (b * b) (d * d * n) (e * e * n) p q)
-
-sum_within : (a b d e n : ℕ) → a * a ≤ d * d * n → b * b ≤ e * e * n
+pub sum_within : (a b d e n : ℕ) → a * a ≤ d * d * n → b * b ≤ e * e * n
     → (a + b) * (a + b) ≤ (d + e) * (d + e) * n
-sum_within a b d e n p q = omega (arith, p, q, root_le (a * b) (d * e * n) (products a b d e n p q))
+sum_within a b d e n p q = omega (arith, sum_le a 0 0 b 0 0 d e n (omega arith) (omega arith))
 
 times_within : (k a d n : ℕ) → a * a ≤ d * d * n → (k * a) * (k * a) ≤ (k * d) * (k * d) * n
 times_within k a d n p = omega (arith, mul-le (k * k) (a * a) (k * k) (d * d * n) (omega arith) p)
@@ -136,9 +131,6 @@ ended v l e n t p q r =
     (subst (λ (z : ℕ). z ≤ l * unsigned_abs t) (unsigned_abs-mul (pos 16384) v)
     (subst (λ (z : ℕ). unsigned_abs (pos 16384 *ℤ v) ≤ z) (unsigned_abs-mul (pos l) t) p)) q) r
 
-from_lt : (a b : ℕ) → a < b → a ≤ b
-from_lt a b h = omega arith
-
 pub within_box : (normal move : Direction) (l n e : ℕ) (b : UnitBox) → IsScaledInBox normal l b
     → l * l ≤ n →
     unsigned_abs (along b move).low ≤ 16384 * e → unsigned_abs (along b move).high ≤ 16384 * e
@@ -149,7 +141,7 @@ within_box normal move l n e b i h p q =
     elim (cases_lt (unsigned_abs (pos l *ℤ s.low)) (unsigned_abs (pos l *ℤ s.high))) [
       | inl up ↦ ended (dot_of normal move) l e n s.high
           (abs_up (pos l *ℤ s.low) (pos 16384 *ℤ dot_of normal move) (pos l *ℤ s.high) scaled.low
-          scaled.high (from_lt _ _ up)) q h
+          scaled.high (le_of_lt up)) q h
       | inr down ↦
           ended (dot_of normal move) l e n s.low
           (abs_down (pos l *ℤ s.low) (pos 16384 *ℤ dot_of normal move) (pos l *ℤ s.high) scaled.low

@@ -9,7 +9,7 @@ use Rattle.std.proofs.Math.IntN.{*ℤ_comm}
 use borrow.Author.Differences.{ints}
 use Rattle.pm_base.specs.Geometry.{Direction, dot_of}
 use Rattle.pm_base.proofs.Ring.{diff-of, diff_same, add-diff, mul-diff, neg-diff, pos_is_diff}
-use Rattle.pm_bounds.proofs.ListLaws.{≤ℤ_by, min_left, min_right, max_left, max_right}
+use Rattle.pm_bounds.proofs.ListLaws.{same_z, ≤ℤ_by, min_left, min_right, max_left, max_right}
 use Rattle.pm_deviation.specs.declared.spread.Spread.{Spread}
 use Rattle.pm_deviation.specs.declared.unit_box.UnitBox.{UnitBox}
 use Rattle.pm_deviation.specs.Spreads.{times, along}
@@ -42,28 +42,28 @@ times_up k u v p q =
     together (k *ℤ u) (k *ℤ v)
     (subst (λ (z : ℤ). pos 0 ≤ℤ z) (times_minus k u v) (not_negative k (v -ℤ u) p (apart u v q)))
 
-times_down : (k u v : ℤ) → k ≤ℤ pos 0 → u ≤ℤ v → (k *ℤ v) ≤ℤ (k *ℤ u)
+pub times_down : (k u v : ℤ) → k ≤ℤ pos 0 → u ≤ℤ v → (k *ℤ v) ≤ℤ (k *ℤ u)
 times_down k u v p q =
     together (k *ℤ v) (k *ℤ u)
     (subst (λ (z : ℤ). pos 0 ≤ℤ z) (minus_times k u v)
     (not_negative (pos 0 -ℤ k) (v -ℤ u) (apart k (pos 0) p) (apart u v q)))
 
-least_one : (k u v y : ℤ) → u ≤ℤ y → y ≤ℤ v → int_min (k *ℤ u) (k *ℤ v) ≤ℤ (k *ℤ y)
+pub least_one : (k u v y : ℤ) → u ≤ℤ y → y ≤ℤ v → int_min (k *ℤ u) (k *ℤ v) ≤ℤ (k *ℤ y)
 least_one k u v y p q =
     grind (arith, common_steps, by_lt_z, min_left, min_right, times_down, times_up)
 
-greatest_one : (k u v y : ℤ) → u ≤ℤ y → y ≤ℤ v → (k *ℤ y) ≤ℤ int_max (k *ℤ u) (k *ℤ v)
+pub greatest_one : (k u v y : ℤ) → u ≤ℤ y → y ≤ℤ v → (k *ℤ y) ≤ℤ int_max (k *ℤ u) (k *ℤ v)
 greatest_one k u v y p q =
     grind (arith, common_steps, by_lt_z, max_left, max_right, times_down, times_up)
 
 -- a spread of numbers times m
-least_turned : (m a b x : ℤ) → a ≤ℤ x → x ≤ℤ b → int_min (a *ℤ m) (b *ℤ m) ≤ℤ (x *ℤ m)
+pub least_turned : (m a b x : ℤ) → a ≤ℤ x → x ≤ℤ b → int_min (a *ℤ m) (b *ℤ m) ≤ℤ (x *ℤ m)
 least_turned m a b x p q = rw (*ℤ_comm a m, *ℤ_comm b m, *ℤ_comm x m) (least_one m a b x p q)
 
-greatest_turned : (m a b x : ℤ) → a ≤ℤ x → x ≤ℤ b → (x *ℤ m) ≤ℤ int_max (a *ℤ m) (b *ℤ m)
+pub greatest_turned : (m a b x : ℤ) → a ≤ℤ x → x ≤ℤ b → (x *ℤ m) ≤ℤ int_max (a *ℤ m) (b *ℤ m)
 greatest_turned m a b x p q = rw (*ℤ_comm a m, *ℤ_comm b m, *ℤ_comm x m) (greatest_one m a b x p q)
 
-three_le : (a b c x y z : ℤ) → a ≤ℤ x → b ≤ℤ y → c ≤ℤ z → (a +ℤ b +ℤ c) ≤ℤ (x +ℤ y +ℤ z)
+pub three_le : (a b c x y z : ℤ) → a ≤ℤ x → b ≤ℤ y → c ≤ℤ z → (a +ℤ b +ℤ c) ≤ℤ (x +ℤ y +ℤ z)
 three_le a b c x y z p q r = omega (arith, ints)
 
 -- Products in parts of a length
@@ -76,25 +76,13 @@ turned l k m =
 three_times : (l a b c : ℤ) → l *ℤ (a +ℤ b +ℤ c) ≡ l *ℤ a +ℤ l *ℤ b +ℤ l *ℤ c
 three_times l a b c =
     rw (diff-of l, diff-of a, diff-of b, diff-of c)
-    (simp (add-diff, neg-diff, mul-diff) (diff_same _ _ _ _ (omega arith)))
+    (simp (add-diff, mul-diff) (diff_same _ _ _ _ (omega arith)))
 
-min_below : (x y z : ℤ) → x ≤ℤ y → x ≤ℤ z → x ≤ℤ int_min y z
+pub min_below : (x y z : ℤ) → x ≤ℤ y → x ≤ℤ z → x ≤ℤ int_min y z
 min_below x y z p q = omega (arith, ints, clamps)
 
-max_above : (x y z : ℤ) → y ≤ℤ x → z ≤ℤ x → int_max y z ≤ℤ x
+pub max_above : (x y z : ℤ) → y ≤ℤ x → z ≤ℤ x → int_max y z ≤ℤ x
 max_above x y z p q = omega (arith, ints, clamps)
-
-min_first : (x y : ℤ) → int_min x y ≤ℤ x
-min_first x y = omega (arith, ints, clamps)
-
-min_second : (x y : ℤ) → int_min x y ≤ℤ y
-min_second x y = omega (arith, ints, clamps)
-
-max_first : (x y : ℤ) → x ≤ℤ int_max x y
-max_first x y = omega (arith, ints, clamps)
-
-max_second : (x y : ℤ) → y ≤ℤ int_max x y
-max_second x y = omega (arith, ints, clamps)
 
 natural : (l : ℕ) → pos 0 ≤ℤ pos l
 natural l = omega (arith, ints)
@@ -110,18 +98,18 @@ least_times : (l : ℕ) (a b m : ℤ)
 least_times l a b m =
     min_below (pos l *ℤ int_min (a *ℤ m) (b *ℤ m)) ((pos l *ℤ a) *ℤ m) ((pos l *ℤ b) *ℤ m)
     (subst (λ (z : ℤ). (pos l *ℤ int_min (a *ℤ m) (b *ℤ m)) ≤ℤ z) (turned (pos l) a m)
-    (times_up (pos l) _ _ (natural l) (min_first (a *ℤ m) (b *ℤ m))))
+    (times_up (pos l) _ _ (natural l) (min_left _ _ _ (same_z (a *ℤ m)))))
     (subst (λ (z : ℤ). (pos l *ℤ int_min (a *ℤ m) (b *ℤ m)) ≤ℤ z) (turned (pos l) b m)
-    (times_up (pos l) _ _ (natural l) (min_second (a *ℤ m) (b *ℤ m))))
+    (times_up (pos l) _ _ (natural l) (min_right _ _ _ (same_z (b *ℤ m)))))
 
 greatest_times : (l : ℕ) (a b m : ℤ)
     → int_max ((pos l *ℤ a) *ℤ m) ((pos l *ℤ b) *ℤ m) ≤ℤ (pos l *ℤ int_max (a *ℤ m) (b *ℤ m))
 greatest_times l a b m =
     max_above (pos l *ℤ int_max (a *ℤ m) (b *ℤ m)) ((pos l *ℤ a) *ℤ m) ((pos l *ℤ b) *ℤ m)
     (subst (λ (z : ℤ). z ≤ℤ (pos l *ℤ int_max (a *ℤ m) (b *ℤ m))) (turned (pos l) a m)
-    (times_up (pos l) _ _ (natural l) (max_first (a *ℤ m) (b *ℤ m))))
+    (times_up (pos l) _ _ (natural l) (max_left _ _ _ (same_z (a *ℤ m)))))
     (subst (λ (z : ℤ). z ≤ℤ (pos l *ℤ int_max (a *ℤ m) (b *ℤ m))) (turned (pos l) b m)
-    (times_up (pos l) _ _ (natural l) (max_second (a *ℤ m) (b *ℤ m))))
+    (times_up (pos l) _ _ (natural l) (max_right _ _ _ (same_z (b *ℤ m)))))
 
 pub scaled_times : (n : ℤ) (l : ℕ) (s : Spread) (m : ℤ) → IsScaledIn n l s
     → IsScaledIn (n *ℤ m) l (times s m)
@@ -140,8 +128,8 @@ pub record IsScaledInBox (n : Direction) (l : ℕ) (b : UnitBox) : Type 0 where
   pub y : IsScaledIn n.y l b.y
   pub z : IsScaledIn n.z l b.z
 
-both_ways : (x x' y y' : ℤ) → x ≡ x' → y ≡ y' → x' ≤ℤ y' → x ≤ℤ y
-both_ways x x' y y' e f h = subst (λ (z : ℤ). z ≤ℤ y) (sym e) (subst (λ (z : ℤ). x' ≤ℤ z) (sym f) h)
+pub between : (x x' y y' : ℤ) → x ≡ x' → y ≡ y' → x' ≤ℤ y' → x ≤ℤ y
+between x x' y y' e f h = rw (e, f) h
 
 -- and then its product with a direction
 pub scaled_along : (n m : Direction) (l : ℕ) (b : UnitBox) → IsScaledInBox n l b
@@ -152,11 +140,11 @@ scaled_along n m l b i =
     let y = scaled_times n.y l b.y m.y i.y in
     let z = scaled_times n.z l b.z m.z i.z in
     record {
-      low = both_ways _ _ _ _
+      low = between _ _ _ _
           (three_times (pos l) (times b.x m.x).low (times b.y m.y).low (times b.z m.z).low)
           (three_times (pos 16384) (n.x *ℤ m.x) (n.y *ℤ m.y) (n.z *ℤ m.z))
           (three_le _ _ _ _ _ _ x.low y.low z.low);
-      high = both_ways _ _ _ _ (three_times (pos 16384) (n.x *ℤ m.x) (n.y *ℤ m.y) (n.z *ℤ m.z))
+      high = between _ _ _ _ (three_times (pos 16384) (n.x *ℤ m.x) (n.y *ℤ m.y) (n.z *ℤ m.z))
           (three_times (pos l) (times b.x m.x).high (times b.y m.y).high (times b.z m.z).high)
           (three_le _ _ _ _ _ _ x.high y.high z.high);
     }

@@ -1,59 +1,18 @@
 -- Spreads joined in any order, and any number of times, are one spread, and it has each of them in
 -- it.
-use Rattle.std.proofs.Common.{◌≡◌, ℕ, zero, suc, ◌<◌, ◌≤◌, Bool, true, ◌||◌, List, [], ◌∷◌, ◌++◌}
-use Rattle.std.proofs.lemmas.Grind.{common_steps}
+use Rattle.std.proofs.Common.{◌≡◌, ℕ, zero, suc, ◌<◌, Bool, true, ◌||◌, List, [], ◌∷◌, ◌++◌}
 use Rattle.std.proofs.Common.{length, get_or, map, Option, None, Some, IfSome, inl, inr, refl, sym}
 use Rattle.std.proofs.Common.{ap, ◌∙◌, arith}
-use Rattle.std.specs.Prelude.{ℤ, ◌≤ℤ◌, unsigned_abs}
-use Rattle.std.specs.Int.{int_min, int_max}
+use Rattle.std.proofs.lemmas.Grind.{common_steps}
+use Rattle.std.specs.Prelude.{◌≤ℤ◌}
 use Rattle.std.specs.List.{filter}
-use Rattle.std.proofs.lemmas.Int.{clamps}
 use Rattle.std.proofs.lemmas.Bool.{cases_Bool}
-use borrow.Author.Differences.{ints}
-use Rattle.pm_bounds.proofs.ListLaws.{same_z, ≤ℤ_by}
+use Rattle.pm_bounds.proofs.BoxLaws.{min_comm, max_comm, min_assoc, max_assoc, min_same, max_same}
+use Rattle.pm_bounds.proofs.BoxLaws.{min_small, max_small}
+use Rattle.pm_bounds.proofs.ListLaws.{min_left, min_right, max_left, max_right, same_z, ≤ℤ_by}
 use Rattle.pm_deviation.specs.declared.spread.Spread.{Spread}
 use Rattle.pm_deviation.specs.Spreads.{joined, join, joined_all}
 use Rattle.pm_deviation.specs.Tables.{IsSpreadWithin}
-
--- one number
-
-min_comm : (x y : ℤ) → int_min x y ≡ int_min y x
-min_comm x y = omega (arith, ints, clamps)
-
-max_comm : (x y : ℤ) → int_max x y ≡ int_max y x
-max_comm x y = omega (arith, ints, clamps)
-
-min_assoc : (x y z : ℤ) → int_min (int_min x y) z ≡ int_min x (int_min y z)
-min_assoc x y z = omega (arith, ints, clamps)
-
-max_assoc : (x y z : ℤ) → int_max (int_max x y) z ≡ int_max x (int_max y z)
-max_assoc x y z = omega (arith, ints, clamps)
-
-min_same : (x : ℤ) → int_min x x ≡ x
-min_same x = omega (arith, ints, clamps)
-
-max_same : (x : ℤ) → int_max x x ≡ x
-max_same x = omega (arith, ints, clamps)
-
-min_below_left : (x y : ℤ) → int_min x y ≤ℤ x
-min_below_left x y = omega (arith, ints, clamps)
-
-min_below_right : (x y : ℤ) → int_min x y ≤ℤ y
-min_below_right x y = omega (arith, ints, clamps)
-
-max_above_left : (x y : ℤ) → x ≤ℤ int_max x y
-max_above_left x y = omega (arith, ints, clamps)
-
-max_above_right : (x y : ℤ) → y ≤ℤ int_max x y
-max_above_right x y = omega (arith, ints, clamps)
-
-pub min_small : (x y : ℤ) (m : ℕ) → unsigned_abs x ≤ m → unsigned_abs y ≤ m
-    → unsigned_abs (int_min x y) ≤ m
-min_small x y m p q = omega (arith, ints, clamps)
-
-pub max_small : (x y : ℤ) (m : ℕ) → unsigned_abs x ≤ m → unsigned_abs y ≤ m
-    → unsigned_abs (int_max x y) ≤ m
-max_small x y m p q = omega (arith, ints, clamps)
 
 -- Spread a has spread b in it.
 abbrev pub IsOver : Spread → Spread → Type 0
@@ -66,10 +25,10 @@ pub over_by : (a b c : Spread) → IsOver a b → IsOver b c → IsOver a c
 over_by a b c p q = (≤ℤ_by a.low b.low c.low p.0 q.0, ≤ℤ_by c.high b.high a.high q.1 p.1)
 
 pub over_left : (a b : Spread) → IsOver (joined a b) a
-over_left a b = (min_below_left a.low b.low, max_above_left a.high b.high)
+over_left a b = (min_left _ _ _ (same_z a.low), max_left _ _ _ (same_z a.high))
 
 pub over_right : (a b : Spread) → IsOver (joined a b) b
-over_right a b = (min_below_right a.low b.low, max_above_right a.high b.high)
+over_right a b = (min_right _ _ _ (same_z b.low), max_right _ _ _ (same_z b.high))
 
 -- two spreads
 

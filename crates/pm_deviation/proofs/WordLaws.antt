@@ -1,19 +1,14 @@
 -- Signed numbers that the code passes on, which goals show as bits that are read back.
-use Rattle.std.proofs.Common.{◌≡◌, ℕ, ◌<◌, ◌≤◌, ◌*◌, ◌^◌, FitsSigned, to_z, of_z, arith}
+use Rattle.std.proofs.Common.{◌≡◌, ℕ, ◌≤◌, ◌*◌, ◌^◌, FitsSigned, to_z, of_z, arith}
 use mir.Syntax.{Width}
-use mir.Val.{hbits}
 use Rattle.std.specs.Prelude.{ℤ, pos, neg_ℤ, ◌+ℤ◌, ◌-ℤ◌, unsigned_abs}
-use Rattle.std.proofs.lemmas.Int.{to_z-of_z, fits_signed_from_abs}
+use Rattle.std.proofs.lemmas.Int.{to_z-of_z}
 use borrow.Author.Differences.{ints}
 use Rattle.pm_base.proofs.Squares.{abs_plus}
 
 pub passed_small : (w : Width) (z v : ℤ) (m : ℕ) → FitsSigned w z → z ≡ v → unsigned_abs v ≤ m
     → unsigned_abs (to_z w (of_z w z)) ≤ m
 passed_small w z v m f e s = simp to_z-of_z (rw e s)
-
-pub fits_within : (w : Width) (z : ℤ) (m : ℕ) → unsigned_abs z ≤ m → m < 2 ^ hbits w
-    → FitsSigned w z
-fits_within w z m p q = fits_signed_from_abs w z (omega arith)
 
 pub two_small : (a b : ℤ) → unsigned_abs a ≤ 2 ^ 32 → unsigned_abs b ≤ 2 ^ 32
     → unsigned_abs (a +ℤ b) ≤ 2 ^ 33

@@ -1,6 +1,7 @@
 use Rattle.std.proofs.Common.{refl, pos, ◌-ℤ◌, FitsSigned, w32, lit<, rules}
 use Rattle.std.proofs.lemmas.Int.{to_z-of_z}
-use Rattle.pm_deviation.proofs.WordLaws.{fits_within, zero_minus, minus_small}
+use Rattle.pm_base.proofs.ReadBack.{fits_small}
+use Rattle.pm_deviation.proofs.WordLaws.{zero_minus, minus_small}
 use Rattle.pm_deviation.proofs.cosines.least_cosine.Goals as goal
 
 pub above_zero-requires : goal.above_zero-requires
@@ -13,7 +14,7 @@ overflow_sub-spread c =
     let high = c.args.spread.high in
     let f : FitsSigned w32 high = search rules in
     let small = minus_small high 49152 c.requires.small.1 in
-    simp to_z-of_z (fits_within w32 (pos 0 -ℤ high) 49152 small (lit< tt))
+    simp to_z-of_z (fits_small w32 (pos 0 -ℤ high) 49152 small (lit< tt))
 
 pub above_zero-requires-2 : goal.above_zero-requires-2
 above_zero-requires-2 c =
@@ -21,7 +22,7 @@ above_zero-requires-2 c =
     let f : FitsSigned w32 high = search rules in
     let small = minus_small high 49152 c.requires.small.1 in
     let g : FitsSigned w32 (pos 0 -ℤ high) =
-    fits_within w32 (pos 0 -ℤ high) 49152 small (lit< tt) in
+    fits_small w32 (pos 0 -ℤ high) 49152 small (lit< tt) in
     simp to_z-of_z small
 
 pub length-requires : goal.length-requires
@@ -37,7 +38,7 @@ returns c =
     let fh : FitsSigned w32 high = search rules in
     let small = minus_small high 49152 c.requires.small.1 in
     let fm : FitsSigned w32 (pos 0 -ℤ high) =
-    fits_within w32 (pos 0 -ℤ high) 49152 small (lit< tt) in
+    fits_small w32 (pos 0 -ℤ high) 49152 small (lit< tt) in
     let low_side = simp to_z-of_z at c.above_zero.ensures.value in
     let high_side = simp to_z-of_z at c.above_zero-2.ensures.value in
     rw (c.max-side.ensures, low_side, high_side, zero_minus, c.length.ensures.value) refl

@@ -1,7 +1,7 @@
 use Rattle.std.proofs.Common.{◌-ℤ◌, FitsSigned, w64, lit<, rules}
 use Rattle.std.proofs.lemmas.Int.{to_z-of_z}
 use Rattle.pm_base.proofs.Range.{above_small}
-use Rattle.pm_deviation.proofs.WordLaws.{fits_within}
+use Rattle.pm_base.proofs.ReadBack.{fits_small}
 use Rattle.pm_deviation.proofs.steps.above.Goals as goal
 
 pub overflow_sub-result : goal.overflow_sub-result
@@ -13,7 +13,7 @@ overflow_sub-result c =
     let x = simp to_z-of_z at c.from.ensures in
     let y = simp to_z-of_z at c.from-2.ensures in
     let small = above_small c.args.x c.args.y c.requires.x_small c.requires.y_small in
-    simp to_z-of_z (rw (x, y) (fits_within w64 (c.args.x -ℤ c.args.y) 65534 small (lit< tt)))
+    simp to_z-of_z (rw (x, y) (fits_small w64 (c.args.x -ℤ c.args.y) 65534 small (lit< tt)))
 
 pub returns-clause-value : goal.returns-clause-value
 returns-clause-value c =
@@ -25,7 +25,7 @@ returns-clause-value c =
     let y = simp to_z-of_z at c.from-2.ensures in
     let small = above_small c.args.x c.args.y c.requires.x_small c.requires.y_small in
     let f : FitsSigned w64 (c.args.x -ℤ c.args.y) =
-    fits_within w64 (c.args.x -ℤ c.args.y) 65534 small (lit< tt) in
+    fits_small w64 (c.args.x -ℤ c.args.y) 65534 small (lit< tt) in
     simp to_z-of_z (rw (x, y) (simp to_z-of_z))
 
 pub returns-clause-small : goal.returns-clause-small
@@ -38,5 +38,5 @@ returns-clause-small c =
     let y = simp to_z-of_z at c.from-2.ensures in
     let small = above_small c.args.x c.args.y c.requires.x_small c.requires.y_small in
     let f : FitsSigned w64 (c.args.x -ℤ c.args.y) =
-    fits_within w64 (c.args.x -ℤ c.args.y) 65534 small (lit< tt) in
+    fits_small w64 (c.args.x -ℤ c.args.y) 65534 small (lit< tt) in
     simp to_z-of_z (rw (x, y) (simp to_z-of_z small))

@@ -1,6 +1,6 @@
 use Rattle.std.proofs.Common.{◌^◌, w32, w64, FitsSigned, rules}
 use Rattle.std.proofs.lemmas.Int.{to_z-of_z}
-use Rattle.pm_deviation.proofs.SpreadLaws.{min_small, max_small}
+use Rattle.pm_bounds.proofs.BoxLaws.{min_small, max_small}
 use Rattle.pm_deviation.proofs.unit_box.times.Goals as goal
 
 pub product-first-requires-clause-a_small : goal.product-first-requires-clause-a_small
