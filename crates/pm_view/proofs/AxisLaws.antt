@@ -1,13 +1,12 @@
 -- The least and the greatest product on an axis, and sums of three, in words of any width.
-use Rattle.std.proofs.Common.{◌≡◌, ℕ, ◌*◌, ◌^◌, ◌<◌, ◌≤◌, w32, w64, FitsSigned, to_z, of_z}
-use Rattle.std.proofs.Common.{refl, ◌∙◌, subst, arith, lit<, lit≤}
+use Rattle.std.proofs.Common.{◌≡◌, ℕ, ◌*◌, ◌^◌, ◌<◌, ◌≤◌, w32, w64, FitsSigned, to_z, of_z, refl}
+use Rattle.std.proofs.Common.{◌∙◌, subst, arith, lit<, lit≤}
 use Rattle.std.proofs.Math.Nat.{le_trans}
 use mir.Syntax.{Width}
 use mir.Val.{hbits}
 use borrow.Author.Differences.{ints}
 use Rattle.std.specs.Prelude.{ℤ, pos, ◌+ℤ◌, ◌-ℤ◌, ◌*ℤ◌, unsigned_abs}
-use Rattle.std.specs.Int.{int_min, int_max}
-use Rattle.std.proofs.lemmas.Int.{to_z-of_z, clamps}
+use Rattle.std.proofs.lemmas.Int.{to_z-of_z}
 use Rattle.pm_base.specs.Place.{Place, IsPlace}
 use Rattle.pm_base.proofs.ReadBack.{Computes, computes, computed_small, read_is, read_small}
 use Rattle.pm_base.proofs.ReadBack.{equal_small}
@@ -162,12 +161,6 @@ gives w z v m h = record { value = h.value; small = computed_small w z v m h }
 abbrev pub Chooses : (ℤ → ℤ → ℤ) → Type 0
 Chooses choose =
     (x y : ℤ) (m : ℕ) → unsigned_abs x ≤ m → unsigned_abs y ≤ m → unsigned_abs (choose x y) ≤ m
-
-pub min_chooses : Chooses int_min
-min_chooses x y m p q = omega (arith, ints, clamps)
-
-pub max_chooses : Chooses int_max
-max_chooses x y m p q = omega (arith, ints, clamps)
 
 chosen : (w : Width) (m : ℕ) → m < 2 ^ hbits w → (choose : ℤ → ℤ → ℤ) → Chooses choose
     → (r x y a b : ℤ) → r ≡ choose (read w x) (read w y) → Computes w x a m → Computes w y b m

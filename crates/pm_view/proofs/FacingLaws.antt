@@ -1,64 +1,22 @@
 -- The least product of a box is at most every product in it.
-use Rattle.std.proofs.Common.{◌≡◌, ℕ, ◌+◌, ◌*◌, ◌≤◌, subst, arith}
+use Rattle.std.proofs.Common.{ℕ, ◌+◌, ◌*◌, ◌≤◌, arith}
 use Rattle.std.proofs.lemmas.Grind.{common_steps}
-use Rattle.std.specs.Prelude.{ℤ, pos, negsuc, ◌+ℤ◌, ◌-ℤ◌, ◌*ℤ◌, ◌≤ℤ◌, unsigned_abs}
+use Rattle.std.specs.Prelude.{ℤ, pos, ◌+ℤ◌, ◌-ℤ◌, ◌*ℤ◌, ◌≤ℤ◌, unsigned_abs}
 use Rattle.std.specs.Int.{int_min}
-use Rattle.std.proofs.lemmas.Int.{clamps, by_lt_z}
-use Rattle.std.proofs.Math.IntN.{*ℤ_comm}
+use Rattle.std.proofs.lemmas.Int.{clamps}
 use borrow.Author.Differences.{ints}
 use Rattle.pm_base.specs.Place.{Place}
 use Rattle.pm_base.specs.Geometry.{Direction, dot_of, dist2_of}
-use Rattle.pm_base.proofs.Ring.{diff-of, diff_same, add-diff, mul-diff, neg-diff, pos_is_diff}
 use Rattle.pm_base.proofs.Squares.{root_le}
-use Rattle.pm_bounds.proofs.ListLaws.{min_left, min_right, ≤ℤ_by}
+use Rattle.pm_bounds.proofs.ListLaws.{≤ℤ_by}
+use Rattle.pm_deviation.proofs.Products.{least_one, least_turned, min_below, three_le}
 use Rattle.pm_view.specs.Wanted.{Bounded, least_product, least_facing}
 use Rattle.pm_view.specs.Laws.{way}
 use Rattle.pm_view.proofs.Premises.{IsChild, IsCorner, least_on_axis}
 
--- products and order
-not_negative : (a b : ℤ) → pos 0 ≤ℤ a → pos 0 ≤ℤ b → pos 0 ≤ℤ (a *ℤ b)
-not_negative (pos a) (pos b) p q = omega (arith, ints)
-not_negative (pos a) (negsuc b) p q = absurd (omega (arith, ints))
-not_negative (negsuc a) b p q = absurd (omega (arith, ints))
-
-times_minus : (k u v : ℤ) → k *ℤ (v -ℤ u) ≡ k *ℤ v -ℤ k *ℤ u
-times_minus k u v =
-    rw (diff-of k, diff-of u, diff-of v)
-    (simp (add-diff, neg-diff, mul-diff) (diff_same _ _ _ _ (omega arith)))
-
-minus_times : (k u v : ℤ) → (pos 0 -ℤ k) *ℤ (v -ℤ u) ≡ k *ℤ u -ℤ k *ℤ v
-minus_times k u v =
-    rw (diff-of k, diff-of u, diff-of v, pos_is_diff 0)
-    (simp (add-diff, neg-diff, mul-diff) (diff_same _ _ _ _ (omega arith)))
-
-apart : (u v : ℤ) → u ≤ℤ v → pos 0 ≤ℤ (v -ℤ u)
-apart u v h = omega (arith, ints)
-
-joined : (u v : ℤ) → pos 0 ≤ℤ (v -ℤ u) → u ≤ℤ v
-joined u v h = omega (arith, ints)
-
-pub times_up : (k u v : ℤ) → pos 0 ≤ℤ k → u ≤ℤ v → (k *ℤ u) ≤ℤ (k *ℤ v)
-times_up k u v p q =
-    joined (k *ℤ u) (k *ℤ v)
-    (subst (λ (z : ℤ). pos 0 ≤ℤ z) (times_minus k u v) (not_negative k (v -ℤ u) p (apart u v q)))
-
-pub times_down : (k u v : ℤ) → k ≤ℤ pos 0 → u ≤ℤ v → (k *ℤ v) ≤ℤ (k *ℤ u)
-times_down k u v p q =
-    joined (k *ℤ v) (k *ℤ u)
-    (subst (λ (z : ℤ). pos 0 ≤ℤ z) (minus_times k u v)
-    (not_negative (pos 0 -ℤ k) (v -ℤ u) (apart k (pos 0) p) (apart u v q)))
-
--- one factor in an interval: the product is above that with one of the ends
-least_one : (k u v y : ℤ) → u ≤ℤ y → y ≤ℤ v → int_min (k *ℤ u) (k *ℤ v) ≤ℤ (k *ℤ y)
-least_one k u v y p q =
-    grind (arith, common_steps, by_lt_z, min_left, min_right, times_down, times_up)
-
 min_both : (a b c d x y : ℤ) → int_min a c ≤ℤ x → int_min b d ≤ℤ y
     → int_min (int_min a b) (int_min c d) ≤ℤ int_min x y
 min_both a b c d x y p q = omega (arith, ints, clamps)
-
-least_turned : (c a b x : ℤ) → a ≤ℤ x → x ≤ℤ b → int_min (a *ℤ c) (b *ℤ c) ≤ℤ (x *ℤ c)
-least_turned c a b x p q = rw (*ℤ_comm a c, *ℤ_comm b c, *ℤ_comm x c) (least_one c a b x p q)
 
 pub least_product_le : (a b c d x y : ℤ) → a ≤ℤ x → x ≤ℤ b → c ≤ℤ y → y ≤ℤ d
     → least_product a b c d ≤ℤ (x *ℤ y)
@@ -69,9 +27,6 @@ least_product_le a b c d x y p q r s =
     (least_one x c d y r s)
 
 -- a smaller box has no smaller product
-min_of : (z x y : ℤ) → z ≤ℤ x → z ≤ℤ y → z ≤ℤ int_min x y
-min_of z x y p q = omega (arith, ints, clamps)
-
 pub least_product_grows : (a b c d a' b' c' d' : ℤ) → a ≤ℤ a' → a' ≤ℤ b' → b' ≤ℤ b → c ≤ℤ c'
     → c' ≤ℤ d' → d' ≤ℤ d → least_product a b c d ≤ℤ least_product a' b' c' d'
 least_product_grows a b c d a' b' c' d' p q r s t u =
@@ -79,10 +34,11 @@ least_product_grows a b c d a' b' c' d' p q r s t u =
     let al = ≤ℤ_by a a' b' p q in
     let dl = ≤ℤ_by c' d' d t u in
     let cl = ≤ℤ_by c c' d' s t in
-    min_of (least_product a b c d) (int_min (a' *ℤ c') (a' *ℤ d')) (int_min (b' *ℤ c') (b' *ℤ d'))
-    (min_of (least_product a b c d) (a' *ℤ c') (a' *ℤ d') (least_product_le a b c d a' c' p bl s dl)
+    let all = least_product a b c d in
+    min_below all (int_min (a' *ℤ c') (a' *ℤ d')) (int_min (b' *ℤ c') (b' *ℤ d'))
+    (min_below all (a' *ℤ c') (a' *ℤ d') (least_product_le a b c d a' c' p bl s dl)
     (least_product_le a b c d a' d' p bl cl u))
-    (min_of (least_product a b c d) (b' *ℤ c') (b' *ℤ d') (least_product_le a b c d b' c' al r s dl)
+    (min_below all (b' *ℤ c') (b' *ℤ d') (least_product_le a b c d b' c' al r s dl)
     (least_product_le a b c d b' d' al r cl u))
 
 -- each axis of a way is at most as long as the way
@@ -112,9 +68,6 @@ axis_grows : (a b a' b' p q e : ℤ) (d s r : ℕ) → a ≤ℤ a' → a' ≤ℤ
 axis_grows a b a' b' p q e d s r u v w h l =
     least_product_grows a b (p -ℤ pos r -ℤ e) (p +ℤ pos r -ℤ e) a' b' (q -ℤ pos s -ℤ e)
     (q +ℤ pos s -ℤ e) u v w (lower p q e d s r h l) (middle q e s) (upper p q e d s r h l)
-
-pub three_le : (a b c x y z : ℤ) → a ≤ℤ x → b ≤ℤ y → c ≤ℤ z → (a +ℤ b +ℤ c) ≤ℤ (x +ℤ y +ℤ z)
-three_le a b c x y z p q r = omega (arith, ints)
 
 pub facing_child : (child parent : Bounded) (eye : Place) → IsChild child parent
     → least_facing parent eye ≤ℤ least_facing child eye

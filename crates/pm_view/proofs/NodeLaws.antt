@@ -1,9 +1,8 @@
 -- The laws of wanted nodes, from the bounds that a hierarchy's nodes have.
-use Rattle.std.proofs.Common.{◌≡◌, ℕ, ◌*◌, ◌<◌, true, false, ◌&&◌, not, ◌⊎◌, inl, inr, subst}
+use Rattle.std.proofs.Common.{◌≡◌, ℕ, ◌*◌, ◌<◌, true, false, ◌&&◌, not, ◌⊎◌, inl, inr, subst, arith}
 use Rattle.std.proofs.lemmas.Grind.{common_steps}
-use Rattle.std.proofs.Common.{arith}
 use Rattle.std.specs.Prelude.{◌≤◌, pos, int_le, unsigned_abs}
-use Rattle.std.proofs.Math.Nat.{le_refl}
+use Rattle.std.proofs.Math.Nat.{le_refl, le_trans}
 use Rattle.std.proofs.lemmas.Nat.{mul-le}
 use Rattle.pm_base.specs.Geometry.{dist2_of, norm2_of, square_of}
 use Rattle.pm_base.specs.Rounded.{distance_of}
@@ -30,7 +29,7 @@ use Rattle.pm_view.specs.Wanted.{is_wanted}
 use Rattle.pm_view.specs.Laws.{IsCornerNear, IsBehind, IsTurnedAway, IsWithinTolerance}
 use Rattle.pm_view.specs.Laws.{IsNearPlanes, IsWithin, IsTiny}
 use Rattle.pm_view.proofs.Premises.{IsChild, IsCorner, LooksWithin}
-use Rattle.pm_view.proofs.Passing.{le_by, focal_times, wanted_passes, reasons, plain}
+use Rattle.pm_view.proofs.Passing.{focal_times, wanted_passes, reasons, plain}
 
 -- where m m is at most d d n, and what d looks like is at most b, what m looks like is at most b n
 value_fits : (f m d n b : ℕ) → m * m ≤ d * d * n → (d * f) * (d * f) ≤ b → f * f * (m * m) ≤ b * n
@@ -80,7 +79,7 @@ module _ (h : Hierarchy) (shape : HasShape h) where
   leaves_within : (v : ℕ) → v < node_count h → (view : View) (tol : ℕ)
       → ((e : ℕ) → fits v e (error_of h v) view tol) → IsWithinTolerance h view tol v
   leaves_within v l view tol fine x s held c =
-      le_by _ _ _ (focal_times view.focal (dist2_of (place_of_node h v) (leaf_place h x))
+      le_trans (focal_times view.focal (dist2_of (place_of_node h v) (leaf_place h x))
       (error_of h v) (leaves_covered h shape v x l held)) (fine s c)
 
   -- the plane of a face that has a corner under the node

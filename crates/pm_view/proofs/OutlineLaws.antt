@@ -3,29 +3,20 @@ use Rattle.std.proofs.Common.{ℕ, ◌+◌, ◌≤◌, arith}
 use Rattle.std.proofs.lemmas.Grind.{common_steps}
 use Rattle.std.specs.Prelude.{ℤ, pos, ◌+ℤ◌, ◌-ℤ◌, ◌*ℤ◌, ◌≤ℤ◌, unsigned_abs}
 use Rattle.std.specs.Int.{int_max}
-use Rattle.std.proofs.lemmas.Int.{clamps, by_lt_z}
-use Rattle.std.proofs.Math.IntN.{*ℤ_comm}
+use Rattle.std.proofs.lemmas.Int.{clamps}
 use borrow.Author.Differences.{ints}
 use Rattle.pm_base.specs.Place.{Place}
 use Rattle.pm_base.specs.Geometry.{Direction, dot_of}
-use Rattle.pm_bounds.proofs.ListLaws.{max_left, max_right, ≤ℤ_by}
+use Rattle.pm_bounds.proofs.ListLaws.{≤ℤ_by}
+use Rattle.pm_deviation.proofs.Products.{greatest_one, greatest_turned, max_above, three_le}
 use Rattle.pm_view.specs.Wanted.{Bounded, greatest_product, greatest_facing}
 use Rattle.pm_view.specs.Laws.{way}
 use Rattle.pm_view.proofs.Premises.{IsChild, IsCorner, greatest_on_axis}
-use Rattle.pm_view.proofs.FacingLaws.{times_up, times_down, axes_near, lower, upper, middle}
-use Rattle.pm_view.proofs.FacingLaws.{three_le, lower_end, upper_end}
-
--- one factor in an interval: the product is below that with one of the ends
-greatest_one : (k u v y : ℤ) → u ≤ℤ y → y ≤ℤ v → (k *ℤ y) ≤ℤ int_max (k *ℤ u) (k *ℤ v)
-greatest_one k u v y p q =
-    grind (arith, common_steps, by_lt_z, max_left, max_right, times_down, times_up)
+use Rattle.pm_view.proofs.FacingLaws.{axes_near, lower, upper, middle, lower_end, upper_end}
 
 max_both : (a b c d x y : ℤ) → x ≤ℤ int_max a c → y ≤ℤ int_max b d
     → int_max x y ≤ℤ int_max (int_max a b) (int_max c d)
 max_both a b c d x y p q = omega (arith, ints, clamps)
-
-greatest_turned : (c a b x : ℤ) → a ≤ℤ x → x ≤ℤ b → (x *ℤ c) ≤ℤ int_max (a *ℤ c) (b *ℤ c)
-greatest_turned c a b x p q = rw (*ℤ_comm a c, *ℤ_comm b c, *ℤ_comm x c) (greatest_one c a b x p q)
 
 pub greatest_product_ge : (a b c d x y : ℤ) → a ≤ℤ x → x ≤ℤ b → c ≤ℤ y → y ≤ℤ d
     → (x *ℤ y) ≤ℤ greatest_product a b c d
@@ -36,9 +27,6 @@ greatest_product_ge a b c d x y p q r s =
     (greatest_turned d a b x p q))
 
 -- a smaller box has no greater product
-max_of : (z x y : ℤ) → x ≤ℤ z → y ≤ℤ z → int_max x y ≤ℤ z
-max_of z x y p q = omega (arith, ints, clamps)
-
 pub greatest_product_grows : (a b c d a' b' c' d' : ℤ) → a ≤ℤ a' → a' ≤ℤ b' → b' ≤ℤ b → c ≤ℤ c'
     → c' ≤ℤ d' → d' ≤ℤ d → greatest_product a' b' c' d' ≤ℤ greatest_product a b c d
 greatest_product_grows a b c d a' b' c' d' p q r s t u =
@@ -46,12 +34,12 @@ greatest_product_grows a b c d a' b' c' d' p q r s t u =
     let al = ≤ℤ_by a a' b' p q in
     let dl = ≤ℤ_by c' d' d t u in
     let cl = ≤ℤ_by c c' d' s t in
-    max_of (greatest_product a b c d) (int_max (a' *ℤ c') (a' *ℤ d'))
-    (int_max (b' *ℤ c') (b' *ℤ d'))
-    (max_of (greatest_product a b c d) (a' *ℤ c') (a' *ℤ d')
-    (greatest_product_ge a b c d a' c' p bl s dl) (greatest_product_ge a b c d a' d' p bl cl u))
-    (max_of (greatest_product a b c d) (b' *ℤ c') (b' *ℤ d')
-    (greatest_product_ge a b c d b' c' al r s dl) (greatest_product_ge a b c d b' d' al r cl u))
+    let all = greatest_product a b c d in
+    max_above all (int_max (a' *ℤ c') (a' *ℤ d')) (int_max (b' *ℤ c') (b' *ℤ d'))
+    (max_above all (a' *ℤ c') (a' *ℤ d') (greatest_product_ge a b c d a' c' p bl s dl)
+    (greatest_product_ge a b c d a' d' p bl cl u))
+    (max_above all (b' *ℤ c') (b' *ℤ d') (greatest_product_ge a b c d b' c' al r s dl)
+    (greatest_product_ge a b c d b' d' al r cl u))
 
 axis_grows : (a b a' b' p q e : ℤ) (d s r : ℕ) → a ≤ℤ a' → a' ≤ℤ b' → b' ≤ℤ b
     → unsigned_abs (p -ℤ q) ≤ d → s + d ≤ r

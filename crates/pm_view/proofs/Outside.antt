@@ -9,24 +9,20 @@ use borrow.Author.Differences.{ints}
 use Rattle.pm_base.specs.Place.{Place}
 use Rattle.pm_base.specs.Geometry.{Direction, dot_of, dist2_of, norm2_of}
 use Rattle.pm_base.proofs.Ring.{diff-of, diff_same, add-diff, mul-diff, neg-diff}
-use Rattle.pm_base.proofs.Squares.{sum_le}
 use Rattle.pm_base.proofs.Lengths.{dot_le}
+use Rattle.pm_deviation.proofs.PlaneValues.{sum_within}
 use Rattle.pm_view.specs.declared.plane.Plane.{Plane}
 use Rattle.pm_view.specs.Wanted.{value_at, normal_in}
 use Rattle.pm_view.specs.Laws.{way}
 
 -- (A - K)(A - K) is above r r N, where A A is above (r + d)(r + d) N and K K is at most d d N
-left_over : (e k r d n : ℕ) → e * e ≤ r * r * n → k * k ≤ d * d * n
-    → (e + k) * (e + k) ≤ (r + d) * (r + d) * n
-left_over e k r d n p q = omega (arith, sum_le e 0 0 k 0 0 r d n (omega arith) (omega arith))
-
 below : (a k r d n : ℕ) → (r + d) * (r + d) * n < a * a → k * k ≤ d * d * n → k < a
 below a k r d n p q =
     elim (cases_lt k a) [ inl l ↦ l | inr l ↦ absurd (omega (arith, mul-le a a k k l l)) ]
 
 above : (a k r d n : ℕ) → (r + d) * (r + d) * n < a * a → k * k ≤ d * d * n → k < a
     → r * r * n < (a - k) * (a - k)
-above a k r d n p q l = grind (arith, common_steps, left_over)
+above a k r d n p q l = grind (arith, common_steps, sum_within)
 
 pub shrinks : (a k r d n : ℕ) → (r + d) * (r + d) * n < a * a → k * k ≤ d * d * n
     → (k < a) × (r * r * n < (a - k) * (a - k))

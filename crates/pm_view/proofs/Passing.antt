@@ -1,23 +1,22 @@
 -- The tests pass from a child to its parent, and each test that fails says why.
 use Rattle.std.proofs.Common.{◌≡◌, ℕ, ◌+◌, ◌*◌, ◌<◌, ◌≤◌, true, false, ◌&&◌, ◌||◌, Bool, not, List}
-use Rattle.std.proofs.lemmas.Grind.{common_steps}
 use Rattle.std.proofs.Common.{[], ◌∷◌, ◌⊎◌, inl, inr, refl, suc, sym, ap, ◌∙◌, arith}
-use Rattle.std.proofs.Math.Nat.{le_refl}
+use Rattle.std.proofs.lemmas.Grind.{common_steps}
+use Rattle.std.proofs.Math.Nat.{le_refl, lt_of_lt_of_le}
 use Rattle.std.specs.Prelude.{ℤ, pos, ◌≤ℤ◌, ◌<ℤ◌, int_lt, int_le}
 use Rattle.std.proofs.lemmas.Nat.{mul-le}
 use Rattle.std.proofs.lemmas.Bool.{cases_lt, and_parts, and_from, and_cases, or_cases, or_parts}
-use Rattle.std.proofs.lemmas.Bool.{or_left, or_right, not-true, not-false, not_from_false}
-use Rattle.std.proofs.lemmas.Bool.{lt-ltb, ltb-true, ltb-false}
-use Rattle.std.proofs.lemmas.Bool.{false≢true}
+use Rattle.std.proofs.lemmas.Bool.{or_left, or_right, not-true, not-false, not_from_false, lt-ltb}
+use Rattle.std.proofs.lemmas.Bool.{ltb-true, ltb-false, false≢true}
 use Rattle.pm_base.specs.Place.{Place}
 use Rattle.pm_base.specs.Geometry.{Direction, dot_of, dist2_of}
 use Rattle.pm_view.specs.declared.measure.Measure.{Measure}
 use Rattle.pm_view.specs.declared.measure.Measure.TheVariants as measures
 use Rattle.pm_view.specs.declared.plane.Plane.{Plane}
 use Rattle.pm_view.specs.Views.{View}
-use Rattle.pm_view.specs.Wanted.{Bounded, value_at, is_outside, is_outside_any}
-use Rattle.pm_view.specs.Wanted.{least_facing, greatest_facing, may_turn_away, size_of}
-use Rattle.pm_view.specs.Wanted.{looks_larger, looks_large, is_large, passes}
+use Rattle.pm_view.specs.Wanted.{Bounded, value_at, is_outside, is_outside_any, least_facing}
+use Rattle.pm_view.specs.Wanted.{greatest_facing, may_turn_away, size_of, looks_larger, looks_large}
+use Rattle.pm_view.specs.Wanted.{is_large, passes}
 use Rattle.pm_view.specs.Laws.{way}
 use Rattle.pm_view.proofs.Premises.{IsChild, IsCorner, IsBehindOne, FacesAway, FacesTo, LooksWithin}
 use Rattle.pm_view.proofs.Premises.{LooksTiny}
@@ -104,12 +103,6 @@ facing_passes s b eye h e =
     (at_most (least_facing s eye) (pos 0) e))
 
 -- size
-lt_by : (a b c : ℕ) → a < b → b ≤ c → a < c
-lt_by a b c p q = omega arith
-
-pub le_by : (a b c : ℕ) → a ≤ b → b ≤ c → a ≤ c
-le_by a b c p q = omega arith
-
 -- (e f + t r + t d) is at most (e' f + t r'), with e at most e' and r + d at most r'
 grown : (e r d f t e' r' : ℕ) → e ≤ e' → r + d ≤ r' → t * d + (e * f + t * r) ≤ e' * f + t * r'
 grown e r d f t e' r' p q =
@@ -140,7 +133,7 @@ sizes_pass s b v tol m n h le e =
     let g = grown m s.radius h.d v.focal tol n b.radius le h.radius in
     lt-ltb (tol * tol * dist2_of b.place v.eye)
     ((n * v.focal + tol * b.radius) * (n * v.focal + tol * b.radius))
-    (lt_by _ _ _ w (mul-le _ _ _ _ g g))
+    (lt_of_lt_of_le w (mul-le _ _ _ _ g g))
 
 pub looks_large_passes : (child parent : Bounded) (v : View) (tol : ℕ) → IsChild child parent
     → looks_large child v tol ≡ true → looks_large parent v tol ≡ true

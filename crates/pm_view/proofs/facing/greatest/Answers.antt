@@ -1,7 +1,8 @@
 use Rattle.std.proofs.Common.{◌^◌, lit<}
 use mir.Syntax.{w128}
 use Rattle.std.specs.Int.{int_max}
-use Rattle.pm_view.proofs.AxisLaws.{product_asks, max_chooses, four_chosen}
+use Rattle.pm_bounds.proofs.BoxLaws.{max_small}
+use Rattle.pm_view.proofs.AxisLaws.{product_asks, four_chosen}
 use Rattle.pm_view.proofs.facing.greatest.Goals as goal
 
 pub product-requires : goal.product-requires
@@ -22,7 +23,7 @@ product-requires-4 c =
 
 pub returns : goal.returns
 returns c =
-    four_chosen w128 (2 ^ 74) (lit< tt) int_max max_chooses c.args.a c.args.b c.args.c c.args.d
+    four_chosen w128 (2 ^ 74) (lit< tt) int_max max_small c.args.a c.args.b c.args.c c.args.d
     _ _ _ _ _ _ _ c.ranges.a c.ranges.b c.ranges.c c.ranges.d c.product.ensures
     c.product-2.ensures c.product-3.ensures c.product-4.ensures c.max.ensures.value
     c.max-2.ensures.value c.max-3.ensures.value
