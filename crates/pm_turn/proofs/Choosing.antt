@@ -1,6 +1,7 @@
 -- Flags chosen by sums over patches.
 use Rattle.std.proofs.Common.{◌≡◌, ◌≢◌, ℕ, ◌<◌, ◌≤◌, inl, inr, refl, sym, ap, ◌∙◌, subst, Bool}
 use Rattle.std.proofs.Common.{true, false, not, List, Option, None, length, slice_index_or, arith}
+use Rattle.std.proofs.lemmas.Grind.{common_steps}
 use Rattle.std.specs.Prelude.{ℤ, pos, neg_ℤ, ◌≤ℤ◌, nat_lt}
 use Rattle.std.proofs.lemmas.Bool.{cases_Bool, cond-true, cond-false, ltb-true, ltb-false}
 use Rattle.pm_base.specs.Place.{Place}
@@ -190,38 +191,22 @@ module _ (m : Net) (places : List Place) (mates : List (Option ℕ)) (roots : Li
       few_straight : odd r ≡ false → back r ≡ nat_lt (sum_of r).even (sum_of r).odd
           → IsFewest m root (flag_of flags) r
       few_straight un told =
-          elim (cases_Bool (back r)) [
-            | inl b ↦
-                let (c, d) = counts_on un b in
-                let less : (sum_of r).even < (sum_of r).odd = ltb-true _ _ (sym told ∙ b) in
-                record {
-                  few = omega (arith, c, d, less);
-                  first =
-                      λ e. absurd (omega (arith, c, d, less, e));
-                }
-            | inr b ↦
-                let (c, d) = counts_off un b in
-                let most : (sum_of r).odd ≤ (sum_of r).even = ltb-false _ _ (sym told ∙ b) in
-                record {
-                  few = omega (arith, c, d, most);
-                  first = λ e. flag_straight r r low own un
-                      ∙ ap (λ (x : Bool). flipped_if x (parity r)) b ∙ own_even r low own;
-                }
-          ]
+          grind (
+            arith,
+            common_steps,
+            ltb-false,
+            ltb-true,
+            counts_off un,
+            counts_on un,
+            flag_straight r r low own un,
+            own_even r low own,
+          )
 
       few_twisted : odd r ≡ true → IsFewest m root (flag_of flags) r
-      few_twisted set =
-          let none = patch_none root r m.faces (flag_of flags)
-          (λ f l at. flag_odd f l (ap odd at ∙ set)) in
-          record { few = omega (arith, none); first = λ e. flag_odd r low (ap odd own ∙ set) }
+      few_twisted set = grind (arith, common_steps, flag_odd, patch_none)
 
       fewest_here : IsOpen m root r → IsFewest m root (flag_of flags) r
-      fewest_here o =
-          elim (cases_Bool (odd r)) [
-            | inl set ↦ few_twisted set
-            | inr un ↦
-                few_straight un (by_count (sum_of r) (some_bare r low own o))
-          ]
+      fewest_here o = grind (arith, common_steps, by_count, few_straight, few_twisted, some_bare)
 
       volume_off : odd r ≡ false → back r ≡ false → volume_in m places root (flag_of flags) r
           ≡ (sum_of r).volume
@@ -244,11 +229,7 @@ module _ (m : Net) (places : List Place) (mates : List (Option ℕ)) (roots : Li
 
       no_volume : odd r ≡ false → (sum_of r).volume ≡ pos 0
           → volume_in m places root (flag_of flags) r ≡ pos 0
-      no_volume un zero =
-          elim (cases_Bool (back r)) [
-            | inl b ↦ volume_on un b ∙ ap neg_ℤ zero
-            | inr b ↦ volume_off un b ∙ zero
-          ]
+      no_volume un zero = grind (arith, common_steps, volume_off, volume_on)
 
       outward_here : IsClosed m root r → HasClash m root r → odd r ≡ false
           → IsOutward m places root (flag_of flags) r

@@ -1,8 +1,8 @@
 -- Of each mesh it can be told which way round each patch is turned: mates are joined, faces are
 -- counted patch by patch, and the counts decide.
-use Rattle.std.proofs.Common.{◌≡◌, ℕ, ◌<◌, ◌≤◌, inl, inr, refl, sym, ap, ◌∙◌, subst, Bool, false}
-use Rattle.std.proofs.Common.{not, ◌&&◌, List, Option, Some, None, length, map, slice_index_or}
-use Rattle.std.proofs.Common.{arith}
+use Rattle.std.proofs.Common.{◌≡◌, ℕ, ◌<◌, ◌≤◌, inl, inr, sym, ap, ◌∙◌, subst, Bool, false, not}
+use Rattle.std.proofs.Common.{◌&&◌, List, Option, Some, None, length, map, slice_index_or, arith}
+use Rattle.std.proofs.lemmas.Grind.{common_steps}
 use Rattle.std.specs.Prelude.{pos, ◌==◌, ◌⊎◌, if◌then◌else◌}
 use Rattle.std.specs.Option.{MatchOption}
 use Rattle.std.specs.List.{range_with_len}
@@ -14,11 +14,11 @@ use Rattle.pm_base.specs.Counts.{count}
 use Rattle.pm_base.specs.Sides.{Net, side_count}
 use Rattle.pm_turn.specs.declared.patches.Root.{Root}
 use Rattle.pm_turn.specs.declared.choice.Sums.{Sums}
-use Rattle.pm_turn.specs.Turning.{AreMates, AreTraced}
+use Rattle.pm_turn.specs.Turning.{AreTraced}
 use Rattle.pm_turn.specs.Unions.{Elders, Up, AreElders, AreMated}
 use Rattle.pm_turn.specs.Choice.{total, volume_at, AreChosenTurns}
-use Rattle.pm_turn.specs.Sums.{no_root, root_at, parity_at, is_bare, no_sums, IsSums, AreSums}
-use Rattle.pm_turn.specs.Sums.{is_reversed, chosen_flag}
+use Rattle.pm_turn.specs.Sums.{no_root, root_at, parity_at, is_bare, no_sums, AreSums, is_reversed}
+use Rattle.pm_turn.specs.Sums.{chosen_flag}
 use Rattle.pm_turn.specs.ChoiceLaws.{ChosenTurnsAreThere}
 use Rattle.pm_turn.proofs.Joining.{up_below}
 use Rattle.pm_turn.proofs.JoinedSides.{elders_traced}
@@ -59,12 +59,7 @@ module _ (m : Net) (places : List Place) where
   mates = listed mate_at (side_count m)
 
   pub mated : AreMated m mates
-  mated = record {
-    sides = listed_long mate_at (side_count m);
-    each = λ e l.
-        subst (λ (o : Option ℕ). MatchOption o ((k : ℕ) → AreMates m e k → ⊥) (λ k. AreMates m e k))
-        (sym (listed_at mate_at (side_count m) None e l)) (found_told (mate? m e));
-  }
+  mated = grind (arith, common_steps, found_told, listed_at, listed_long, mate?)
 
   module _ (t : Elders) (s : AreElders m (side_count m) t) where
     abbrev pub root_of : ℕ → Root
@@ -85,11 +80,7 @@ module _ (m : Net) (places : List Place) where
         elim (cases_lt f m.faces) [
           | inl l ↦ up_below m (side_count m) t s f (root_at roots f) (parity_at roots f)
               (way_up f l)
-          | inr k ↦
-              let long = listed_long root_of m.faces in
-              let past : length roots ≤ f = omega (arith, long, k) in
-              let none = ap (λ (r : Root). r.face) (get_or_past roots f no_root past) in
-              omega (arith, none)
+          | inr k ↦ grind (arith, common_steps, get_or_past, listed_long)
         ]
 
     pub traced : AreTraced m (root_at roots) (parity_at roots) t.odd
@@ -110,13 +101,7 @@ module _ (m : Net) (places : List Place) where
     sums = listed sums_of m.faces
 
     pub summed : AreSums m places mates roots m.faces sums
-    summed = record {
-      long = listed_long sums_of m.faces;
-      each = λ r l.
-          subst (IsSums m places mates roots m.faces r)
-          (sym (listed_at sums_of m.faces no_sums r l))
-          (record { even = refl; odd = refl; bare = refl; volume = refl });
-    }
+    summed = grind (arith, common_steps, listed_at, listed_long)
 
     abbrev pub flag_at : ℕ → Bool
     flag_at f =

@@ -1,12 +1,12 @@
 -- The sides of an edge are told by its two vertices, and where it has two they are mates.
-use Rattle.std.proofs.Common.{◌≡◌, ◌≢◌, ℕ, ◌+◌, ◌*◌, ◌/◌, ◌<◌, ◌≤◌, inl, inr, refl, sym, ap, ◌∙◌}
-use Rattle.std.proofs.Common.{subst, Option, Some, None, [], arith}
+use Rattle.std.proofs.Common.{◌≡◌, ◌≢◌, ℕ, ◌+◌, ◌*◌, ◌<◌, ◌≤◌, inl, inr, refl, sym, ap, ◌∙◌, subst}
+use Rattle.std.proofs.Common.{Option, Some, None, [], arith}
+use Rattle.std.proofs.lemmas.Grind.{common_steps}
 use Rattle.std.specs.Option.{MatchOption}
 use Rattle.std.specs.Ordering.{nat_cmp}
 use Rattle.std.specs.BTreeMap.{BTreeMap, get, is_at, Updates}
 use Rattle.std.specs.Map.{lookup}
-use Rattle.std.proofs.lemmas.Bool.{cases_eq, cases_lt, cond-true, cond-false, eq-eqb, ne_eqb}
-use Rattle.std.proofs.lemmas.Bool.{lt-ltb, le-ltb}
+use Rattle.std.proofs.lemmas.Bool.{cases_eq, cond-true, cond-false, eq-eqb, ne_eqb, lt-ltb, le-ltb}
 use Rattle.std.proofs.lemmas.Nat.{div-mul-add}
 use Rattle.pm_base.specs.declared.ids.Side.{Side}
 use Rattle.pm_base.specs.Sides.{Net, side_count, next, to}
@@ -22,11 +22,7 @@ use Rattle.pm_turn.proofs.TurnedSides.{SameEnds}
 -- Two ends in ascending order are known from their key.
 parts_are : (p q r s : ℕ) → q < 4294967296 → s < 4294967296
     → p * 4294967296 + q ≡ r * 4294967296 + s → (p ≡ r) × (q ≡ s)
-parts_are p q r s ql sl e =
-    let b : ℕ = 4294967296 in
-    let one : p ≡ r = sym (div-mul-add p b q ql) ∙ ap (λ n. n / b) e ∙ div-mul-add r b s sl in
-    let ones : p * b ≡ r * b = ap (λ n. n * b) one in
-    (one, omega (arith, ones, e))
+parts_are p q r s ql sl e = grind (arith, common_steps, div-mul-add)
 
 key_up : (p q : ℕ) → p < q → edge_key p q ≡ p * 4294967296 + q
 key_up p q l = cond-true _ _ _ (lt-ltb p q l)
@@ -36,15 +32,7 @@ key_down p q l = cond-false _ _ _ (le-ltb p q l)
 
 -- Sides that join the same two vertices have one key, and sides of one key join the same two.
 key_back : (p q : ℕ) → edge_key p q ≡ edge_key q p
-key_back p q =
-    elim (cases_lt p q) [
-      | inl l ↦ key_up p q l ∙ sym (key_down q p (omega (arith, l)))
-      | inr l ↦
-          elim (cases_eq q p) [
-            | inl is ↦ ap (λ i. edge_key p i) is ∙ ap (λ i. edge_key i p) (sym is)
-            | inr ne ↦ key_down p q l ∙ sym (key_up q p (omega (arith, l, ne)))
-          ]
-    ]
+key_back p q = grind (arith, common_steps, key_down, key_up)
 
 pub same_key : (p q r s : ℕ) → SameEnds p q r s → edge_key p q ≡ edge_key r s
 same_key p q r s (inl (a, b)) = ap (λ i. edge_key i q) a ∙ ap (edge_key r) b
@@ -52,23 +40,7 @@ same_key p q r s (inr (a, b)) = ap (λ i. edge_key i q) a ∙ ap (edge_key s) b 
 
 pub key_ends : (p q r s : ℕ) → p < 4294967296 → q < 4294967296 → r < 4294967296 → s < 4294967296
     → edge_key p q ≡ edge_key r s → SameEnds p q r s
-key_ends p q r s pl ql rl sl e =
-    elim (cases_lt p q) [
-      | inl a ↦
-          elim (cases_lt r s) [
-            | inl b ↦ inl (parts_are p q r s ql sl (sym (key_up p q a) ∙ e ∙ key_up r s b))
-            | inr b ↦ inr (parts_are p q s r ql rl (sym (key_up p q a) ∙ e ∙ key_down r s b))
-          ]
-      | inr a ↦
-          elim (cases_lt r s) [
-            | inl b ↦
-                let (c, d) = parts_are q p r s pl sl (sym (key_down p q a) ∙ e ∙ key_up r s b) in
-                inr (d, c)
-            | inr b ↦
-                let (c, d) = parts_are q p s r pl rl (sym (key_down p q a) ∙ e ∙ key_down r s b) in
-                inl (d, c)
-          ]
-    ]
+key_ends p q r s pl ql rl sl e = grind (arith, common_steps, key_down, key_up, parts_are)
 
 -- Before any side none has a key.
 pub none_noted : (m : Net) (map : BTreeMap ℕ Edge) → map.entries ≡ [] → AreEdges m 0 map
@@ -76,24 +48,7 @@ none_noted m map is k =
     subst (IsEdge m 0 k) (sym (ap (lookup (is_at (nat_cmp k))) is)) (λ e l. absurd (omega arith))
 
 more_on : (m : Net) (n k : ℕ) → AreMore m n k → AreMore m (n + 1) k
-more_on m n k s =
-    let one = s.one_in in
-    let two = s.two_in in
-    let three = s.three_in in
-    record {
-      one = s.one;
-      two = s.two;
-      three = s.three;
-      one_in = omega (arith, one);
-      two_in = omega (arith, two);
-      three_in = omega (arith, three);
-      one_two = s.one_two;
-      one_three = s.one_three;
-      two_three = s.two_three;
-      one_has = s.one_has;
-      two_has = s.two_has;
-      three_has = s.three_has;
-    }
+more_on m n k s = grind (arith, common_steps)
 
 -- One more side with another key.
 noted_other : (m : Net) (n k : ℕ) (r : Option Edge) → edge_key_at m n ≢ k → IsEdge m n k r
@@ -135,15 +90,7 @@ noted_other m n k (Some Edge.More) ne h = more_on m n k h
 noted_same : (m : Net) (n k : ℕ) (r : Option Edge) (e : Side) → e.0 ≡ n → edge_key_at m n ≡ k
     → IsEdge m n k r
     → IsEdge m (n + 1) k (Some (edge_with r e))
-noted_same m n k None e at is none = record {
-  in_range = omega (arith, at);
-  has = ap (edge_key_at m) at ∙ is;
-  alone = λ g l h.
-      elim (cases_eq g n) [
-        | inl same ↦ same ∙ sym at
-        | inr other ↦ absurd (none g (omega (arith, l, other)) h)
-      ];
-}
+noted_same m n k None e at is none = grind (arith, common_steps)
 noted_same m n k (Some (Edge.One v)) e at is h =
     let low = h.in_range in
     record {
@@ -184,14 +131,7 @@ pub one_noted : (m : Net) (s t : BTreeMap ℕ Edge) (e : Side) (key : ℕ) (r : 
     → AreEdges m (e.0 + 1) t
 one_noted m s t e key r now noted is at new u k =
     elim (cases_eq key k) [
-      | inl same ↦
-          let here : get nat_cmp t k ≡ Some now =
-          u.0 k ∙ cond-true _ _ _ (equal_is key k ∙ eq-eqb _ _ same) in
-          let before : IsEdge m e.0 k r =
-          subst (IsEdge m e.0 k) (sym (at ∙ ap (get nat_cmp s) same)) (noted k) in
-          let after : IsEdge m (e.0 + 1) k (Some (edge_with r e)) =
-          noted_same m e.0 k r e refl (sym is ∙ same) before in
-          subst (IsEdge m (e.0 + 1) k) (ap Some (sym new) ∙ sym here) after
+      | inl same ↦ grind (arith, common_steps, cond-true, eq-eqb, equal_is, noted_same)
       | inr ne ↦
           let here : get nat_cmp t k ≡ get nat_cmp s k =
           u.0 k ∙ cond-false _ _ _ (equal_is key k ∙ ne_eqb _ _ ne) in
@@ -205,11 +145,7 @@ module _ (m : Net) (ok : IsCuttable m) where
 
   joins : (e g : ℕ) → e < side_count m → g < side_count m → edge_key_at m g ≡ edge_key_at m e
       → JoinsSame m e g
-  joins e g el gl is = record {
-    stands = ok.stand g gl;
-    ends = key_ends (m.from g) (to m g) (m.from e) (to m e) (ok.low g gl) (to_low g gl)
-        (ok.low e el) (to_low e el) is;
-  }
+  joins e g el gl is = grind (arith, common_steps, key_ends, to_low)
 
   has_key : (e g : ℕ) → JoinsSame m e g → edge_key_at m g ≡ edge_key_at m e
   has_key e g j = same_key (m.from g) (to m g) (m.from e) (to m e) j.ends
@@ -224,14 +160,7 @@ module _ (m : Net) (ok : IsCuttable m) where
   }
 
   swapped : (n k v w : ℕ) → AreTwo m n k v w → AreTwo m n k w v
-  swapped n k v w t = record {
-    one_in = t.other_in;
-    other_in = t.one_in;
-    differ = λ is. t.differ (sym is);
-    one_has = t.other_has;
-    other_has = t.one_has;
-    alone = λ e l is. elim (t.alone e l is) [ inl a ↦ inr a | inr a ↦ inl a ];
-  }
+  swapped n k v w t = grind (arith, common_steps)
 
   three_apart : (e k : ℕ) → AreMates m e k → AreMore m (side_count m) (edge_key_at m e) → ⊥
   three_apart e k a t =
@@ -240,15 +169,7 @@ module _ (m : Net) (ok : IsCuttable m) where
       let two = a.alone t.two (joins e t.two el t.two_in t.two_has) in
       let three = a.alone t.three (joins e t.three el t.three_in t.three_has) in
       elim one [
-        | inl i ↦
-            elim two [
-              | inl j ↦ t.one_two (i ∙ sym j)
-              | inr j ↦ elim three [
-                | inl h ↦ t.one_three (i ∙ sym h)
-                | inr h ↦
-                    t.two_three (j ∙ sym h)
-              ]
-            ]
+        | inl i ↦ grind (arith, common_steps)
         | inr i ↦
             elim two [
               | inr j ↦ t.one_two (i ∙ sym j)
@@ -270,10 +191,7 @@ module _ (m : Net) (ok : IsCuttable m) where
       a.differ (here ∙ sym there)
   mate_is e (Some (Edge.Two v w)) l two =
       elim (cases_eq v.0 e.0) [
-        | inl is ↦
-            subst (λ (x : Side). AreMates m e.0 x.0) (sym (cond-true _ _ _ (eq-eqb _ _ is)))
-            (are_mates e.0 w.0 l
-            (subst (λ i. AreTwo m (side_count m) (edge_key_at m e.0) i w.0) is two))
+        | inl is ↦ grind (arith, common_steps, are_mates, cond-true, eq-eqb)
         | inr ne ↦
             let at : w.0 ≡ e.0 =
             elim (two.alone e.0 l refl) [ inl is ↦ absurd (ne (sym is)) | inr is ↦ sym is ] in
@@ -290,9 +208,4 @@ module _ (m : Net) (ok : IsCuttable m) where
       → r ≡ get nat_cmp map key
       → found ≡ mate_in r e
       → MatchOption found ((k : ℕ) → AreMates m e.0 k → ⊥) (λ k. AreMates m e.0 k.0)
-  mate_found e map key r found l noted is at answer =
-      let edge : IsEdge m (side_count m) (edge_key_at m e.0) r =
-      subst (IsEdge m (side_count m) (edge_key_at m e.0)) (sym (at ∙ ap (get nat_cmp map) is))
-      (noted (edge_key_at m e.0)) in
-      subst (λ (o : Option Side). MatchOption o ((k : ℕ) → AreMates m e.0 k
-      → ⊥) (λ k. AreMates m e.0 k.0)) (sym answer) (mate_is e r l edge)
+  mate_found e map key r found l noted is at answer = grind (arith, common_steps, mate_is)

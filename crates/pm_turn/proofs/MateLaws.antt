@@ -1,6 +1,7 @@
 -- The table of mates, side by side.
-use Rattle.std.proofs.Common.{◌≡◌, ℕ, ◌+◌, ◌<◌, ◌≤◌, inl, inr, sym, ap, ◌∙◌}
-use Rattle.std.proofs.Common.{subst, Option, Some, None, List, length, slice_index_or, arith}
+use Rattle.std.proofs.Common.{◌≡◌, ℕ, ◌+◌, ◌<◌, ◌≤◌, inl, inr, sym, ap, ◌∙◌, subst, Option, Some}
+use Rattle.std.proofs.Common.{None, List, length, slice_index_or, arith}
+use Rattle.std.proofs.lemmas.Grind.{common_steps}
 use Rattle.std.specs.Option.{IfSome, MatchOption, option_map}
 use Rattle.std.proofs.lemmas.Bool.{cases_eq}
 use Rattle.std.proofs.Math.ListN.{set, replicate}
@@ -18,10 +19,7 @@ pub record AreMatedTo (m : Net) (n : ℕ) (mates : List (Option ℕ)) : Type 0 w
 
 pub none_mated : (m : Net) (mates : List (Option ℕ)) → mates ≡ replicate (side_count m) None
     → AreMatedTo m 0 mates
-none_mated m mates is = record {
-  sides = ap length is ∙ length-replicate (side_count m) None;
-  each = λ e l. absurd (omega (arith, l));
-}
+none_mated m mates is = grind (arith, common_steps, length-replicate)
 
 told : (m : Net) (e : ℕ) (r : Option Side)
     → MatchOption r ((k : ℕ) → AreMates m e k → ⊥) (λ k. AreMates m e k.0)
@@ -50,21 +48,13 @@ mated_more m n xs ys r low h is now =
                 (sym at)
                 (subst (λ i. MatchOption new ((k : ℕ) → AreMates m i k → ⊥) (λ k. AreMates m i k))
                 (sym same) (told m n r now))
-            | inr other ↦
-                let at : slice_index_or ys e None ≡ slice_index_or xs e None =
-                ap (λ zs. slice_index_or zs e None) is
-                ∙ get_or-set_other xs n e new None other in
-                subst (λ o. MatchOption o ((k : ℕ) → AreMates m e k → ⊥) (λ k. AreMates m e k))
-                (sym at) (h.each e (omega (arith, l, other)))
+            | inr other ↦ grind (arith, common_steps, get_or-set_other, slice_index_or)
           ];
     }
 
 pub all_mated : (m : Net) (n : ℕ) (mates : List (Option ℕ)) → n ≡ side_count m
     → AreMatedTo m n mates → AreMated m mates
-all_mated m n mates all h = record {
-  sides = h.sides;
-  each = λ e l. h.each e (omega (arith, all, l));
-}
+all_mated m n mates all h = grind (arith, common_steps)
 
 -- A mate has a number that sides have.
 pub mate_low : (m : Net) (e most : ℕ) (r : Option Side) → side_count m ≤ most

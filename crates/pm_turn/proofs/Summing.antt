@@ -1,10 +1,10 @@
 -- Sums, counts and flags, face by face.
 use Rattle.std.proofs.Common.{◌≡◌, ◌≢◌, ℕ, ◌+◌, ◌*◌, ◌^◌, ◌<◌, ◌≤◌, inl, inr, refl, sym, ap, ◌∙◌}
-use Rattle.std.proofs.Common.{subst, Bool, true, false, not, ◌&&◌, List, [], ◌∷◌, ◌++◌, Option}
-use Rattle.std.proofs.Common.{length, set, replicate, slice_index_or, arith}
+use Rattle.std.proofs.Common.{subst, Bool, true, false, List, [], ◌∷◌, ◌++◌, Option, length, set}
+use Rattle.std.proofs.Common.{replicate, slice_index_or, arith}
 use Rattle.std.proofs.lemmas.Grind.{common_steps}
-use Rattle.std.specs.Prelude.{ℤ, ◌+ℤ◌, ◌==◌, unsigned_abs}
-use Rattle.std.proofs.lemmas.Bool.{cases_eq, cases_lt, cond-true, cond-false, eq-eqb, ne_eqb}
+use Rattle.std.specs.Prelude.{ℤ, ◌+ℤ◌, unsigned_abs}
+use Rattle.std.proofs.lemmas.Bool.{cases_eq, cond-true, cond-false, eq-eqb, ne_eqb}
 use Rattle.std.proofs.lemmas.List.{get_or_append_left, length-append, length-set, length-replicate}
 use Rattle.std.proofs.lemmas.List.{get_or-replicate, get_or_past, get_or-set_same, get_or-set_other}
 use Rattle.std.proofs.Math.Seq.{get_or-append_seam}
@@ -20,7 +20,7 @@ use Rattle.pm_base.proofs.Squares.{abs_plus}
 use Rattle.pm_turn.specs.declared.patches.Root.{Root}
 use Rattle.pm_turn.specs.declared.choice.Sums.{Sums}
 use Rattle.pm_turn.specs.Turning.{flag_of}
-use Rattle.pm_turn.specs.Choice.{place_at, determinant_of, volume_at, total}
+use Rattle.pm_turn.specs.Choice.{volume_at, total}
 use Rattle.pm_turn.specs.Sums.{root_at, parity_at, is_bare, face_volume, no_sums, with_face, IsSums}
 use Rattle.pm_turn.specs.Sums.{AreSums}
 use Rattle.pm_turn.proofs.Totals.{total-zero, total-suc, in_patch, out_of_patch}
@@ -45,17 +45,7 @@ none_summed m places mates roots sums is = record {
 pub none_small : (n : ℕ) (sums : List Sums) → sums ≡ replicate n no_sums → (r : ℕ)
     → unsigned_abs (slice_index_or sums r no_sums).volume ≤ 0 * 2 ^ 51
 none_small n sums is r =
-    let at : slice_index_or sums r no_sums ≡ slice_index_or (replicate n no_sums) r no_sums =
-    ap (λ (ss : List Sums). slice_index_or ss r no_sums) is in
-    let none : slice_index_or (replicate n no_sums) r no_sums ≡ no_sums =
-    elim (cases_lt r n) [
-      | inl l ↦ get_or-replicate n r no_sums no_sums l
-      | inr k ↦ get_or_past (replicate n no_sums) r no_sums
-          (omega (arith, k, length-replicate n no_sums))
-    ] in
-    let e : unsigned_abs (slice_index_or sums r no_sums).volume ≡ 0 =
-    ap (λ (s : Sums). unsigned_abs s.volume) (at ∙ none) in
-    omega (arith, e)
+    grind (arith, common_steps, get_or-replicate, get_or_past, length-replicate, slice_index_or)
 
 -- One more face.
 count_here : (p : ℕ → Bool) (n : ℕ) (b : Bool) → p n ≡ b → count p (n + 1) ≡ count p n + one_if b
@@ -86,28 +76,13 @@ sums_on : (m : Net) (places : List Place) (mates : List (Option ℕ)) (roots : L
     ≡ z → IsSums m places mates roots n r s
     → IsSums m places mates roots (n + 1) r (with_face s parity bare z)
 sums_on m places mates roots n r s parity bare z at par has vol h =
-    let root : ℕ → ℕ = root_at roots in
-    record {
-      even = counted_more _ n _ _ _ h.even (in_patch root r n _ at ∙ ap not par) refl;
-      odd = counted_more _ n _ _ _ h.odd (in_patch root r n _ at ∙ par) refl;
-      bare = counted_more _ n _ _ _ h.bare (in_patch root r n _ at ∙ has) refl;
-      volume = totalled_more _ n _ _ _ h.volume (cond-true _ _ _ (eq-eqb _ r at) ∙ vol) refl;
-    }
+    grind (arith, common_steps, cond-true, counted_more, eq-eqb, in_patch, totalled_more)
 
 sums_off : (m : Net) (places : List Place) (mates : List (Option ℕ)) (roots : List Root) (n r : ℕ)
     (s : Sums) → root_at roots n ≢ r → IsSums m places mates roots n r s
     → IsSums m places mates roots (n + 1) r s
 sums_off m places mates roots n r s ne h =
-    let none : (i : ℕ) → i ≡ i + one_if false = λ i. omega arith in
-    let out : (b : Bool) → ((root_at roots n == r) && b) ≡ false =
-    λ b. out_of_patch (root_at roots) r n b ne in
-    record {
-      even = counted_more _ n _ _ _ h.even (out _) (none _);
-      odd = counted_more _ n _ _ _ h.odd (out _) (none _);
-      bare = counted_more _ n _ _ _ h.bare (out _) (none _);
-      volume = totalled_more _ n _ _ _ h.volume (cond-false _ _ _ (ne_eqb _ r ne))
-          (omega (arith, ints));
-    }
+    grind (arith, common_steps, cond-false, counted_more, ne_eqb, out_of_patch, totalled_more)
 
 module _ (xs ys : List Sums) (i : ℕ) (new : Sums) (low : i < length xs) (is : ys ≡ set xs i new)
   where
@@ -163,18 +138,8 @@ sums_low m places mates roots n r s h =
 volume_at_three : (m : Net) (places : List Place) (b : Bool) (f : ℕ) (k : Corners)
     → m.from (3 * f) ≡ k.a → m.from (3 * f + 1) ≡ k.b → m.from (3 * f + 2) ≡ k.c
     → volume_at m places b f ≡ face_volume places b k
-volume_at_three m places true f k a b c =
-    ap (λ i. determinant_of (place_at places i) (place_at places (m.from (3 * f + 2)))
-    (place_at places (m.from (3 * f + 1)))) a
-    ∙ ap (λ i. determinant_of (place_at places k.a) (place_at places i)
-    (place_at places (m.from (3 * f + 1)))) c
-    ∙ ap (λ i. determinant_of (place_at places k.a) (place_at places k.c) (place_at places i)) b
-volume_at_three m places false f k a b c =
-    ap (λ i. determinant_of (place_at places i) (place_at places (m.from (3 * f + 1)))
-    (place_at places (m.from (3 * f + 2)))) a
-    ∙ ap (λ i. determinant_of (place_at places k.a) (place_at places i)
-    (place_at places (m.from (3 * f + 2)))) b
-    ∙ ap (λ i. determinant_of (place_at places k.a) (place_at places k.b) (place_at places i)) c
+volume_at_three m places true f k a b c = grind (arith, common_steps)
+volume_at_three m places false f k a b c = grind (arith, common_steps)
 
 pub volume_by_corners : (fs : List Corners) (places : List Place) (b : Bool) (f : ℕ)
     → volume_at (net_of fs) places b f ≡ face_volume places b (face_at fs f)

@@ -1,6 +1,7 @@
 -- What is told of turning.
 use Rattle.std.proofs.Common.{◌≡◌, ℕ, ◌<◌, inl, inr, refl, sym, ap, ◌∙◌, subst, Bool, true, false}
 use Rattle.std.proofs.Common.{not, ◌&&◌, List, Option, slice_index_or, arith}
+use Rattle.std.proofs.lemmas.Grind.{common_steps}
 use Rattle.std.specs.Prelude.{ℤ, pos, ◌<ℤ◌, ◌==◌, int_lt}
 use Rattle.std.proofs.lemmas.Bool.{cases_Bool, eq-eqb, eqb-true, true≢false}
 use borrow.Author.Differences.{ints}
@@ -35,16 +36,7 @@ module _ (m : Net) (root : ℕ → ℕ) (parity odd : ℕ → Bool) (t : AreTrac
 
   pub twisted_counted : (k : ℕ) → k ≡ count (λ f. odd (root f)) m.faces
       → IsCount (IsTwisted m) m.faces k
-  twisted_counted k is = record {
-    test = λ f. odd (root f);
-    yes = λ f l set. odd_way m root parity odd t f l set;
-    no = λ f l w.
-        elim (cases_Bool (odd (root f))) [
-          | inl set ↦ set
-          | inr un ↦ absurd (no_odd_way f un w)
-        ];
-    is = is;
-  }
+  twisted_counted k is = grind (arith, common_steps, no_odd_way, odd_way)
 
 -- Patches that are inside out.
 own_and : (own odd b c v : Bool) → (own && not odd && b && c && v) ≡ true

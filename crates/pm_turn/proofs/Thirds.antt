@@ -1,10 +1,10 @@
 -- The third side of an edge, which is told by keys and by vertices alike.
-use Rattle.std.proofs.Common.{◌≡◌, ◌≢◌, ℕ, zero, suc, ◌<◌, ◌≤◌, inl, inr, sym, ap, ◌∙◌}
+use Rattle.std.proofs.Common.{◌≡◌, ◌≢◌, ℕ, zero, suc, ◌<◌, ◌≤◌, inl, inr, sym, ◌∙◌, Bool, true}
+use Rattle.std.proofs.Common.{false, ◌&&◌, Option, Some, None, arith}
 use Rattle.std.proofs.lemmas.Grind.{common_steps}
-use Rattle.std.proofs.Common.{Bool, true, false, ◌&&◌, Option, Some, None, arith}
 use Rattle.std.specs.Prelude.{◌==◌}
-use Rattle.std.proofs.lemmas.Bool.{cases_Bool, eq-eqb, ne_eqb, eqb-true, true≢false}
-use Rattle.std.proofs.lemmas.Bool.{or_cases, or_left, or_right, and_parts, and_from}
+use Rattle.std.proofs.lemmas.Bool.{cases_Bool, eq-eqb, ne_eqb, eqb-true, true≢false, or_cases}
+use Rattle.std.proofs.lemmas.Bool.{or_left, or_right, and_parts, and_from}
 use Rattle.pm_base.specs.Counts.{count}
 use Rattle.pm_base.specs.Sides.{Net, next, to, side_count, NoSideTwice}
 use Rattle.pm_base.proofs.Sides.{next-lt}
@@ -63,15 +63,7 @@ module _ (m : Net) (e g : ℕ) where
   against = (m.from g == to m e) && (to m g == m.from e)
 
   ends_joined : join_same m e g ≡ true → SameEnds (m.from g) (to m g) (m.from e) (to m e)
-  ends_joined j =
-      elim (or_cases along against j) [
-        | inl a ↦
-            let (p, q) = and_parts (m.from g == m.from e) (to m g == to m e) a in
-            inl (eqb-true _ _ p, eqb-true _ _ q)
-        | inr a ↦
-            let (p, q) = and_parts (m.from g == to m e) (to m g == m.from e) a in
-            inr (eqb-true _ _ p, eqb-true _ _ q)
-      ]
+  ends_joined j = grind (arith, common_steps, and_parts, eqb-true, or_cases)
 
   joined_ends : SameEnds (m.from g) (to m g) (m.from e) (to m e) → join_same m e g ≡ true
   joined_ends (inl (p, q)) =
@@ -96,35 +88,20 @@ module _ (m : Net) (e g : ℕ) where
       ]
 
 pub crowded_by_keys : (m : Net) → IsCuttable m → count (comes_third m) (side_count m) ≡ crowded_of m
-crowded_by_keys m h =
-    count_same (comes_third m) (is_third m) (side_count m) (λ e el.
-    ap (λ k. k == 2)
-    (count_same (λ g. edge_key_at m g == edge_key_at m e) (join_same m e) e
-    (λ g gl. keys_join m e g h el (omega (arith, gl, el)))))
+crowded_by_keys m h = grind (arith, common_steps, count_same, keys_join)
 
 -- Of an oriented manifold no edge has a third side.
 count_once : (p : ℕ → Bool) (n : ℕ)
     → ((i j : ℕ) → i < n → j < n → p i ≡ true → p j ≡ true → i ≡ j) → count p n ≤ 1
 count_once p zero one = let a = count-zero p in omega (arith, a)
 count_once p (suc n) one =
-    elim (cases_Bool (p n)) [
-      | inl t ↦ count_most_one p (suc n) n (λ i l s. one i n l (omega arith) s t)
-      | inr un ↦
-          let few = count_once p n (λ i j k l. one i j (omega (arith, k)) (omega (arith, l))) in
-          omega (arith, count-false p n un, few)
-    ]
+    grind (arith, common_steps, count-false p n, count_most_one p (suc n) n, count_once p n)
 
 module _ (m : Net) (stand : AllStand m) (once : NoSideTwice m) where
   -- A side before e that joins its two vertices runs against it.
   runs_back : (e g : ℕ) → e < side_count m → g < e → join_same m e g ≡ true
       → (m.from g ≡ to m e) × (to m g ≡ m.from e)
-  runs_back e g el gl j =
-      elim (ends_joined m e g j) [
-        | inr back ↦ back
-        | inl (p, q) ↦
-            let is = once g e (stand g (omega (arith, gl, el))) (stand e el) p q in
-            absurd (omega (arith, gl, is))
-      ]
+  runs_back e g el gl j = grind (arith, common_steps, ends_joined)
 
   never_third : (e : ℕ) → e < side_count m → is_third m e ≡ false
   never_third e el =
