@@ -52,7 +52,7 @@ joined-same : (a : NormalBox) → joined a a ≡ a
 joined-same a = grind (arith, common_steps, max_same, min_same)
 
 joined-small : (a b : NormalBox) → IsSmallBox a → IsSmallBox b → IsSmallBox (joined a b)
-joined-small a b p q = grind (arith, common_steps, max_small, min_small)
+joined-small a b p q = search (min_small, max_small)
 
 -- the same where one may be missing
 
