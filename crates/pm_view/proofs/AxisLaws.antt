@@ -1,6 +1,7 @@
 -- The least and the greatest product on an axis, and sums of three, in words of any width.
 use Rattle.std.proofs.Common.{◌≡◌, ℕ, ◌*◌, ◌^◌, ◌<◌, ◌≤◌, w32, w64, FitsSigned, to_z, of_z, refl}
 use Rattle.std.proofs.Common.{◌∙◌, subst, arith, lit<, lit≤}
+use Rattle.std.proofs.lemmas.Grind.{common_steps}
 use Rattle.std.proofs.Math.Nat.{le_trans}
 use mir.Syntax.{Width}
 use mir.Val.{hbits}
@@ -26,10 +27,7 @@ Reads w z m = unsigned_abs (read w z) ≤ m
 -- read back.
 pub product_asks : (k : ℕ) → k < 2 ^ 63 → (a c : ℤ) → unsigned_abs a ≤ 2 ^ 34 → unsigned_abs c ≤ k
     → record { a_small : Reads w64 a (2 ^ 34); b_small : Reads w64 c k }
-product_asks k s a c p q = record {
-  a_small = read_small w64 a (2 ^ 34) p (lit< tt);
-  b_small = read_small w64 c k q s;
-}
+product_asks k s a c p q = grind (arith, common_steps, read_small)
 
 pub end_asks : (at eye : ℤ) (radius : ℕ) → unsigned_abs at ≤ 32767 → radius ≤ 2 ^ 38
     → unsigned_abs eye ≤ 16777215
@@ -38,11 +36,7 @@ pub end_asks : (at eye : ℤ) (radius : ℕ) → unsigned_abs at ≤ 32767 → r
       radius_small : radius ≤ 2 ^ 38;
       eye_small : Reads w32 eye 16777215;
     }
-end_asks at eye radius p q s = record {
-  at_small = read_small w32 at 32767 p (lit< tt);
-  radius_small = q;
-  eye_small = read_small w32 eye 16777215 s (lit< tt);
-}
+end_asks at eye radius p q s = grind (arith, common_steps, read_small)
 
 pub ends_ask : (k : ℕ) → k < 2 ^ 63 → (a b c d : ℤ) → unsigned_abs a ≤ 2 ^ 34
     → unsigned_abs b ≤ 2 ^ 34 → unsigned_abs c ≤ k → unsigned_abs d ≤ k
@@ -52,21 +46,12 @@ pub ends_ask : (k : ℕ) → k < 2 ^ 63 → (a b c d : ℤ) → unsigned_abs a �
       c_small : Reads w64 c k;
       d_small : Reads w64 d k;
     }
-ends_ask k s a b c d pa pb pc pd = record {
-  a_small = read_small w64 a (2 ^ 34) pa (lit< tt);
-  b_small = read_small w64 b (2 ^ 34) pb (lit< tt);
-  c_small = read_small w64 c k pc s;
-  d_small = read_small w64 d k pd s;
-}
+ends_ask k s a b c d pa pb pc pd = grind (arith, common_steps, read_small)
 
 pub sum_asks : (w : Width) (m : ℕ) → m < 2 ^ hbits w → (x y z : ℤ) → unsigned_abs x ≤ m
     → unsigned_abs y ≤ m → unsigned_abs z ≤ m
     → record { a_small : Reads w x m; b_small : Reads w y m; c_small : Reads w z m }
-sum_asks w m s x y z p q r = record {
-  a_small = read_small w x m p s;
-  b_small = read_small w y m q s;
-  c_small = read_small w z m r s;
-}
+sum_asks w m s x y z p q r = grind (arith, common_steps, read_small)
 
 -- The sides of a box, a place that was read as r, and an eye, on one axis.
 pub record Axis (low high at eye r : ℤ) : Type 0 where
@@ -82,33 +67,15 @@ IsRead r at p = record { value : r ≡ at; in_range : IsPlace p }
 
 x_axis : (b : NormalBox) (p eye : Place) (r : ℤ) → IsSmallBox b → IsRead r p.x p → IsEye eye
     → Axis b.low.x b.high.x p.x eye.x r
-x_axis b p eye r h e v = record {
-  low_small = h.0.0;
-  high_small = h.1.0;
-  is = e.value;
-  at_small = e.in_range.0;
-  eye_small = v.x;
-}
+x_axis b p eye r h e v = grind (arith, common_steps)
 
 y_axis : (b : NormalBox) (p eye : Place) (r : ℤ) → IsSmallBox b → IsRead r p.y p → IsEye eye
     → Axis b.low.y b.high.y p.y eye.y r
-y_axis b p eye r h e v = record {
-  low_small = h.0.1;
-  high_small = h.1.1;
-  is = e.value;
-  at_small = e.in_range.1;
-  eye_small = v.y;
-}
+y_axis b p eye r h e v = grind (arith, common_steps)
 
 z_axis : (b : NormalBox) (p eye : Place) (r : ℤ) → IsSmallBox b → IsRead r p.z p → IsEye eye
     → Axis b.low.z b.high.z p.z eye.z r
-z_axis b p eye r h e v = record {
-  low_small = h.0.2;
-  high_small = h.1.2;
-  is = e.value;
-  at_small = e.in_range.2;
-  eye_small = v.z;
-}
+z_axis b p eye r h e v = grind (arith, common_steps)
 
 -- What a product on an axis asks of its arguments.
 abbrev pub AxisAsks : ℤ → ℤ → ℤ → ℤ → ℕ → ℕ → Type 0
@@ -125,13 +92,8 @@ side_small a p = read_small w64 a (2 ^ 34) (le_trans p (lit≤ tt)) (lit< tt)
 
 axis_asks : (low high at eye r : ℤ) (radius k : ℕ) → Axis low high at eye r → radius ≤ k
     → AxisAsks low high r eye radius k
-axis_asks low high at eye r radius k h p = record {
-  low_small = side_small low h.low_small;
-  high_small = side_small high h.high_small;
-  at_small = equal_small w32 r at 32767 h.is h.at_small (lit< tt);
-  radius_small = p;
-  eye_small = read_small w32 eye 16777215 h.eye_small (lit< tt);
-}
+axis_asks low high at eye r radius k h p =
+    grind (arith, common_steps, equal_small, read_small, side_small)
 
 pub x_asks : (b : NormalBox) (p eye : Place) (r : ℤ) (radius k : ℕ) → IsSmallBox b
     → IsRead r p.x p → IsEye eye → radius ≤ k → AxisAsks b.low.x b.high.x r eye.x radius k
@@ -214,16 +176,7 @@ pub axis_of_ends : (w : Width) (m : ℕ) → m < 2 ^ hbits w → (product : Prod
     → IsEnd (read w32 at +ℤ pos radius -ℤ read w32 eye) d
     → Gives w p (on_axis product a b at eye radius) m
 axis_of_ends w m l product p a b c d at eye radius f g e s sa sb hc hd =
-    gives w p (on_axis product a b at eye radius) m
-    (by_value w m l p (on_axis product a b at eye radius)
-    (e ∙ rw (
-      read_is w64 a (2 ^ 34) sa (lit< tt),
-      read_is w64 b (2 ^ 34) sb (lit< tt),
-      read_is w64 c (2 ^ 40) hc.small (lit< tt),
-      read_is w64 d (2 ^ 40) hd.small (lit< tt),
-      below_is c at eye radius f g hc.value,
-      above_is d at eye radius f g hd.value,
-    ) refl) s)
+    grind (arith, common_steps, above_is, below_is, by_value, gives, read_is)
 
 -- A product on an axis, of sides and numbers that were read.
 abbrev pub IsOnAxis : Product → ℕ → ℤ → ℤ → ℤ → ℤ → ℕ → ℤ → Type 0
@@ -238,14 +191,7 @@ axis_computes : (w : Width) (m : ℕ) → m < 2 ^ hbits w → (product : Product
     → IsOnAxis product m low high r eye radius p
     → Computes w p (on_axis product low high at eye radius) m
 axis_computes w m l product low high at eye r p radius h e =
-    by_value w m l p (on_axis product low high at eye radius)
-    (e.value ∙ rw (
-      read_is w64 low 8589410312 h.low_small (lit< tt),
-      read_is w64 high 8589410312 h.high_small (lit< tt),
-      h.is,
-      read_is w32 at 32767 h.at_small (lit< tt),
-      read_is w32 eye 16777215 h.eye_small (lit< tt),
-    ) refl) e.small
+    grind (arith, common_steps, by_value, read_is)
 
 sum_is : (w : Width) (m : ℕ) → 3 * m < 2 ^ hbits w → (t x y z a b c : ℤ)
     → t ≡ read w x +ℤ read w y +ℤ read w z → Computes w x a m → Computes w y b m

@@ -1,5 +1,6 @@
 -- A plane in range, and its value at a place as it is computed.
-use Rattle.std.proofs.Common.{◌≡◌, ◌^◌, ◌≤◌, true, w32, w64, to_z, of_z, refl, ◌∙◌, lit<}
+use Rattle.std.proofs.Common.{arith, ◌≡◌, ◌^◌, ◌≤◌, true, w32, w64, to_z, of_z, refl, ◌∙◌, lit<}
+use Rattle.std.proofs.lemmas.Grind.{common_steps}
 use Rattle.std.proofs.lemmas.Bool.{and_parts, leb-true}
 use Rattle.std.specs.Prelude.{ℤ, ◌+ℤ◌, ◌*ℤ◌, unsigned_abs}
 use Rattle.pm_view.specs.declared.limits.TheConstants.{GREATEST_NORMAL_COMPONENT, GREATEST_OFFSET}
@@ -15,16 +16,7 @@ pub record IsSmallPlane (f : Plane) : Type 0 where
   pub d : unsigned_abs f.d ≤ GREATEST_OFFSET
 
 pub small_plane : (f : Plane) → is_plane f ≡ true → IsSmallPlane f
-small_plane f e =
-    let abc = and_parts _ _ e in
-    let ab = and_parts _ _ abc.0 in
-    let a = and_parts _ _ ab.0 in
-    record {
-      a = leb-true _ _ a.0;
-      b = leb-true _ _ a.1;
-      c = leb-true _ _ ab.1;
-      d = leb-true _ _ abc.1;
-    }
+small_plane f e = grind (arith, common_steps, and_parts, leb-true)
 
 pub term_is : (r a x y : ℤ) → r ≡ to_z w32 (of_z w32 a) *ℤ to_z w32 (of_z w32 y) → y ≡ x
     → unsigned_abs a ≤ 32767 → unsigned_abs x ≤ 32767 → r ≡ a *ℤ x
@@ -37,14 +29,4 @@ pub sum_is : (r p q s d p' q' s' : ℤ)
     → unsigned_abs p ≤ 2 ^ 31 → unsigned_abs q ≤ 2 ^ 31 → unsigned_abs s ≤ 2 ^ 31
     → unsigned_abs d ≤ 2 ^ 42 → unsigned_abs r ≤ 2 ^ 43 → p ≡ p' → q ≡ q' → s ≡ s'
     → to_z w64 (of_z w64 r) ≡ p' +ℤ q' +ℤ s' +ℤ d
-sum_is r p q s d p' q' s' e sp sq ss sd sr ep eq es =
-    read_is w64 r (2 ^ 43) sr (lit< tt)
-    ∙ (e ∙ rw (
-      read_is w64 p (2 ^ 31) sp (lit< tt),
-      read_is w64 q (2 ^ 31) sq (lit< tt),
-      read_is w64 s (2 ^ 31) ss (lit< tt),
-      read_is w64 d (2 ^ 42) sd (lit< tt),
-      ep,
-      eq,
-      es,
-    ) refl)
+sum_is r p q s d p' q' s' e sp sq ss sd sr ep eq es = grind (arith, common_steps, read_is)
