@@ -33,10 +33,7 @@ module _ (m n : Net) (same : IsSameNet m n) where
 
   pub once_back : NoSideTwice n → NoSideTwice m
   once_back once e g s r from_is to_is =
-      let a = stands-from e s in
-      let b = stands-from g r in
-      once e g a b (sym (same.from e a.is_side) ∙ from_is ∙ same.from g b.is_side)
-      (sym (same_to e a.is_side) ∙ to_is ∙ same_to g b.is_side)
+      grind (arith, common_steps, same_to e, same_to g, stands-from e s, stands-from g r)
 
   runs_same : (e g : ℕ) → e < side_count n → g < side_count n → runs_back m e g ≡ runs_back n e g
   unfolding stands
