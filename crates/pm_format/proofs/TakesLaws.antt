@@ -15,7 +15,7 @@ use Rattle.pm_forest.specs.declared.parts.Shape.{Shape}
 use Rattle.pm_forest.specs.Rules.{AllFit, root_fault, base_fault}
 use Rattle.pm_format.specs.declared.stop.Stop.TheVariants as stops
 use Rattle.pm_format.specs.Words.{AreWords}
-use Rattle.pm_format.specs.Stream.{root_words, base_words, version_words}
+use Rattle.pm_format.specs.Stream.{magic_word, root_words, base_words, version_words}
 use Rattle.pm_format.specs.Reading.{root_at, base_at, whole, fitting, units_at, root_after}
 use Rattle.pm_format.specs.Reading.{base_after, counts_at, told_digits, digits_at, digits_in}
 use Rattle.pm_format.specs.Reading.{header_at}
@@ -111,19 +111,19 @@ bases_read roots before ws u fit is =
 
 -- The words begin with the magic, if there are any.
 abbrev pub BeginsWithMagic : List ℕ → Type 0
-BeginsWithMagic ws = (w : ℕ) (rest : List ℕ) → ws ≡ w ∷ rest → w ≡ 1297106006
+BeginsWithMagic ws = (w : ℕ) (rest : List ℕ) → ws ≡ w ∷ rest → w ≡ magic_word
 
 -- The number of decimals that was read, and the words after it.
 record DigitsTake (ws rest : List ℕ) (digits : ℕ) : Type 0 where
   few : digits ≤ 4
-  parts : ws ≡ 1297106006 ∷ (version_words digits ++ rest)
+  parts : ws ≡ magic_word ∷ (version_words digits ++ rest)
   rest_fits : AreWords rest
 
 pub record HeaderTakes (ws rest : List ℕ) (c : Counts) : Type 0 where
   pub digits : ℕ
   pub few : digits ≤ 4
   pub told : digits_in (digits_at ws) ≡ digits
-  pub parts : ws ≡ 1297106006
+  pub parts : ws ≡ magic_word
       ∷ (version_words digits ++ c.leaves ∷ c.roots ∷ c.bases ∷ c.records ∷ rest)
   pub rest_fits : AreWords rest
 
@@ -156,7 +156,7 @@ told_take false (suc d) ws u bad is fit =
     grind (arith, common_steps, ltb-false, or_parts, same_Ok, version_two)
 
 version_take : (first second : Bool) (m v : ℕ) (ws : List ℕ) (u : ℕ × List ℕ) → eqb v 1 ≡ first
-    → eqb v 2 ≡ second → m ≡ 1297106006 →
+    → eqb v 2 ≡ second → m ≡ magic_word →
     cond first (Ok (0, ws)) (cond second (told_digits ws) (Err (stops.Version v))) ≡ Ok u
     → AreWords ws → DigitsTake (m ∷ v ∷ ws) u.1 u.0
 version_take true second m v ws u one two at_m is fit =
@@ -186,6 +186,6 @@ header_takes ws u magic fit is =
       digits = d.0;
       few = t.few;
       told = ap digits_in was;
-      parts = t.parts ∙ ap (λ (l : List ℕ). 1297106006 ∷ (version_words d.0 ++ l)) counts.parts;
+      parts = t.parts ∙ ap (λ (l : List ℕ). magic_word ∷ (version_words d.0 ++ l)) counts.parts;
       rest_fits = counts.rest_fits;
     })

@@ -1,5 +1,5 @@
 -- A text in bytes, and the hierarchy that its words spell.
-use Rattle.std.proofs.Common.{◌≡◌, ℕ, zero, suc, ◌+◌, ◌-◌, ◌*◌, ◌≤◌, ltb, Bool, true, false, cond}
+use Rattle.std.proofs.Common.{◌≡◌, ℕ, zero, suc, ◌*◌, ◌≤◌, ltb, Bool, true, false, cond}
 use Rattle.std.proofs.lemmas.Grind.{common_steps}
 use Rattle.std.proofs.Common.{List, [], ◌∷◌, ◌++◌, Some, None, Result, Ok, Err, length, sum, take}
 use Rattle.std.proofs.Common.{drop, get_or, refl, sym, ◌∙◌, ap, subst, arith, append_assoc}
@@ -19,7 +19,8 @@ use Rattle.pm_forest.proofs.ShapingLaws.{leaves_all}
 use Rattle.pm_format.specs.declared.fault.FormatError.TheVariants as faults
 use Rattle.pm_format.specs.declared.stop.Stop.{Stop}
 use Rattle.pm_format.specs.Words.{words_of, spelled, AreWords, IsBytes}
-use Rattle.pm_format.specs.Stream.{root_words, base_words, record_words, version_words, count_words}
+use Rattle.pm_format.specs.Stream.{magic_word, root_words, base_words, record_words, version_words}
+use Rattle.pm_format.specs.Stream.{count_words}
 use Rattle.pm_format.specs.Stream.{stream_words, stream}
 use Rattle.pm_format.specs.Reading.{root_after, base_after, record_after_all, units_at, digits_at}
 use Rattle.pm_format.specs.Reading.{digits_in, header_at, rest_at, forest_at}
@@ -58,7 +59,7 @@ pub record ForestTakes (ws : List ℕ) (h : Hierarchy) (rest : List ℕ) : Type 
 
 -- The words of a text, part by part.
 spread : (d : ℕ) (h : Hierarchy) (units rest : List ℕ) →
-    (1297106006 ∷ (version_words d ++ count_words h) ++ units) ++ rest ≡ 1297106006
+    (magic_word ∷ (version_words d ++ count_words h) ++ units) ++ rest ≡ magic_word
     ∷ (version_words d ++ (count_words h ++ (units ++ rest)))
 spread d h units rest = grind (arith, common_steps, append_assoc)
 
@@ -123,7 +124,7 @@ forest_takes ws h rest magic fit is =
       };
       takes = record {
         parts = head.parts
-            ∙ (λ j. 1297106006
+            ∙ (λ j. magic_word
             ∷ (version_words head.digits ++ leaves j ∷ root_count j ∷ base_count j ∷ count j
             ∷ tail j))
             ∙ sym (spread head.digits h (unit_words h.roots h.bases h.records) rest);
@@ -132,7 +133,7 @@ forest_takes ws h rest magic fit is =
     }))))
 
 -- The number of decimals is read again.
-digits_again : (d : ℕ) (ws : List ℕ) → d ≤ 4 → digits_at (1297106006 ∷ (version_words d ++ ws))
+digits_again : (d : ℕ) (ws : List ℕ) → d ≤ 4 → digits_at (magic_word ∷ (version_words d ++ ws))
     ≡ Ok (d, ws)
 unfolding digits_at
 digits_again zero ws few = refl

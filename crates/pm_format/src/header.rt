@@ -8,7 +8,7 @@ use crate::FormatError;
 use crate::feeding::Held;
 use crate::stage::Stage;
 use crate::stop::Stop;
-use crate::units::{WITH_DIGITS, take_header};
+use crate::units::{MAGIC, WITH_DIGITS, take_header};
 use crate::words::Words;
 use pm_forest::Shaper;
 use std::alloc::Global;
@@ -56,7 +56,7 @@ pub fn gather(held: &mut Held, piece: &[u8]) -> usize
 fn is_magic_bad(bytes: &[u8]) -> bool
     ensures { result ≡ magic_is_bad bytes.now }
 {
-    !b"VDPM".starts_with(&bytes[..bytes.len().min(4)])
+    !MAGIC.starts_with(&bytes[..bytes.len().min(4)])
 }
 
 // What a header that stops is: begun, or refused.

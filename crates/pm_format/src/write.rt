@@ -39,7 +39,14 @@ fn word_of(side: Option<Side>) -> u32
 fn whole_header(h: &Hierarchy) -> [u32; 6]
     ensures { result ≡ header_words 0 h.now }
 {
-    [MAGIC, WHOLE, h.leaves(), h.roots(), h.bases(), h.records()]
+    [
+        u32::from_le_bytes(MAGIC),
+        WHOLE,
+        h.leaves(),
+        h.roots(),
+        h.bases(),
+        h.records(),
+    ]
 }
 
 fn header_with_digits(h: &Hierarchy, digits: u32) -> [u32; 7]
@@ -47,7 +54,7 @@ fn header_with_digits(h: &Hierarchy, digits: u32) -> [u32; 7]
     ensures { result ≡ header_words digits h.now }
 {
     [
-        MAGIC,
+        u32::from_le_bytes(MAGIC),
         WITH_DIGITS,
         digits,
         h.leaves(),
