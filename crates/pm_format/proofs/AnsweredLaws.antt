@@ -1,11 +1,10 @@
 -- What a decoder answers.
-use Rattle.std.proofs.Common.{◌≡◌, ◌⊎◌, ℕ, zero, suc, ◌+◌, ◌-◌, ◌*◌, ◌<◌, ◌≤◌, true}
+use Rattle.std.proofs.Common.{◌≡◌, ◌⊎◌, ℕ, zero, suc, ◌+◌, ◌*◌, ◌<◌, ◌≤◌, true}
 use Rattle.std.proofs.Common.{List, [], ◌∷◌, ◌++◌, Some, IfOk, IfErr, Result}
 use Rattle.std.proofs.Common.{Ok, Err, length, take, drop, inl, inr, refl, sym, ◌∙◌, ap, subst}
 use Rattle.std.proofs.Common.{arith, append_assoc}
 use Rattle.std.proofs.lemmas.List.{append-nil, take_all}
 use Rattle.std.proofs.lemmas.List.{length-take-le, take-append-drop}
-use Rattle.pm_forest.specs.declared.parts.Shape.TheVariants as shapes
 use Rattle.pm_forest.specs.declared.parts.UnitKind.{UnitKind}
 use Rattle.pm_forest.specs.declared.parts.UnitKind.TheVariants as kinds
 use Rattle.pm_forest.specs.Forest.{Hierarchy}
@@ -13,7 +12,6 @@ use Rattle.pm_forest.specs.Shaping.{Shaping, expects}
 use Rattle.pm_format.specs.declared.fault.FormatError.{FormatError}
 use Rattle.pm_format.specs.declared.fault.FormatError.TheVariants as faults
 use Rattle.pm_format.specs.declared.stop.Stop.{Stop}
-use Rattle.pm_format.specs.declared.stop.Stop.TheVariants as stops
 use Rattle.pm_format.specs.declared.taken.Taken.{Taken}
 use Rattle.pm_format.specs.declared.stage.Stage.{Stage}
 use Rattle.pm_format.specs.declared.stage.Stage.TheVariants as stages

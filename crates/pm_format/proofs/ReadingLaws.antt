@@ -1,5 +1,5 @@
 -- Reading units one after the other, as a loop does.
-use Rattle.std.proofs.Common.{◌≡◌, ℕ, suc, ◌+◌, ◌-◌, ◌<◌, ◌≤◌, List, [], ◌∷◌, ◌++◌, Option, Some}
+use Rattle.std.proofs.Common.{◌≡◌, ℕ, suc, ◌+◌, ◌-◌, ◌<◌, ◌≤◌, List, Option, Some}
 use Rattle.std.proofs.Common.{None, Result, Ok, Err, refl, ap, arith}
 use Rattle.pm_forest.specs.declared.parts.Shape.{Shape}
 use Rattle.pm_format.specs.declared.stop.Stop.{Stop}

@@ -2,14 +2,12 @@
 use Rattle.std.proofs.Common.{◌≡◌, ◌⊎◌, ℕ, ◌+◌, ◌-◌, ◌*◌, ◌<◌, ◌≤◌, Bool, true, false, cond, ◌||◌}
 use Rattle.std.proofs.lemmas.Grind.{common_steps}
 use Rattle.std.proofs.Common.{not, eqb, List, [], ◌∷◌, ◌++◌, Option, Some, None, IfSome, Result, Ok}
-use Rattle.std.proofs.Common.{Err, MatchResult, OnOk, IfErr, length, inl, inr, refl, sym, ◌∙◌, ap}
+use Rattle.std.proofs.Common.{Err, MatchResult, OnOk, IfErr, length, inl, inr, refl, ◌∙◌, ap}
 use Rattle.std.proofs.Common.{subst, arith, length-append}
 use Rattle.std.proofs.lemmas.Bool.{lt-ltb, le-ltb}
 use Rattle.pm_base.specs.Counts.{one_if}
 use Rattle.pm_base.proofs.Counts.{one_if-le}
 use Rattle.pm_forest.specs.declared.parts.Counts.{Counts}
-use Rattle.pm_forest.specs.declared.parts.Root.{Root}
-use Rattle.pm_forest.specs.declared.parts.Head.{Head}
 use Rattle.pm_forest.specs.declared.parts.Unfinished.{Unfinished}
 use Rattle.pm_forest.specs.declared.parts.UnitKind.{UnitKind}
 use Rattle.pm_forest.specs.declared.parts.UnitKind.TheVariants as kinds
@@ -20,10 +18,10 @@ use Rattle.pm_forest.proofs.HeadShaping.{presence_some}
 use Rattle.pm_format.specs.declared.stop.Stop.{Stop}
 use Rattle.pm_format.specs.declared.stop.Stop.TheVariants as stops
 use Rattle.pm_format.specs.Words.{words_of}
-use Rattle.pm_format.specs.Reading.{read_map, judged, fitting, root_at, base_at, head_at}
+use Rattle.pm_format.specs.Reading.{read_map, fitting, root_at, base_at, head_at}
 use Rattle.pm_format.specs.Reading.{new_face_at, FaceUnit, root_after, base_after, face_after}
 use Rattle.pm_format.specs.Reading.{took_root, took_base, took_face}
-use Rattle.pm_format.specs.Decoding.{on_from, rest_from, IsWaiting, due_bytes, begun_count}
+use Rattle.pm_format.specs.Decoding.{rest_from, IsWaiting, due_bytes, begun_count}
 use Rattle.pm_format.specs.Decoding.{bytes_to_come, took_head, TakenIn, ReadingStopsAt}
 use Rattle.pm_format.proofs.ReadingLaws.{read_map_ok}
 use Rattle.pm_format.proofs.FaceSteps.{face_in, after_left, after_right}
@@ -76,104 +74,91 @@ read_map_err make (Err f) e is = ap (λ v. Err v) (ap (stop_in f) is)
 abbrev pub Took : Shaping → List ℕ → Result (Unit {0}) Stop → Shaping → Type 0
 Took s unit r t = OnOk r (TakenIn s unit t) × IfErr r (ReadingStopsAt s unit)
 
-stops_here : (s : Shaping) (unit : List ℕ) (e : Stop) → (e ≡ stops.End → ⊥)
-    → ((more : List ℕ) → rest_from s (words_of (unit ++ more)) ≡ Err e) → ReadingStopsAt s unit e
-stops_here s unit e judged off = record { off = off; judged = judged }
+-- A unit taken in where reading it alone, and what is read after it, are told.
+module _ {X : Type 0} (s : Shaping) (unit ws : List ℕ) (words : ws ≡ words_of unit)
+    (make : X → Shaping) (read : List ℕ → Result (X × List ℕ) Stop)
+    (judged : JudgedAlone (read (words_of unit)) (λ more. read (words_of (unit ++ more))))
+    (on : (v : List ℕ) (u : X × List ℕ) → read v ≡ Ok u
+    → rest_from s v ≡ rest_from (make u.0) u.1)
+    (off : (v : List ℕ) (e : Stop) → read v ≡ Err e → rest_from s v ≡ Err e)
+    (fits : (u : X × List ℕ) → read (words_of unit) ≡ Ok u
+    → IsWaiting (make u.0) × (bytes_to_come (make u.0) + length unit ≤ bytes_to_come s)) where
+  abbrev taken : X × List ℕ → Shaping × List ℕ
+  taken u = (make u.0, u.1)
 
-root_took_of : (s t : Shaping) (unit rest : List ℕ) (r : Result (Unit {0}) Stop)
-    → expects s ≡ kinds.Root → length unit ≡ 20
-    → MatchResult r (λ _. read_map (took_root s) (root_after s.counts s.h.roots (words_of unit))
-    ≡ Ok (t, rest)) (λ e. root_after s.counts s.h.roots (words_of unit) ≡ Err e)
-    → Took s unit r t
-root_took_of s t unit rest (Ok done) next size read =
-    let (u, was, took) = read_map_ok (took_root s) (root_after s.counts s.h.roots (words_of unit))
-    (t, rest) read in
-    let a = alone 5 root_at (root_fault s.counts s.h.roots) unit root_has size in
+  took_alone : (t : Shaping) (rest : List ℕ) (r : Result (Unit {0}) Stop)
+      → MatchResult r (λ _. read_map taken (read (words_of unit)) ≡ Ok (t, rest))
+      (λ e. read (words_of unit) ≡ Err e) → Took s unit r t
+  took_alone t rest (Ok done) is =
+      let (u, was, took) = read_map_ok taken (read (words_of unit)) (t, rest) is in
+      let same : make u.0 ≡ t = ap (λ (v : Shaping × List ℕ). v.0) took in
+      let (waits, less) = fits u was in (
+        subst (λ v. TakenIn s unit v) same (record {
+          on = λ more. on (words_of (unit ++ more)) (u.0, words_of more) (judged.on u was more);
+          waits = waits;
+          less = less;
+        }),
+        tt,
+      )
+  took_alone t rest (Err e) stop = (
+    tt,
+    record {
+      off = λ more. off (words_of (unit ++ more)) e (judged.off e stop more);
+      judged = λ is. judged.ends (stop ∙ ap (λ v. Err v) is);
+    },
+  )
+
+  took_unit : (t : Shaping) (rest : List ℕ) (r : Result (Unit {0}) Stop)
+      → MatchResult r (λ _. read_map taken (read ws) ≡ Ok (t, rest))
+      (λ e. read ws ≡ Err e) → Took s unit r t
+  took_unit t rest r is =
+      took_alone t rest r (subst (λ v. MatchResult r
+      (λ _. read_map taken (read v) ≡ Ok (t, rest)) (λ e. read v ≡ Err e)) words is)
+
+pub root_took : (s t : Shaping) (unit ws rest : List ℕ) (r : Result (Unit {0}) Stop)
+    → expects s ≡ kinds.Root → length unit ≡ 20 → ws ≡ words_of unit
+    → MatchResult r (λ _. read_map (took_root s) (root_after s.counts s.h.roots ws) ≡ Ok (t, rest))
+    (λ e. root_after s.counts s.h.roots ws ≡ Err e) → Took s unit r t
+root_took s t unit ws rest r next size is read =
     let e = expected s kinds.Root next in
-    let same : (took_root s u).0 ≡ t = ap (λ (v : Shaping × List ℕ). v.0) took in (
-      subst (λ v. TakenIn s unit v) same (record {
-        on = λ more. ap (λ q. on_from s.counts s.h q (words_of (unit ++ more))) e.0
-            ∙ root_on s.counts s.h (words_of (unit ++ more)) (u.0, words_of more) e.1
-            (a.on u was more)
-            ∙ sym (ap (λ q. on_from s.counts (record s.h { roots = s.h.roots ++ u.0 ∷ [] }) q
-            (words_of more)) e.0);
-        waits = subst (λ q. IfSome q (λ p. p.left_due || p.right_due ≡ true)) (sym e.0) tt;
-        less = omega (arith, e.1, length-append s.h.roots (u.0 ∷ []), size);
-      }),
-      tt,
-    )
-root_took_of s t unit rest (Err e) next size stop =
-    let a = alone 5 root_at (root_fault s.counts s.h.roots) unit root_has size in
-    let x = expected s kinds.Root next in (
-      tt,
-      stops_here s unit e (λ is. a.ends (stop ∙ ap (λ v. Err v) is))
-          (λ more. ap (λ q. on_from s.counts s.h q (words_of (unit ++ more))) x.0
-          ∙ root_off s.counts s.h (words_of (unit ++ more)) e x.1 (a.off e stop more)),
-    )
+    took_unit s unit ws is (λ x. (took_root s (x, [])).0) (root_after s.counts s.h.roots)
+    (alone 5 root_at (root_fault s.counts s.h.roots) unit root_has size)
+    (λ v u was. rw e.0 (root_on s.counts s.h v u e.1 was))
+    (λ v stop was. rw e.0 (root_off s.counts s.h v stop e.1 was))
+    (λ u was. (rw e.0 tt, omega (arith, e.1, length-append s.h.roots (u.0 ∷ []), size)))
+    t rest r read
 
-base_took_of : (s t : Shaping) (unit rest : List ℕ) (r : Result (Unit {0}) Stop)
-    → expects s ≡ kinds.Base → length unit ≡ 16
-    → MatchResult r (λ _. read_map (took_base s) (base_after s.h.roots s.h.bases (words_of unit))
-    ≡ Ok (t, rest)) (λ e. base_after s.h.roots s.h.bases (words_of unit) ≡ Err e)
-    → Took s unit r t
-base_took_of s t unit rest (Ok done) next size read =
-    let (u, was, took) = read_map_ok (took_base s) (base_after s.h.roots s.h.bases (words_of unit))
-    (t, rest) read in
-    let a = alone 4 base_at (base_fault s.h.roots s.h.bases) unit base_has size in
+pub base_took : (s t : Shaping) (unit ws rest : List ℕ) (r : Result (Unit {0}) Stop)
+    → expects s ≡ kinds.Base → length unit ≡ 16 → ws ≡ words_of unit
+    → MatchResult r (λ _. read_map (took_base s) (base_after s.h.roots s.h.bases ws) ≡ Ok (t, rest))
+    (λ e. base_after s.h.roots s.h.bases ws ≡ Err e) → Took s unit r t
+base_took s t unit ws rest r next size is read =
     let e = expected s kinds.Base next in
-    let same : (took_base s u).0 ≡ t = ap (λ (v : Shaping × List ℕ). v.0) took in (
-      subst (λ v. TakenIn s unit v) same (record {
-        on = λ more. ap (λ q. on_from s.counts s.h q (words_of (unit ++ more))) e.0
-            ∙ base_on s.counts s.h (words_of (unit ++ more)) (u.0, words_of more) e.1 e.2
-            (a.on u was more)
-            ∙ sym (ap (λ q. on_from s.counts (record s.h { bases = s.h.bases ++ u.0 ∷ [] }) q
-            (words_of more)) e.0);
-        waits = subst (λ q. IfSome q (λ p. p.left_due || p.right_due ≡ true)) (sym e.0) tt;
-        less = omega (arith, e.2, length-append s.h.bases (u.0 ∷ []), size);
-      }),
-      tt,
-    )
-base_took_of s t unit rest (Err e) next size stop =
-    let a = alone 4 base_at (base_fault s.h.roots s.h.bases) unit base_has size in
-    let x = expected s kinds.Base next in (
-      tt,
-      stops_here s unit e (λ is. a.ends (stop ∙ ap (λ v. Err v) is))
-          (λ more. ap (λ q. on_from s.counts s.h q (words_of (unit ++ more))) x.0
-          ∙ base_off s.counts s.h (words_of (unit ++ more)) e x.1 x.2 (a.off e stop more)),
-    )
+    took_unit s unit ws is (λ x. (took_base s (x, [])).0) (base_after s.h.roots s.h.bases)
+    (alone 4 base_at (base_fault s.h.roots s.h.bases) unit base_has size)
+    (λ v u was. rw e.0 (base_on s.counts s.h v u e.1 e.2 was))
+    (λ v stop was. rw e.0 (base_off s.counts s.h v stop e.1 e.2 was))
+    (λ u was. (rw e.0 tt, omega (arith, e.2, length-append s.h.bases (u.0 ∷ []), size)))
+    t rest r read
 
-head_took_of : (s t : Shaping) (unit rest : List ℕ) (r : Result (Unit {0}) Stop)
-    → expects s ≡ kinds.Head → length unit ≡ 44
-    → MatchResult r
-    (λ _. read_map (took_head s) (fitting (head_fault s.h) (head_at (words_of unit)))
-    ≡ Ok (t, rest)) (λ e. fitting (head_fault s.h) (head_at (words_of unit)) ≡ Err e)
-    → Took s unit r t
-head_took_of s t unit rest (Ok done) next size read =
-    let (d, was, took) =
-    read_map_ok (took_head s) (fitting (head_fault s.h) (head_at (words_of unit))) (t, rest)
-    read in
-    let a = alone 11 head_at (head_fault s.h) unit head_has size in
+pub head_took : (s t : Shaping) (unit ws rest : List ℕ) (r : Result (Unit {0}) Stop)
+    → expects s ≡ kinds.Head → length unit ≡ 44 → ws ≡ words_of unit
+    → MatchResult r (λ _. read_map (took_head s) (fitting (head_fault s.h) (head_at ws))
+    ≡ Ok (t, rest)) (λ e. fitting (head_fault s.h) (head_at ws) ≡ Err e) → Took s unit r t
+head_took s t unit ws rest r next size is read =
     let e = expected s kinds.Head next in
-    let same : (took_head s d).0 ≡ t = ap (λ (v : Shaping × List ℕ). v.0) took in
-    let left = one_if-le (not (eqb d.0.presence 2)) in
-    let right = one_if-le (not (eqb d.0.presence 1)) in (
-      subst (λ v. TakenIn s unit v) same (record {
-        on = λ more. ap (λ q. on_from s.counts s.h q (words_of (unit ++ more))) e.0
-            ∙ head_on s.counts s.h (words_of (unit ++ more)) (d.0, words_of more) e.1 e.2 e.3
-            (a.on d was more);
-        waits = presence_some d.0.presence;
-        less = omega (arith, e.3, ap due_bytes e.0, ap begun_count e.0, left, right, size);
-      }),
-      tt,
-    )
-head_took_of s t unit rest (Err e) next size stop =
-    let a = alone 11 head_at (head_fault s.h) unit head_has size in
-    let x = expected s kinds.Head next in (
-      tt,
-      stops_here s unit e (λ is. a.ends (stop ∙ ap (λ v. Err v) is))
-          (λ more. ap (λ q. on_from s.counts s.h q (words_of (unit ++ more))) x.0
-          ∙ head_off s.counts s.h (words_of (unit ++ more)) e x.1 x.2 x.3 (a.off e stop more)),
-    )
+    took_unit s unit ws is (λ x. (took_head s (x, [])).0)
+    (λ v. fitting (head_fault s.h) (head_at v))
+    (alone 11 head_at (head_fault s.h) unit head_has size)
+    (λ v u was. rw e.0 (head_on s.counts s.h v u e.1 e.2 e.3 was))
+    (λ v stop was. rw e.0 (head_off s.counts s.h v stop e.1 e.2 e.3 was))
+    (λ u was.
+    let left = one_if-le (not (eqb u.0.presence 2)) in
+    let right = one_if-le (not (eqb u.0.presence 1)) in (
+      presence_some u.0.presence,
+      omega (arith, e.3, ap due_bytes e.0, ap begun_count e.0, left, right, size),
+    ))
+    t rest r read
 
 face_found : (more : List ℕ) (make : FaceUnit × List ℕ → Unfinished × List ℕ)
     (r longer : Result (FaceUnit × List ℕ) Stop) (q : Unfinished × List ℕ) → read_map make r ≡ Ok q
@@ -230,38 +215,23 @@ face_less h p ws q false true is_left is_right due is =
     omega (arith, ap one_if stage.0, ap one_if stage.1, ap one_if is_left, ap one_if is_right)
 face_less h p ws q false false is_left is_right due is = absurd cc
 
-face_took_of : (s t : Shaping) (p : Unfinished) (unit rest : List ℕ) (r : Result (Unit {0}) Stop)
+face_took_of : (s t : Shaping) (p : Unfinished) (unit ws rest : List ℕ)
+    (r : Result (Unit {0}) Stop) → ws ≡ words_of unit
     → s.coming ≡ Some p → p.left_due || p.right_due ≡ true → length unit ≡ 24
-    → MatchResult r (λ _. read_map (took_face s) (face_after s.h p (words_of unit)) ≡ Ok (t, rest))
-    (λ e. face_after s.h p (words_of unit) ≡ Err e) → Took s unit r t
-face_took_of s t p unit rest (Ok done) coming due size read =
-    let (q, was, took) = read_map_ok (took_face s) (face_after s.h p (words_of unit)) (t, rest)
-    read in
-    let a = face_alone s.h p unit size in
-    let same : settled s.counts s.h q.0 ≡ t = ap (λ (v : Shaping × List ℕ). v.0) took in (
-      subst (λ v. TakenIn s unit v) same (record {
-        on = λ more. ap (λ q. on_from s.counts s.h q (words_of (unit ++ more))) coming
-            ∙ face_on s.counts s.h p (words_of (unit ++ more)) (q.0, words_of more) due
-            (a.on q was more);
-        waits = settled_waits s.counts s.h q.0 (q.0.left_due || q.0.right_due) refl;
-        less = omega (
-          arith,
-          settled_less s.counts s.h q.0 (q.0.left_due || q.0.right_due) refl,
-          face_less s.h p (words_of unit) q p.left_due p.right_due refl refl due was,
-          ap due_bytes coming,
-          ap begun_count coming,
-          size,
-        );
-      }),
-      tt,
-    )
-face_took_of s t p unit rest (Err e) coming due size stop =
-    let a = face_alone s.h p unit size in (
-      tt,
-      stops_here s unit e (λ is. a.ends (stop ∙ ap (λ v. Err v) is))
-          (λ more. ap (λ q. on_from s.counts s.h q (words_of (unit ++ more))) coming
-          ∙ face_off s.counts s.h p (words_of (unit ++ more)) e due (a.off e stop more)),
-    )
+    → MatchResult r (λ _. read_map (took_face s) (face_after s.h p ws) ≡ Ok (t, rest))
+    (λ e. face_after s.h p ws ≡ Err e) → Took s unit r t
+face_took_of s t p unit ws rest r is coming due size read =
+    took_unit s unit ws is (λ x. (took_face s (x, [])).0) (face_after s.h p)
+    (face_alone s.h p unit size)
+    (λ v u was. rw coming (face_on s.counts s.h p v u due was))
+    (λ v stop was. rw coming (face_off s.counts s.h p v stop due was))
+    (λ u was.
+    let less = settled_less s.counts s.h u.0 (u.0.left_due || u.0.right_due) refl in
+    let one = face_less s.h p (words_of unit) u p.left_due p.right_due refl refl due was in (
+      settled_waits s.counts s.h u.0 (u.0.left_due || u.0.right_due) refl,
+      omega (arith, less, one, ap due_bytes coming, ap begun_count coming, size),
+    ))
+    t rest r read
 
 -- a face comes where a record is begun
 pub face_coming : (s : Shaping) → (expects s ≡ kinds.LeftFace) ⊎ (expects s ≡ kinds.RightFace)
@@ -269,36 +239,15 @@ pub face_coming : (s : Shaping) → (expects s ≡ kinds.LeftFace) ⊎ (expects 
 face_coming s (inl left) none = let e = expected s kinds.LeftFace left in absurd (cc (e.1, none))
 face_coming s (inr right) none = let e = expected s kinds.RightFace right in absurd (cc (e.1, none))
 
-pub root_took : (s t : Shaping) (unit ws rest : List ℕ) (r : Result (Unit {0}) Stop)
-    → expects s ≡ kinds.Root → length unit ≡ 20 → ws ≡ words_of unit
-    → MatchResult r (λ _. read_map (took_root s) (root_after s.counts s.h.roots ws) ≡ Ok (t, rest))
-    (λ e. root_after s.counts s.h.roots ws ≡ Err e) → Took s unit r t
-root_took s t unit ws rest r next size is read =
-    grind (arith, common_steps, root_took_of s t unit rest r next size)
-
-pub base_took : (s t : Shaping) (unit ws rest : List ℕ) (r : Result (Unit {0}) Stop)
-    → expects s ≡ kinds.Base → length unit ≡ 16 → ws ≡ words_of unit
-    → MatchResult r (λ _. read_map (took_base s) (base_after s.h.roots s.h.bases ws) ≡ Ok (t, rest))
-    (λ e. base_after s.h.roots s.h.bases ws ≡ Err e) → Took s unit r t
-base_took s t unit ws rest r next size is read =
-    grind (arith, common_steps, base_took_of s t unit rest r next size)
-
-pub head_took : (s t : Shaping) (unit ws rest : List ℕ) (r : Result (Unit {0}) Stop)
-    → expects s ≡ kinds.Head → length unit ≡ 44 → ws ≡ words_of unit
-    → MatchResult r (λ _. read_map (took_head s) (fitting (head_fault s.h) (head_at ws))
-    ≡ Ok (t, rest)) (λ e. fitting (head_fault s.h) (head_at ws) ≡ Err e) → Took s unit r t
-head_took s t unit ws rest r next size is read =
-    grind (arith, common_steps, head_took_of s t unit rest r next size)
-
-face_took_at : (s t : Shaping) (unit rest : List ℕ) (r : Result (Unit {0}) Stop)
+face_took_at : (s t : Shaping) (unit ws rest : List ℕ) (r : Result (Unit {0}) Stop)
     (coming : Option Unfinished) → s.coming ≡ coming → (coming ≡ None → ⊥)
-    → IfSome coming (λ p. p.left_due || p.right_due ≡ true) → length unit ≡ 24
+    → IfSome coming (λ p. p.left_due || p.right_due ≡ true) → length unit ≡ 24 → ws ≡ words_of unit
     → IfSome coming
-    (λ p. MatchResult r (λ _. read_map (took_face s) (face_after s.h p (words_of unit))
-    ≡ Ok (t, rest)) (λ e. face_after s.h p (words_of unit) ≡ Err e)) → Took s unit r t
-face_took_at s t unit rest r None is some due size read = absurd (some refl)
-face_took_at s t unit rest r (Some p) is some due size read =
-    face_took_of s t p unit rest r is due size read
+    (λ p. MatchResult r (λ _. read_map (took_face s) (face_after s.h p ws) ≡ Ok (t, rest))
+    (λ e. face_after s.h p ws ≡ Err e)) → Took s unit r t
+face_took_at s t unit ws rest r None coming some due size is read = absurd (some refl)
+face_took_at s t unit ws rest r (Some p) coming some due size is read =
+    face_took_of s t p unit ws rest r is coming due size read
 
 pub face_took : (s t : Shaping) (unit ws rest : List ℕ) (r : Result (Unit {0}) Stop)
     → (expects s ≡ kinds.LeftFace) ⊎ (expects s ≡ kinds.RightFace) → IsWaiting s → length unit ≡ 24
@@ -307,7 +256,4 @@ pub face_took : (s t : Shaping) (unit ws rest : List ℕ) (r : Result (Unit {0})
     (λ p. MatchResult r (λ _. read_map (took_face s) (face_after s.h p ws) ≡ Ok (t, rest))
     (λ e. face_after s.h p ws ≡ Err e)) → Took s unit r t
 face_took s t unit ws rest r next waits size is read =
-    face_took_at s t unit rest r s.coming refl (face_coming s next) waits size
-    (subst (λ v. IfSome s.coming
-    (λ p. MatchResult r (λ _. read_map (took_face s) (face_after s.h p v) ≡ Ok (t, rest))
-    (λ e. face_after s.h p v ≡ Err e))) is read)
+    face_took_at s t unit ws rest r s.coming refl (face_coming s next) waits size is read

@@ -1,6 +1,7 @@
 -- The words of a unit, as an array of them.
 use Rattle.std.proofs.Common.{◌≡◌, ℕ, ℤ, ◌<◌, List, [], ◌∷◌, ◌++◌, length, get_or, Some, None}
-use Rattle.std.proofs.Common.{refl, sym, ap, ◌∙◌, arith}
+use Rattle.std.proofs.lemmas.Grind.{common_steps}
+use Rattle.std.proofs.Common.{refl, arith}
 use Rattle.pm_forest.specs.declared.parts.Head.{Head}
 use Rattle.pm_format.specs.Reading.{root_at, base_at, head_at, new_face_at, counts_at}
 use Rattle.pm_format.specs.Reading.{signed_place}
@@ -68,11 +69,7 @@ pub some_head : (ws unit rest : List ℕ) (t u : List ℤ) → length unit ≡ 1
     → u ≡ signed_place (get_or unit 6 0) (get_or unit 7 0) (get_or unit 8 0)
     → head_at ws ≡ Some (head_of unit t u, rest)
 some_head ws (a ∷ b ∷ c ∷ d ∷ e ∷ f ∷ g ∷ h ∷ i ∷ j ∷ k ∷ []) rest t u size is t_is u_is =
-    ap head_at is
-    ∙ (λ n. Some (
-      head_of (a ∷ b ∷ c ∷ d ∷ e ∷ f ∷ g ∷ h ∷ i ∷ j ∷ k ∷ []) (sym t_is n) (sym u_is n),
-      rest,
-    ))
+    grind (arith, common_steps)
 some_head ws [] rest t u size is t_is u_is = absurd (omega (arith, size))
 some_head ws (_ ∷ []) rest t u size is t_is u_is = absurd (omega (arith, size))
 some_head ws (_ ∷ _ ∷ []) rest t u size is t_is u_is = absurd (omega (arith, size))
