@@ -30,6 +30,15 @@ HasNoMirror m = (v : ℕ) → NoMirrorAt m v
 abbrev pub Leads : Net → ℕ → ℕ → Type 0
 Leads m v x = (y : ℕ) × IsPairAt m v x y
 
+-- A side from v to x is a pair at v.
+abbrev pub pair_from : (m : Net) (v x e : ℕ) → Stands m e → m.from e ≡ v → to m e ≡ x
+    → IsPairAt m v x (third m e)
+pair_from m v x e there at one =
+    record { side = e; stands = there; at = at; one = one; two = refl }
+
+pub leads_by : (m : Net) (v x e : ℕ) → Stands m e → m.from e ≡ v → to m e ≡ x → Leads m v x
+leads_by m v x e there at one = (third m e, pair_from m v x e there at one)
+
 pub leads? : (m : Net) (v x : ℕ) → Decided (Leads m v x)
 leads? m v x =
     elim (search_below (λ e. Stands m e × (m.from e ≡ v) × (to m e ≡ x)) (λ e.
@@ -38,7 +47,7 @@ leads? m v x =
       | inl t ↦ grind (arith, common_steps)
     ]) (side_count m)) [
       | inl (e, l, (t, a, b)) ↦
-          inl (third m e, record { side = e; stands = t; at = a; one = b; two = refl })
+          inl (leads_by m v x e t a b)
       | inr none ↦ inr (λ h. none h.1.side h.1.stands.is_side (h.1.stands, h.1.at, h.1.one))
     ]
 

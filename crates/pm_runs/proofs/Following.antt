@@ -57,6 +57,17 @@ module _ (n : Net) (t u s : ℕ) (beyond : ℕ → Option ℕ) (h : IsSplit n t 
             ]
       ]
 
+  pub cut_between : (e g : ℕ) → Stands net_before e → Stands net_before g
+      → name_before (n.from e) ≡ name_before (n.from g)
+      → name_before (third n e) ≡ name_before (to n g) → n.from e ≢ n.from g
+      → IsPairAt n (n.from e) (third n e) (n.from g)
+  cut_between e g et gt a b apart =
+      elim (meets e g et gt a b) [
+        | direct x y ↦ absurd (apart (sym x))
+        | fan x y ↦ absurd (apart (sym x))
+        | cut x k ↦ k
+      ]
+
   pub stays : (x0 x : ℕ) → name_before x0 ≡ x → x ≢ s → x0 ≡ x
   stays x0 x is ne = (unmoved n t u s h.fresh x0 x is ne).0
 

@@ -13,9 +13,10 @@ use Rattle.pm_runs.specs.Pairs.{IsPair as AreEnds}
 use Rattle.pm_runs.proofs.Apart.{stood}
 use Rattle.pm_runs.proofs.MergedPairs.{new-other, not_s, same_new}
 use Rattle.pm_runs.specs.Splits.{IsSplit}
-use Rattle.pm_runs.proofs.Facts.{twin_beyond, HasNoMirror, Leads, leads?, begins?}
-use Rattle.pm_runs.proofs.Split.{merged_name, merged_net, swap, ends_of, next_ends, prev_ends}
-use Rattle.pm_runs.proofs.Split.{new_next, renamed_face, no_side_twice_after}
+use Rattle.pm_runs.proofs.Facts.{HasNoMirror, Leads, pair_from, leads_by, leads?, begins?}
+use Rattle.pm_runs.proofs.Split.{merged_name, merged_net, swap, ends_of, next_ends, by_next}
+use Rattle.pm_runs.proofs.Split.{by_prev}
+use Rattle.pm_runs.proofs.Split.{meets_old, new_next, renamed_face, no_side_twice_after}
 use Rattle.pm_runs.proofs.Following.{direct, fan, cut, meets, stays, old_face, second_end}
 use Rattle.pm_runs.proofs.Following.{other_of}
 
@@ -52,13 +53,8 @@ module _ (n : Net) (t u s : ℕ) (beyond : ℕ → Option ℕ) (h : IsSplit n t 
     before f there = grind (arith, common_steps, v-is)
 
     at_v : {x y : ℕ} (f : IsPairAt net_before v x y) → IsPairAt n v (to n f.side) (third n f.side)
-    at_v f = record {
-      side = f.side;
-      stands = stood n t u s h.fresh f.side f.stands;
-      at = stays n t u s beyond h once plain (n.from f.side) v f.at vs;
-      one = refl;
-      two = refl;
-    }
+    at_v f = pair_from n v (to n f.side) f.side (stood n t u s h.fresh f.side f.stands)
+        (stays n t u s beyond h once plain (n.from f.side) v f.at vs) refl
 
     module _ (a y0 : ℕ) (f0 : IsPairAt net_before v a y0) where
       goes_after : {c x : ℕ} → Goes net_before v c x → c ≡ a
@@ -81,14 +77,8 @@ module _ (n : Net) (t u s : ℕ) (beyond : ℕ → Option ℕ) (h : IsSplit n t 
       module _ (all : (x y : ℕ) → IsPairAt net_before v x y → Goes net_before v a x) where
         reach_side : (e : ℕ) → Stands net_before e → n.from e ≡ v → Goes n v (to n f0.side) (to n e)
         reach_side e there at =
-            let f : IsPairAt net_before v (name_before (to n e))
-            (name_before (third n e)) = record {
-              side = e;
-              stands = there;
-              at = ap name_before at ∙ v-is;
-              one = refl;
-              two = refl;
-            } in
+            let f = pair_from net_before v (name_before (to n e)) e there
+            (ap name_before at ∙ v-is) refl in
             goes_after (all (name_before (to n e)) (name_before (third n e)) f) refl
             (name_before (third n e)) f
 
@@ -121,32 +111,11 @@ module _ (n : Net) (t u s : ℕ) (beyond : ℕ → Option ℕ) (h : IsSplit n t 
         starts_after_new p q ends f none =
             let k = turn n v p q f in
             let (a1, a2, a3, at) = next_ends n t u s beyond h k in
-            let (c1, c2, c3, ct) = prev_ends n t u s beyond h k in
-            let (b, bt, side) = h.held p q v ends k in
-            elim side [
-              | inr l ↦ (let (bn, bf, bto) = twin_beyond h (prev k.side) b ct l in
-                  absurd (none (
-                    third n b,
-                    record {
-                      side = b;
-                      stands = bn;
-                      at = bf ∙ c2;
-                      one = bto ∙ c1;
-                      two = refl;
-                    },
-                  )))
-              | inl l ↦
-                  let (bn, bf, bto) = twin_beyond h (next k.side) b at l in
-                  let b_v : n.from b ≡ v = bf ∙ a2 in
-                  let b_q : to n b ≡ q = bto ∙ a1 in
-                  let F : IsPairAt net_before v (name_before q)
-                  (name_before (third n b)) = record {
-                    side = b;
-                    stands = bt;
-                    at = ap name_before b_v ∙ v-is;
-                    one = ap name_before b_q;
-                    two = refl;
-                  } in
+            elim (meets_old n t u s beyond h p q v ends k) [
+              | by_prev b bt bn l b_p b_v ↦ absurd (none (leads_by n p v b bn b_p b_v))
+              | by_next b bt bn l b_v b_q ↦
+                  let F = pair_from net_before v (name_before q) b bt (ap name_before b_v ∙ v-is)
+                  (ap name_before b_q) in
                   let first : IsFirst net_before v (name_before q) = λ z g.
                   let g_v = stays n t u s beyond h once plain (n.from g.side) v g.at vs in
                   let gn = stood n t u s h.fresh g.side g.stands in
@@ -184,7 +153,7 @@ module _ (n : Net) (t u s : ℕ) (beyond : ℕ → Option ℕ) (h : IsSplit n t 
                   (all (name_before q) (name_before (third n b)) F) first in
                   let same = one_side net_before once f0
                   (subst (λ i. IsPairAt net_before v i (name_before (third n b))) (sym is) F) in
-                  ap (to n) same ∙ b_q
+                  rw same b_q
             ]
 
         gather : (a1 : ℕ) → Goes n v a1 (to n f0.side)
@@ -264,16 +233,10 @@ module _ (n : Net) (t u s : ℕ) (beyond : ℕ → Option ℕ) (h : IsSplit n t 
             | inl is ↦
                 let ends = ends_of n t u s beyond h (turn n v x y f) (back n v x y f) is
                 (first-second n v x y f) in
-                let k = turn n v x y f in
-                let (a1, a2, a3, at) = next_ends n t u s beyond h k in
-                let (c1, c2, c3, ct) = prev_ends n t u s beyond h k in
-                let (b, bt, side) = h.held x y v ends k in
-                elim side [
-                  | inl l ↦ (let (bn, bf, bto) = twin_beyond h (next k.side) b at l in
-                      absurd (none b bt (ap name_before (bf ∙ a2) ∙ v-is)))
-                  | inr l ↦ (let (bn, bf, bto) = twin_beyond h (prev k.side) b ct l in
-                      absurd (none (next b) (stands_next net_before b bt) (ap name_before (bto ∙ c1)
-                      ∙ v-is)))
+                elim (meets_old n t u s beyond h x y v ends (turn n v x y f)) [
+                  | by_next b bt bn l b_v b_y ↦ absurd (none b bt (ap name_before b_v ∙ v-is))
+                  | by_prev b bt bn l b_x b_v ↦ absurd
+                      (none (next b) (stands_next net_before b bt) (ap name_before b_v ∙ v-is))
                 ]
           ],
     )
@@ -284,15 +247,7 @@ module _ (n : Net) (t u s : ℕ) (beyond : ℕ → Option ℕ) (h : IsSplit n t 
         (begins? net_before v) (side_count net_before)) [
           | inr none ↦ none_at (λ e et at. none e et.is_side (et, at))
           | inl (e, l, (et, at)) ↦
-              let f : IsPairAt net_before v (to net_before e)
-              (third net_before e) = record {
-                side = e;
-                stands = et;
-                at = at;
-                one = refl;
-                two =
-                    refl;
-              } in
+              let f = pair_from net_before v (to net_before e) e et at refl in
               elim (uncons net_before once v (all (to net_before e) (third net_before e) f)) [
                 | inl is ↦ round_at a (third net_before e)
                     (subst (λ i. IsPairAt net_before v i (third net_before e)) (sym is) f) all

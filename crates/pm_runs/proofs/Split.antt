@@ -56,48 +56,26 @@ module _ (n : Net) (t u s : ℕ) (beyond : ℕ → Option ℕ) (h : IsSplit n t 
       elim (same_new n t u s h.fresh va vb (not_s n t u s h.fresh f) (not_s n t u s h.fresh g) is)
       [ inl same ↦ absurd (ne same) | inr (k, ends) ↦ ends ]
 
+  made : {p q w : ℕ} (e : ℕ) → AreEnds t u p q → (f : IsPairAt n p q w)
+      → (e ≡ f.side) ⊎ ((e ≡ next f.side) ⊎ (e ≡ prev f.side)) → IsNew e
+  made {p} {q} {w} e k f way =
+      record { p = p; q = q; w = w; are_ends = k; face = f; which = way }
+
   pub old_or_new : (e : ℕ) → Stands n e → Stands merged_net e ⊎ IsNew e
   old_or_new e there =
       let F = pair_at n e there in
       let F1 = turn n (n.from e) (to n e) (third n e) F in
       let F2 = back n (n.from e) (to n e) (third n e) F in
+      let round = sym (next-next-next e) in
       elim (cases_eq (merged_net.from e) (to merged_net e)) [
-        | inl is ↦ inr (record {
-          p = n.from e;
-          q = to n e;
-          w = third n e;
-          are_ends = ends_of F F1 is there.first;
-          face = F;
-          which = inl refl;
-        })
+        | inl is ↦ inr (made e (ends_of F F1 is there.first) F (inl refl))
         | inr a ↦
             elim (cases_eq (to merged_net e) (third merged_net e)) [
-              | inl is ↦ inr (record {
-                p = to n e;
-                q = third n e;
-                w = n.from e;
-                are_ends = ends_of F1 F2 is there.second;
-                face = F1;
-                which =
-                    inr (inr (sym (next-next-next e)));
-              })
+              | inl is ↦ inr (made e (ends_of F1 F2 is there.second) F1 (inr (inr round)))
               | inr b ↦
                   elim (cases_eq (third merged_net e) (merged_net.from e)) [
-                    | inl is ↦ inr (record {
-                      p = third n e;
-                      q = n.from e;
-                      w = to n e;
-                      are_ends = ends_of F2 F is there.last;
-                      face = F2;
-                      which =
-                          inr (inl (sym (next-next-next e)));
-                    })
-                    | inr c ↦ inl (record {
-                      is_side = there.is_side;
-                      first = a;
-                      second = b;
-                      last = c;
-                    })
+                    | inl is ↦ inr (made e (ends_of F2 F is there.last) F2 (inr (inl round)))
+                    | inr c ↦ grind (arith, common_steps)
                   ]
             ]
       ]
@@ -106,7 +84,6 @@ module _ (n : Net) (t u s : ℕ) (beyond : ℕ → Option ℕ) (h : IsSplit n t 
   new_gone e k there =
       let f = k.face in
       let eq = same_ends k.p k.q k.are_ends in
-      let c = ap n.from (next-next-next f.side) in
       elim k.which [
         | inl is ↦ there.first (ap merged_name (ap n.from is ∙ f.at) ∙ eq
             ∙ sym (ap merged_name (ap (to n) is ∙ f.one)))
@@ -124,25 +101,32 @@ module _ (n : Net) (t u s : ℕ) (beyond : ℕ → Option ℕ) (h : IsSplit n t 
 
   pub new_next : (p q w : ℕ) → AreEnds t u p q → (f : IsPairAt n p q w)
       → Stands merged_net (next f.side) → ⊥
-  new_next p q w k f = new_gone (next f.side) (record {
-    p = p;
-    q = q;
-    w = w;
-    are_ends = k;
-    face = f;
-    which = inr (inl refl);
-  })
+  new_next p q w k f = new_gone (next f.side) (made (next f.side) k f (inr (inl refl)))
 
   pub new_prev : (p q w : ℕ) → AreEnds t u p q → (f : IsPairAt n p q w)
       → Stands merged_net (prev f.side) → ⊥
-  new_prev p q w k f = new_gone (prev f.side) (record {
-    p = p;
-    q = q;
-    w = w;
-    are_ends = k;
-    face = f;
-    which = inr (inr refl);
-  })
+  new_prev p q w k f = new_gone (prev f.side) (made (prev f.side) k f (inr (inr refl)))
+
+  -- A side of a new face meets one that was there, which runs the other way.
+  pub data MeetsOld (p q w : ℕ) (f : IsPairAt n p q w) : Type 0 where
+    by_next : (b : ℕ) → Stands merged_net b → Stands n b → beyond (next f.side) ≡ Some b
+        → n.from b ≡ w → to n b ≡ q → MeetsOld p q w f
+    by_prev : (b : ℕ) → Stands merged_net b → Stands n b → beyond (prev f.side) ≡ Some b
+        → n.from b ≡ p → to n b ≡ w → MeetsOld p q w f
+
+  pub meets_old : (p q w : ℕ) → AreEnds t u p q → (f : IsPairAt n p q w) → MeetsOld p q w f
+  meets_old p q w k f =
+      let (b, bt, side) = h.held p q w k f in
+      let (a1, a2, a3, at) = next_ends f in
+      let (c1, c2, c3, ct) = prev_ends f in
+      elim side [
+        | inl l ↦
+            let (bn, bf, bto) = twin_beyond h (next f.side) b at l in
+            by_next b bt bn l (bf ∙ a2) (bto ∙ a1)
+        | inr l ↦
+            let (bn, bf, bto) = twin_beyond h (prev f.side) b ct l in
+            by_prev b bt bn l (bf ∙ c2) (bto ∙ c1)
+      ]
 
   abbrev pub renamed_face : (a b c a' b' c' : ℕ) → IsPairAt n a b c → a ≡ a' → b ≡ b' → c ≡ c'
       → IsPairAt n a' b' c'
@@ -171,17 +155,12 @@ module _ (n : Net) (t u s : ℕ) (beyond : ℕ → Option ℕ) (h : IsSplit n t 
     next_twice : (p q w : ℕ) (k : AreEnds t u p q) (f : IsPairAt n p q w) (g : ℕ)
         → Stands merged_net g → n.from g ≡ q → to n g ≡ w → ⊥
     next_twice p q w k f g gt gq gw =
-        let (b, bt, side) = h.held p q w k f in
         let (a1, a2, a3, at) = next_ends f in
         let (c1, c2, c3, ct) = prev_ends f in
-        elim side [
-          | inl l ↦
-              let (bn, bf, bto) = twin_beyond h (next f.side) b at l in
-              between b g (next f.side) at bt gt (
-                gt,
-                ap merged_name (gq ∙ sym a1 ∙ sym bto),
-                ap merged_name (gw ∙ sym a2 ∙ sym bf),
-              ) l
+        elim (meets_old p q w k f) [
+          | by_next b bt bn l bf bto ↦
+              between b g (next f.side) at bt gt
+              (gt, ap merged_name (gq ∙ sym bto), ap merged_name (gw ∙ sym bf)) l
               (λ is. new_next p q w k f
               (subst (Stands merged_net)
               (same_Some g (next f.side) (sym is ∙ h.back (next f.side) b at l)) gt))
@@ -196,27 +175,21 @@ module _ (n : Net) (t u s : ℕ) (beyond : ℕ → Option ℕ) (h : IsSplit n t 
                     twin_beyond h r g (subst (Stands n) (sym is') f.stands) lr in
                     second-corner n p q w f (sym gw ∙ gto ∙ ap n.from is' ∙ f.at)
               ])
-          | inr l ↦
-              let (bn, bf, bto) = twin_beyond h (prev f.side) b ct l in
-              let same = once b g bt gt (ap merged_name (bf ∙ c2) ∙ same_ends p q k
-              ∙ sym (ap merged_name gq)) (ap merged_name (bto ∙ c1 ∙ sym gw)) in
-              corner-first n p q w f (sym c2 ∙ sym bf ∙ ap n.from same ∙ gq)
+          | by_prev b bt bn l bf bto ↦
+              let same = once b g bt gt (ap merged_name bf ∙ same_ends p q k
+              ∙ sym (ap merged_name gq)) (ap merged_name (bto ∙ sym gw)) in
+              corner-first n p q w f (sym bf ∙ ap n.from same ∙ gq)
         ]
 
     prev_twice : (p q w : ℕ) (k : AreEnds t u p q) (f : IsPairAt n p q w) (g : ℕ)
         → Stands merged_net g → n.from g ≡ w → to n g ≡ p → ⊥
     prev_twice p q w k f g gt gw gp =
-        let (b, bt, side) = h.held p q w k f in
         let (a1, a2, a3, at) = next_ends f in
         let (c1, c2, c3, ct) = prev_ends f in
-        elim side [
-          | inr l ↦
-              let (bn, bf, bto) = twin_beyond h (prev f.side) b ct l in
-              between b g (prev f.side) ct bt gt (
-                gt,
-                ap merged_name (gw ∙ sym c1 ∙ sym bto),
-                ap merged_name (gp ∙ sym c2 ∙ sym bf),
-              ) l
+        elim (meets_old p q w k f) [
+          | by_prev b bt bn l bf bto ↦
+              between b g (prev f.side) ct bt gt
+              (gt, ap merged_name (gw ∙ sym bto), ap merged_name (gp ∙ sym bf)) l
               (λ is. new_prev p q w k f
               (subst (Stands merged_net)
               (same_Some g (prev f.side) (sym is ∙ h.back (prev f.side) b ct l)) gt))
@@ -232,11 +205,10 @@ module _ (n : Net) (t u s : ℕ) (beyond : ℕ → Option ℕ) (h : IsSplit n t 
                     let (gn, gf, gto) = twin_beyond h r g (subst (Stands n) (sym is') at) lr in
                     corner-first n p q w f (sym gp ∙ gto ∙ ap n.from is' ∙ a1)
               ])
-          | inl l ↦
-              let (bn, bf, bto) = twin_beyond h (next f.side) b at l in
-              let same = once b g bt gt (ap merged_name (bf ∙ a2 ∙ sym gw))
-              (ap merged_name (bto ∙ a1) ∙ sym (same_ends p q k) ∙ sym (ap merged_name gp)) in
-              corner-first n p q w f (sym gp ∙ sym (ap (to n) same) ∙ bto ∙ a1)
+          | by_next b bt bn l bf bto ↦
+              let same = once b g bt gt (ap merged_name (bf ∙ sym gw))
+              (ap merged_name bto ∙ sym (same_ends p q k) ∙ sym (ap merged_name gp)) in
+              corner-first n p q w f (sym gp ∙ sym (ap (to n) same) ∙ bto)
         ]
 
     old_new : (e g : ℕ) → IsNew e → Stands merged_net g → n.from e ≡ n.from g → to n e ≡ to n g → ⊥
@@ -247,33 +219,27 @@ module _ (n : Net) (t u s : ℕ) (beyond : ℕ → Option ℕ) (h : IsSplit n t 
         elim k.which [
           | inl is ↦ gt.first (ap merged_name (sym a ∙ ap n.from is ∙ f.at)
               ∙ same_ends k.p k.q k.are_ends ∙ sym (ap merged_name (sym b ∙ ap (to n) is ∙ f.one)))
-          | inr o ↦
-              elim o [
-                | inl is ↦ next_twice k.p k.q k.w k.are_ends f g gt (sym a ∙ ap n.from is ∙ a1)
-                    (sym b ∙ ap (to n) is ∙ a2)
-                | inr is ↦ prev_twice k.p k.q k.w k.are_ends f g gt (sym a ∙ ap n.from is ∙ c1)
-                    (sym b ∙ ap (to n) is ∙ c2)
-              ]
+          | inr (inl is) ↦ next_twice k.p k.q k.w k.are_ends f g gt (sym a ∙ ap n.from is ∙ a1)
+              (sym b ∙ ap (to n) is ∙ a2)
+          | inr (inr is) ↦ prev_twice k.p k.q k.w k.are_ends f g gt (sym a ∙ ap n.from is ∙ c1)
+              (sym b ∙ ap (to n) is ∙ c2)
         ]
 
     -- a third corner is no end
-    third_apart : (p q w p' q' : ℕ) → AreEnds t u p q → AreEnds t u p' q' → IsPairAt n p' q' w
-        → (w ≢ p) × (w ≢ q)
-    third_apart p q w p' q' k k' f =
-        grind (arith, common_steps, either, first-second, second-corner, swap)
+    third_apart : {e g : ℕ} (k : IsNew e) (k' : IsNew g) → (k'.w ≢ k.p) × (k'.w ≢ k.q)
+    third_apart k k' =
+        let apart : (p q w p' q' : ℕ) → AreEnds t u p q → AreEnds t u p' q' → IsPairAt n p' q' w
+        → (w ≢ p) × (w ≢ q) =
+        λ p q w p' q' ends ends' f.
+        grind (arith, common_steps, either, first-second, second-corner, swap) in
+        apart k.p k.q k'.w k'.p k'.q k.are_ends k'.are_ends k'.face
 
     -- two new faces from one end to the other are one
-    one_new : (p q w p' q' w' : ℕ) → AreEnds t u p q → AreEnds t u p' q'
-        → (f : IsPairAt n p q w) (f' : IsPairAt n p' q' w') → p ≡ p' → f.side ≡ f'.side
-    one_new p q w p' q' w' k k' f f' is =
-        let g : IsPairAt n p q w' = record {
-          side = f'.side;
-          stands = f'.stands;
-          at = f'.at ∙ sym is;
-          one = f'.one ∙ sym (other_end p q p' q' k k' is);
-          two = f'.two;
-        } in
-        h.one p q w w' k f g
+    one_new : {e g : ℕ} (k : IsNew e) (k' : IsNew g) → k.p ≡ k'.p → k.face.side ≡ k'.face.side
+    one_new k k' is =
+        let q_is = other_end k.p k.q k'.p k'.q k.are_ends k'.are_ends is in
+        h.one k.p k.q k.w k'.w k.are_ends k.face
+        (renamed_face k'.p k'.q k'.w k.p k.q k'.w k'.face (sym is) (sym q_is) refl)
 
     new_new : (e g : ℕ) → IsNew e → IsNew g → n.from e ≡ n.from g → to n e ≡ to n g → e ≡ g
     new_new e g k k' a b =
@@ -283,49 +249,34 @@ module _ (n : Net) (t u s : ℕ) (beyond : ℕ → Option ℕ) (h : IsSplit n t 
         let (c1, c2, c3, ct) = prev_ends f in
         let (a1', a2', a3', at') = next_ends f' in
         let (c1', c2', c3', ct') = prev_ends f' in
-        let apart = third_apart k.p k.q k'.w k'.p k'.q k.are_ends k'.are_ends f' in
-        let apart' = third_apart k'.p k'.q k.w k.p k.q k'.are_ends k.are_ends f in
+        let apart = third_apart k k' in
+        let apart' = third_apart k' k in
         elim k.which [
           | inl is ↦
               let ep = sym (ap n.from is ∙ f.at) ∙ a in
               let eq = sym (ap (to n) is ∙ f.one) ∙ b in
               elim k'.which [
-                | inl is' ↦ is ∙ one_new k.p k.q k.w k'.p k'.q k'.w k.are_ends k'.are_ends f f'
-                    (ep ∙ ap n.from is' ∙ f'.at) ∙ sym is'
+                | inl is' ↦ is ∙ one_new k k' (ep ∙ ap n.from is' ∙ f'.at) ∙ sym is'
                 | inr o ↦ grind (arith, common_steps)
               ]
-          | inr o ↦
-              elim o [
-                | inl is ↦
-                    let eq = sym (ap n.from is ∙ a1) ∙ a in
-                    let ew = sym (ap (to n) is ∙ a2) ∙ b in
-                    elim k'.which [
-                      | inl is' ↦ absurd (apart'.1 (ew ∙ ap (to n) is' ∙ f'.one))
-                      | inr o' ↦
-                          elim o' [
-                            | inl is' ↦
-                                let qq = eq ∙ ap n.from is' ∙ a1' in
-                                let pp = other_end k.q k.p k'.q k'.p (swap k.p k.q k.are_ends)
-                                (swap k'.p k'.q k'.are_ends) qq in
-                                is ∙ ap next
-                                (one_new k.p k.q k.w k'.p k'.q k'.w k.are_ends k'.are_ends f f'
-                                pp) ∙ sym is'
-                            | inr is' ↦ absurd (apart.1 (sym (eq ∙ ap n.from is' ∙ c1')))
-                          ]
-                    ]
-                | inr is ↦
-                    let ew = sym (ap n.from is ∙ c1) ∙ a in
-                    let ep = sym (ap (to n) is ∙ c2) ∙ b in
-                    elim k'.which [
-                      | inl is' ↦ absurd (apart'.0 (ew ∙ ap n.from is' ∙ f'.at))
-                      | inr o' ↦
-                          elim o' [
-                            | inl is' ↦ absurd (apart.0 (sym (ep ∙ ap (to n) is' ∙ a2')))
-                            | inr is' ↦ is
-                                ∙ ap prev (one_new k.p k.q k.w k'.p k'.q k'.w k.are_ends k'.are_ends
-                                f f' (ep ∙ ap (to n) is' ∙ c2')) ∙ sym is'
-                          ]
-                    ]
+          | inr (inl is) ↦
+              let eq = sym (ap n.from is ∙ a1) ∙ a in
+              let ew = sym (ap (to n) is ∙ a2) ∙ b in
+              elim k'.which [
+                | inl is' ↦ absurd (apart'.1 (ew ∙ ap (to n) is' ∙ f'.one))
+                | inr (inl is') ↦
+                    let pp = other_end k.q k.p k'.q k'.p (swap k.p k.q k.are_ends)
+                    (swap k'.p k'.q k'.are_ends) (eq ∙ ap n.from is' ∙ a1') in
+                    is ∙ ap next (one_new k k' pp) ∙ sym is'
+                | inr (inr is') ↦ absurd (apart.1 (sym (eq ∙ ap n.from is' ∙ c1')))
+              ]
+          | inr (inr is) ↦
+              let ew = sym (ap n.from is ∙ c1) ∙ a in
+              let ep = sym (ap (to n) is ∙ c2) ∙ b in
+              elim k'.which [
+                | inl is' ↦ absurd (apart'.0 (ew ∙ ap n.from is' ∙ f'.at))
+                | inr (inl is') ↦ absurd (apart.0 (sym (ep ∙ ap (to n) is' ∙ a2')))
+                | inr (inr is') ↦ is ∙ ap prev (one_new k k' (ep ∙ ap (to n) is' ∙ c2')) ∙ sym is'
               ]
         ]
 
