@@ -1,8 +1,8 @@
 -- The faces that a collapse leaves, and how many they are.
 use Rattle.std.proofs.Common.{◌≡◌, ◌≢◌, ℕ, ◌+◌, ◌*◌, ◌<◌, true, Option, Some, None, List, length}
+use Rattle.std.proofs.lemmas.Grind.{common_steps}
 use Rattle.std.proofs.Common.{◌⊎◌, inl, inr, sym, ap, ◌∙◌, subst, arith}
 use Rattle.std.specs.Prelude.{is_some, slice_index_or, option_map}
-use Rattle.std.proofs.lemmas.Bool.{cases_lt}
 use Rattle.std.proofs.lemmas.List.{length-map}
 use Rattle.std.proofs.Math.ListN.{get_or-eq_default}
 use Rattle.std.proofs.lemmas.Option.{none-some}
@@ -31,12 +31,7 @@ first_of f = omega arith
 
 pub some_within : {X : Type 0} (xs : List (Option X)) (i : ℕ) (x : X)
     → slice_index_or xs i None ≡ Some x → i < length xs
-some_within xs i x is =
-    elim (cases_lt i (length xs)) [
-      | inl l ↦ l
-      | inr past ↦
-          absurd (none-some x (sym (get_or-eq_default xs None past) ∙ is))
-    ]
+some_within xs i x is = grind (arith, common_steps, get_or-eq_default, none-some)
 
 module _ (s : Surface) (a b : ℕ) (place : Place) where
   abbrev before : Net

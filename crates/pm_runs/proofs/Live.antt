@@ -1,8 +1,9 @@
 -- Live vertices: the corners of faces that are there, and what a collapse makes of them.
 use Rattle.std.proofs.Common.{◌≡◌, ◌≢◌, ℕ, zero, suc, ◌+◌, ◌<◌, true, Option, Some, None, List, []}
+use Rattle.std.proofs.lemmas.Grind.{common_steps}
 use Rattle.std.proofs.Common.{◌∷◌, length, map, inl, inr, refl, sym, ap, ◌∙◌, subst, arith}
 use Rattle.std.specs.Prelude.{is_some, unwrap_or, slice_index_or, slice_set}
-use Rattle.std.proofs.lemmas.Bool.{cases_eq, cases_lt, both_ways}
+use Rattle.std.proofs.lemmas.Bool.{cases_eq}
 use Rattle.std.proofs.lemmas.List.{length-set, length-append, get_or-set_same, get_or-set_other}
 use Rattle.std.proofs.lemmas.List.{get_or_append_left}
 use Rattle.std.proofs.Math.ListN.{get_or-eq_default}
@@ -24,11 +25,7 @@ use Rattle.pm_runs.proofs.Collapsed.{corners_in, collapsed-face, kept_from}
 -- A live vertex has a number below the next one.
 some_below : (ps : List (Option Place)) (v : ℕ) → is_some (slice_index_or ps v None) ≡ true
     → v < length ps
-some_below ps v live =
-    elim (cases_lt v (length ps)) [
-      | inl l ↦ l
-      | inr past ↦ absurd (both_ways _ (ap is_some (get_or-eq_default ps None past)) live)
-    ]
+some_below ps v live = grind (arith, common_steps, get_or-eq_default)
 
 pub live_below : (s : Surface) (v : ℕ) → is_live s v ≡ true → v < next_vertex s
 live_below s v live = some_below s.places v live
@@ -81,17 +78,15 @@ module _ (s : Surface) (t u : ℕ) (place : Place) where
   pub old_place : (v : ℕ) → v ≢ next_vertex s → v ≢ t → v ≢ u
       → slice_index_or (collapsed s t u place).places v None ≡ slice_index_or s.places v None
   old_place v n_s n_t n_u =
-      elim (cases_lt v (next_vertex s)) [
-        | inl l ↦
-            get_or_append_left without_both (Some place ∷ []) None v (let n = length_without in
-            omega arith) ∙
-            get_or-set_other (slice_set s.places t None) u v None None n_u ∙
-            get_or-set_other s.places t v None None n_t
-        | inr past ↦
-            let n = next-after in
-            get_or-eq_default (collapsed s t u place).places None (omega arith)
-            ∙ sym (get_or-eq_default s.places None past)
-      ]
+      grind (
+        arith,
+        common_steps,
+        get_or-eq_default,
+        get_or-set_other,
+        get_or_append_left,
+        length_without,
+        next-after,
+      )
 
   pub gone_first : t < next_vertex s → slice_index_or (collapsed s t u place).places t None ≡ None
   gone_first l =
@@ -107,10 +102,7 @@ module _ (s : Surface) (t u : ℕ) (place : Place) where
 
   pub gone_second : u < next_vertex s → slice_index_or (collapsed s t u place).places u None ≡ None
   gone_second l =
-      get_or_append_left without_both (Some place ∷ []) None u (let n = length_without in
-      omega arith) ∙
-      get_or-set_same (slice_set s.places t None) u None None (let n = length-set s.places t None in
-      omega arith)
+      grind (arith, common_steps, get_or-set_same, get_or_append_left, length-set, length_without)
 
   -- the same as live vertices and places
   pub new_live : is_live (collapsed s t u place) (next_vertex s) ≡ true
@@ -140,11 +132,7 @@ module _ (s : Surface) (t u : ℕ) (place : Place) where
               | inl is ↦ ap (λ w. is_live (collapsed s t u place) (merge t u (next_vertex s) w)) is
                   ∙ ap (is_live (collapsed s t u place))
                   (merge-pair t u (next_vertex s) t u (inl (refl, refl))).1 ∙ new_live
-              | inr n_u ↦
-                  let l = live_below s v live in
-                  let n_s : v ≢ next_vertex s = λ is. absurd (omega arith) in
-                  ap (is_live (collapsed s t u place)) (merge-other t u (next_vertex s) v n_t n_u)
-                  ∙ old_live v n_s n_t n_u ∙ live
+              | inr n_u ↦ grind (arith, common_steps, live_below, merge-other, old_live)
             ]
       ]
 

@@ -1,6 +1,7 @@
 -- Sides between vertices that a collapse doesn't touch stay, and the neighbours of the two become
 -- those of the new vertex.
-use Rattle.std.proofs.Common.{◌≡◌, ◌≢◌, ℕ, ◌⊎◌, ◌↔◌, inl, inr, refl, sym, ap, ◌∙◌, subst}
+use Rattle.std.proofs.Common.{◌≡◌, ◌≢◌, ℕ, ◌⊎◌, ◌↔◌, inl, inr, refl, sym, ap, ◌∙◌, subst, arith}
+use Rattle.std.proofs.lemmas.Grind.{common_steps}
 use Rattle.std.proofs.lemmas.Bool.{cases_eq}
 use Rattle.pm_base.specs.Place.{Place}
 use Rattle.pm_base.specs.Sides.{Net, face_of, next, prev, to, third, Stands, IsBorder, twin_of}
@@ -25,39 +26,14 @@ merge-back t u s v p is n_s =
     let both = merge-pair t u s t u (inl (refl, refl)) in
     elim (cases_eq v t) [
       | inl here ↦ absurd (n_s (sym is ∙ ap (merge t u s) here ∙ both.0))
-      | inr n_t ↦
-          elim (cases_eq v u) [
-            | inl here ↦ absurd (n_s (sym is ∙ ap (merge t u s) here ∙ both.1))
-            | inr n_u ↦
-                let same : v ≡ p = sym (merge-other t u s v n_t n_u) ∙ is in
-                (same, (λ z. n_t (same ∙ z)), (λ z. n_u (same ∙ z)))
-          ]
+      | inr n_t ↦ grind (arith, common_steps, merge-other)
     ]
 
 -- Of two corners of a face that holds both ends, one is an end.
 pub no_end : (m : Net) (a b x e p q : ℕ) → Links m x a b → face_of x ≡ face_of e → m.from e ≡ p
     → to m e ≡ q → p ≢ a → p ≢ b → q ≢ a → q ≢ b → ⊥
 no_end m a b x e p q links same i j pa pb qa qb =
-    let (c, d, pair, r) = link-pair m a b x links in
-    let not_p : (v : ℕ) → (v ≡ c) ⊎ (v ≡ d) → p ≢ v = λ v k is.
-    elim pair [
-      | inl o ↦ elim k [ inl z ↦ pa (is ∙ z ∙ o.0) | inr z ↦ pb (is ∙ z ∙ o.1) ]
-      | inr o ↦ elim k [ inl z ↦ pb (is ∙ z ∙ o.0) | inr z ↦ pa (is ∙ z ∙ o.1) ]
-    ] in
-    let not_q : (v : ℕ) → (v ≡ c) ⊎ (v ≡ d) → q ≢ v = λ v k is.
-    elim pair [
-      | inl o ↦ elim k [ inl z ↦ qa (is ∙ z ∙ o.0) | inr z ↦ qb (is ∙ z ∙ o.1) ]
-      | inr o ↦ elim k [ inl z ↦ qb (is ∙ z ∙ o.0) | inr z ↦ qa (is ∙ z ∙ o.1) ]
-    ] in
-    elim (face_cases x e same) [
-      | inl is ↦ not_p c (inl refl) (sym i ∙ ap m.from is ∙ r.begins)
-      | inr h ↦
-          elim h [
-            | inl is ↦ not_p d (inr refl) (sym i ∙ ap m.from is ∙ r.ends)
-            | inr is ↦ not_q c (inl refl) (sym j ∙ ap (to m) is ∙ ap m.from (next-next-next x)
-                ∙ r.begins)
-          ]
-    ]
+    grind (arith, common_steps, face_cases, link-pair, next-next-next)
 
 module _ (s : Surface) (sound : IsSurface s) (a b : ℕ) (place : Place) where
   abbrev before : Net
@@ -125,41 +101,10 @@ module _ (s : Surface) (sound : IsSurface s) (a b : ℕ) (place : Place) where
 
 -- The two that a pair can be.
 pair? : (a b v w : ℕ) → Decided (IsPair a b v w)
-pair? a b v w =
-    elim (cases_eq v a) [
-      | inl va ↦
-          elim (cases_eq w b) [
-            | inl wb ↦ inl (inl (va, wb))
-            | inr n ↦ elim (cases_eq v b) [
-              | inl vb ↦ elim (cases_eq w a) [
-                | inl wa ↦ inl (inr (vb, wa))
-                | inr o ↦
-                    inr (λ k. elim k [ inl z ↦ n z.1 | inr z ↦ o z.1 ])
-              ]
-              | inr o ↦ inr (λ k. elim k [ inl z ↦ n z.1 | inr z ↦ o z.0 ])
-            ]
-          ]
-      | inr n ↦
-          elim (cases_eq v b) [
-            | inl vb ↦ elim (cases_eq w a) [
-              | inl wa ↦ inl (inr (vb, wa))
-              | inr o ↦
-                  inr (λ k. elim k [ inl z ↦ n z.0 | inr z ↦ o z.1 ])
-            ]
-            | inr o ↦ inr (λ k. elim k [ inl z ↦ n z.0 | inr z ↦ o z.0 ])
-          ]
-    ]
+pair? a b v w = grind (arith, common_steps)
 
 pub merge-new : (t u s v : ℕ) → merge t u s v ≡ s → v ≢ s → (v ≡ t) ⊎ (v ≡ u)
-merge-new t u s v is n =
-    elim (cases_eq v t) [
-      | inl here ↦ inl here
-      | inr n_t ↦ elim (cases_eq v u) [
-        | inl here ↦ inr here
-        | inr n_u ↦
-            absurd (n (sym (merge-other t u s v n_t n_u) ∙ is))
-      ]
-    ]
+merge-new t u s v is n = grind (arith, common_steps, merge-other)
 
 merge-either : (t u s v : ℕ) → (v ≡ t) ⊎ (v ≡ u) → merge t u s v ≡ s
 merge-either t u s v way =
@@ -170,28 +115,7 @@ merge-either t u s v way =
 opposite : (m : Net) (a b x e : ℕ) → Links m x a b → face_of x ≡ face_of e → m.from e ≢ a
     → m.from e ≢ b → IsPair a b (to m e) (third m e)
 opposite m a b x e links same n_a n_b =
-    let (c, d, pair, r) = link-pair m a b x links in
-    let not_end : (v : ℕ) → (v ≡ c) ⊎ (v ≡ d) → m.from e ≢ v = λ v k is.
-    elim pair [
-      | inl o ↦ elim k [ inl z ↦ n_a (is ∙ z ∙ o.0) | inr z ↦ n_b (is ∙ z ∙ o.1) ]
-      | inr o ↦ elim k [ inl z ↦ n_b (is ∙ z ∙ o.0) | inr z ↦ n_a (is ∙ z ∙ o.1) ]
-    ] in
-    elim (face_cases x e same) [
-      | inl is ↦ absurd (not_end c (inl refl) (ap m.from is ∙ r.begins))
-      | inr h ↦
-          elim h [
-            | inl is ↦ absurd (not_end d (inr refl) (ap m.from is ∙ r.ends))
-            | inr is ↦
-                let first : to m e ≡ c = ap (to m) is ∙ ap m.from (next-next-next x) ∙ r.begins in
-                let second : third m e ≡ d =
-                ap (third m) is ∙ ap (λ y. m.from (next y)) (next-next-next x) ∙ r.ends in
-                elim pair [
-                  | inl o ↦ inl (first ∙ o.0, second ∙ o.1)
-                  | inr o ↦
-                      inr (first ∙ o.0, second ∙ o.1)
-                ]
-          ]
-    ]
+    grind (arith, common_steps, face_cases, link-pair, next-next-next)
 
 module _ (s : Surface) (sound : IsSurface s) (proper : IsProper (net_of_surface s)) (a b : ℕ)
     (place : Place) (ok : IsLinkable (net_of_surface s) a b) where
@@ -213,10 +137,7 @@ module _ (s : Surface) (sound : IsSurface s) (proper : IsProper (net_of_surface 
       → IsOther s a b p → Joined new p (next_vertex s)
   beside_dropped x c d p pair r is other =
       let n : ℕ = next_vertex s in
-      let links : Links old x a b = elim pair [
-        | inl o ↦ inl (record { stands = r.stands; begins = r.begins ∙ o.0; ends = r.ends ∙ o.1 })
-        | inr o ↦ inr (record { stands = r.stands; begins = r.begins ∙ o.0; ends = r.ends ∙ o.1 })
-      ] in
+      let links : Links old x a b = grind (arith, common_steps) in
       let same_p : merge a b n p ≡ p = merge-other a b n p other.not_first other.not_second in
       let ends = merge-pair a b n c d pair in
       let right = runs_next old x c d p r is in
