@@ -1,5 +1,6 @@
 -- What a decoder answers.
 use Rattle.std.proofs.Common.{◌≡◌, ◌⊎◌, ℕ, zero, suc, ◌+◌, ◌*◌, ◌<◌, ◌≤◌, true}
+use Rattle.std.proofs.lemmas.Grind.{common_steps}
 use Rattle.std.proofs.Common.{List, [], ◌∷◌, ◌++◌, Some, IfOk, IfErr, Result}
 use Rattle.std.proofs.Common.{Ok, Err, length, take, drop, inl, inr, refl, sym, ◌∙◌, ap, subst}
 use Rattle.std.proofs.Common.{arith, append_assoc}
@@ -190,9 +191,7 @@ pub says_fed : (bytes piece held : List ℕ) (n taken : ℕ) (stage : Stage)
     → IsSoundDecoding stage held taken → DecoderTells stage r → IfOk r (λ t. t.used ≡ n)
     → Says bytes piece r
 says_fed bytes piece held n taken stage (Ok t) stands sound tells used =
-    says_so bytes piece held stage taken (Ok t)
-    (subst (λ (k : ℕ). StandsAfter (bytes ++ take k piece) stage held) (sym used) stands) sound
-    tells
+    grind (arith, common_steps, says_so bytes piece held stage taken (Ok t))
 says_fed bytes piece held n taken stage (Err e) stands sound tells used =
     says_so bytes piece held stage taken (Err e)
     (feed_refused bytes piece held n taken stage (Err e) (λ t is. absurd cc) tells stands).0

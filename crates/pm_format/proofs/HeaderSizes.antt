@@ -1,7 +1,8 @@
 -- How many bytes the header of a text has, and how they are gathered.
 use Rattle.std.proofs.Common.{◌≡◌, ◌⊎◌, ℕ, ◌+◌, ◌-◌, ◌*◌, ◌<◌, ◌≤◌, min, Bool, true, false, cond}
+use Rattle.std.proofs.lemmas.Grind.{common_steps}
 use Rattle.std.proofs.Common.{eqb, ltb, ◌||◌, List, [], ◌∷◌, ◌++◌, Result, Ok, Err, length, take}
-use Rattle.std.proofs.Common.{drop, inl, inr, refl, sym, ◌∙◌, ap, subst, arith, length-append}
+use Rattle.std.proofs.Common.{drop, inl, inr, refl, sym, ◌∙◌, ap, arith, length-append}
 use Rattle.std.proofs.Common.{append_assoc}
 use Rattle.std.proofs.Math.Seq.{take-add}
 use Rattle.std.proofs.lemmas.Bool.{cases_lt, eqb-true}
@@ -72,12 +73,7 @@ digits_size (m ∷ v ∷ ws) d is = let n : length (m ∷ v ∷ ws) ≡ 2 + leng
 
 counts_size : (ws : List ℕ) (u : Counts × List ℕ) → whole (counts_at ws) ≡ Ok u
     → length ws ≡ 4 + length u.1
-counts_size (l ∷ r ∷ b ∷ n ∷ ws) u is =
-    omega (
-      arith,
-      ap (λ (w : Counts × List ℕ). length w.1)
-          (same_Ok (record { leaves = l; roots = r; bases = b; records = n }, ws) u is),
-    )
+counts_size (l ∷ r ∷ b ∷ n ∷ ws) u is = grind (arith, common_steps, same_Ok)
 counts_size [] u is = absurd cc
 counts_size (l ∷ []) u is = absurd cc
 counts_size (l ∷ r ∷ []) u is = absurd cc
@@ -105,15 +101,14 @@ header_long bytes ws rest c same is =
 pub header_reached : (held piece kept : List ℕ) (n : ℕ) → kept ≡ held ++ take n piece
     → header_bytes kept ≤ length kept → MayWant stages.Header held piece
 header_reached held piece kept n is long =
-    let all : held ++ piece ≡ kept ++ drop n piece =
-    ap (λ (l : List ℕ). held ++ l) (sym (take-append-drop n piece))
-    ∙ sym (append_assoc held (take n piece) (drop n piece))
-    ∙ ap (λ (l : List ℕ). l ++ drop n piece) (sym is) in
-    let size = size_on kept (drop n piece) (omega (arith, long, (within kept).0)) in
-    inr (
-      refl,
-      subst (λ (l : List ℕ). header_bytes l ≤ length l) (sym all)
-          (omega (arith, size, long, length-append kept (drop n piece))),
+    grind (
+      arith,
+      common_steps,
+      append_assoc held (take n piece) (drop n piece),
+      length-append kept (drop n piece),
+      size_on kept (drop n piece),
+      take-append-drop n piece,
+      within kept,
     )
 
 -- Words that end in it are fewer.
@@ -176,73 +171,29 @@ module _ (held piece rest mid kept : List ℕ) (n m size : ℕ)
     (second : m ≡ min (length rest) (size - length mid)) (at_kept : kept ≡ mid ++ take m rest)
     (begun : length held < header_bytes held) where
   mid_length : length mid ≡ length held + n
-  mid_length =
-      ap (λ (l : List ℕ). length l) at_mid
-      ∙ omega (
-        arith,
-        length-append held (take n piece),
-        length-take-le n piece (omega (arith, first)),
-      )
+  mid_length = grind (arith, common_steps, length-append, length-take-le)
 
   rest_length : length rest ≡ length piece - n
   rest_length = ap (λ (l : List ℕ). length l) left ∙ length-drop n piece
 
   kept_length : length kept ≡ length mid + m
-  kept_length =
-      ap (λ (l : List ℕ). length l) at_kept
-      ∙ omega (
-        arith,
-        length-append mid (take m rest),
-        length-take-le m rest (omega (arith, second)),
-      )
+  kept_length = grind (arith, common_steps, length-append, length-take-le)
 
   both : kept ≡ held ++ take (n + m) piece
-  both =
-      at_kept ∙ ap (λ (l : List ℕ). l ++ take m rest) at_mid
-      ∙ append_assoc held (take n piece) (take m rest)
-      ∙ ap (λ (l : List ℕ). held ++ (take n piece ++ take m l)) left
-      ∙ ap (λ (l : List ℕ). held ++ l) (sym (take-add n m piece))
+  both = grind (arith, common_steps, append_assoc, take-add)
 
   -- the version isn't there yet
   before_version : length mid < 8 → Gathered held piece kept (n + m)
   before_version lt =
-      let size = (within kept).0 in
-      record {
-        within = omega (arith, first, second, rest_length);
-        joined = both;
-        short = omega (arith, lt, size, first, second, mid_length, rest_length, kept_length);
-        all = inl (omega (arith, lt, first, second, mid_length, rest_length));
-      }
+      grind (arith, common_steps, both, kept_length, mid_length, rest_length, within)
 
   -- the version is there, and tells the size
   mid_short : length mid ≤ size
-  mid_short = elim (cases_lt (length held) 8) [
-    | inl l ↦ omega (arith, l, first, mid_length, told, (within mid).0)
-    | inr r ↦ omega (
-      arith,
-      r,
-      first,
-      mid_length,
-      told,
-      begun,
-      ap header_bytes at_mid,
-      size_on held (take n piece) r,
-    )
-  ]
+  mid_short = grind (arith, common_steps, mid_length, size_on, within)
 
   after_version : 8 ≤ length mid → Gathered held piece kept (n + m)
   after_version le =
-      let same : header_bytes kept ≡ size =
-      ap header_bytes at_kept ∙ size_on mid (take m rest) le ∙ sym told in
-      record {
-        within = omega (arith, first, second, rest_length);
-        joined = both;
-        short = omega (arith, same, second, kept_length, mid_short);
-        all = elim (cases_lt (length rest) (size - length mid)) [
-          | inl l ↦ inl (omega (arith, l, first, second, rest_length))
-          | inr r ↦ inr (omega (arith, r, same, second, kept_length, mid_short))
-        ];
-      }
+      grind (arith, common_steps, both, kept_length, mid_short, rest_length, size_on, within)
 
   pub gathered : Gathered held piece kept (n + m)
   gathered = elim (cases_lt (length mid) 8) [ inl l ↦ before_version l | inr r ↦ after_version r ]

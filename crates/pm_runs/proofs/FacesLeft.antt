@@ -31,7 +31,7 @@ first_of f = omega arith
 
 pub some_within : {X : Type 0} (xs : List (Option X)) (i : ℕ) (x : X)
     → slice_index_or xs i None ≡ Some x → i < length xs
-some_within xs i x is = grind (arith, common_steps, get_or-eq_default, none-some)
+some_within xs i x is = grind (arith, common_steps, get_or-eq_default xs None, none-some x)
 
 module _ (s : Surface) (a b : ℕ) (place : Place) where
   abbrev before : Net

@@ -25,7 +25,7 @@ use Rattle.pm_runs.proofs.Collapsed.{corners_in, collapsed-face, kept_from}
 -- A live vertex has a number below the next one.
 some_below : (ps : List (Option Place)) (v : ℕ) → is_some (slice_index_or ps v None) ≡ true
     → v < length ps
-some_below ps v live = grind (arith, common_steps, get_or-eq_default)
+some_below ps v live = grind (arith, common_steps, get_or-eq_default ps None)
 
 pub live_below : (s : Surface) (v : ℕ) → is_live s v ≡ true → v < next_vertex s
 live_below s v live = some_below s.places v live
@@ -123,18 +123,15 @@ module _ (s : Surface) (t u : ℕ) (place : Place) where
   pub merged_live : (v : ℕ) → is_live s v ≡ true
       → is_live (collapsed s t u place) (merge t u (next_vertex s) v) ≡ true
   merged_live v live =
-      elim (cases_eq v t) [
-        | inl is ↦ ap (λ w. is_live (collapsed s t u place) (merge t u (next_vertex s) w)) is
-            ∙ ap (is_live (collapsed s t u place))
-            (merge-pair t u (next_vertex s) t u (inl (refl, refl))).0 ∙ new_live
-        | inr n_t ↦
-            elim (cases_eq v u) [
-              | inl is ↦ ap (λ w. is_live (collapsed s t u place) (merge t u (next_vertex s) w)) is
-                  ∙ ap (is_live (collapsed s t u place))
-                  (merge-pair t u (next_vertex s) t u (inl (refl, refl))).1 ∙ new_live
-              | inr n_u ↦ grind (arith, common_steps, live_below, merge-other, old_live)
-            ]
-      ]
+      grind (
+        arith,
+        common_steps,
+        new_live,
+        live_below s v live,
+        merge-other t u (next_vertex s) v,
+        merge-pair t u (next_vertex s) t u (inl (refl, refl)),
+        old_live v,
+      )
 
 -- A surface stays one.
 pub collapse-sound : (s : Surface) → IsSurface s → (t u : ℕ) (place : Place)
@@ -170,15 +167,12 @@ point_live (p ∷ ps) (suc v) l = point_live ps v (omega arith)
 
 pub input-sound : (m : Mesh) → IsWellFormed m → IsSurface (surface_of m)
 input-sound m formed f k is =
-    let (l, same) = some_face m.faces f k is in
-    let face : IsFace (length m.points) k =
-    subst (IsFace (length m.points)) same
-    (All-get_or (IsFace (length m.points)) m.faces f no_corners l formed.corners) in
-    record {
-      a = point_live m.points k.a face.a;
-      b = point_live m.points k.b face.b;
-      c = point_live m.points k.c face.c;
-      ab = face.ab;
-      bc = face.bc;
-      ca = face.ca;
-    }
+    grind (
+      arith,
+      common_steps,
+      All-get_or (IsFace (length m.points)) m.faces f no_corners,
+      point_live m.points k.a,
+      point_live m.points k.b,
+      point_live m.points k.c,
+      some_face m.faces f k is,
+    )

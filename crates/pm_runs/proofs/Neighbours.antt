@@ -2,7 +2,6 @@
 -- those of the new vertex.
 use Rattle.std.proofs.Common.{◌≡◌, ◌≢◌, ℕ, ◌⊎◌, ◌↔◌, inl, inr, refl, sym, ap, ◌∙◌, subst, arith}
 use Rattle.std.proofs.lemmas.Grind.{common_steps}
-use Rattle.std.proofs.lemmas.Bool.{cases_eq}
 use Rattle.pm_base.specs.Place.{Place}
 use Rattle.pm_base.specs.Sides.{Net, face_of, next, prev, to, third, Stands, IsBorder, twin_of}
 use Rattle.pm_base.proofs.Search.{Decided, option_cases}
@@ -23,17 +22,13 @@ use Rattle.pm_runs.proofs.Live.{surface-fresh}
 -- What a vertex was before a merge.
 pub merge-back : (t u s v p : ℕ) → merge t u s v ≡ p → p ≢ s → (v ≡ p) × (p ≢ t) × (p ≢ u)
 merge-back t u s v p is n_s =
-    let both = merge-pair t u s t u (inl (refl, refl)) in
-    elim (cases_eq v t) [
-      | inl here ↦ absurd (n_s (sym is ∙ ap (merge t u s) here ∙ both.0))
-      | inr n_t ↦ grind (arith, common_steps, merge-other)
-    ]
+    grind (arith, common_steps, merge-other t u s v, merge-pair t u s t u (inl (refl, refl)))
 
 -- Of two corners of a face that holds both ends, one is an end.
 pub no_end : (m : Net) (a b x e p q : ℕ) → Links m x a b → face_of x ≡ face_of e → m.from e ≡ p
     → to m e ≡ q → p ≢ a → p ≢ b → q ≢ a → q ≢ b → ⊥
 no_end m a b x e p q links same i j pa pb qa qb =
-    grind (arith, common_steps, face_cases, link-pair, next-next-next)
+    grind (arith, common_steps, face_cases x e same, link-pair m a b x links, next-next-next x)
 
 module _ (s : Surface) (sound : IsSurface s) (a b : ℕ) (place : Place) where
   abbrev before : Net
@@ -104,7 +99,7 @@ pair? : (a b v w : ℕ) → Decided (IsPair a b v w)
 pair? a b v w = grind (arith, common_steps)
 
 pub merge-new : (t u s v : ℕ) → merge t u s v ≡ s → v ≢ s → (v ≡ t) ⊎ (v ≡ u)
-merge-new t u s v is n = grind (arith, common_steps, merge-other)
+merge-new t u s v is n = grind (arith, common_steps, merge-other t u s v)
 
 merge-either : (t u s v : ℕ) → (v ≡ t) ⊎ (v ≡ u) → merge t u s v ≡ s
 merge-either t u s v way =
@@ -115,7 +110,7 @@ merge-either t u s v way =
 opposite : (m : Net) (a b x e : ℕ) → Links m x a b → face_of x ≡ face_of e → m.from e ≢ a
     → m.from e ≢ b → IsPair a b (to m e) (third m e)
 opposite m a b x e links same n_a n_b =
-    grind (arith, common_steps, face_cases, link-pair, next-next-next)
+    grind (arith, common_steps, face_cases x e same, link-pair m a b x links, next-next-next x)
 
 module _ (s : Surface) (sound : IsSurface s) (proper : IsProper (net_of_surface s)) (a b : ℕ)
     (place : Place) (ok : IsLinkable (net_of_surface s) a b) where
