@@ -1,8 +1,8 @@
 -- What a legal split of a firm hierarchy does to the number of border sides.
 use Rattle.std.proofs.Common.{◌≡◌, ◌≢◌, ℕ, ◌*◌, ◌<◌, eqb, Bool, true, false, ◌&&◌, not, cond}
 use Rattle.std.proofs.lemmas.Grind.{common_steps}
-use Rattle.std.proofs.Common.{Option, Some, None, inl, inr, sym, ap, ◌∙◌, subst, arith}
-use Rattle.std.specs.Prelude.{is_some, option_and_then}
+use Rattle.std.proofs.Common.{Option, Some, None, inl, inr, refl, sym, ap, ◌∙◌, subst, arith}
+use Rattle.std.specs.Prelude.{is_some, option_and_then, unwrap_or}
 use Rattle.std.proofs.lemmas.Bool.{cases_Bool, both_ways, and_parts, and_from, eqb-true, eq-eqb}
 use Rattle.std.proofs.lemmas.Bool.{ne_eqb, cond-true, cond-false, not-true, not_from_false}
 use Rattle.std.proofs.lemmas.Bool.{false_from_ne_true}
@@ -43,17 +43,10 @@ tells_of h k e o =
 abbrev pub is_inner : Hierarchy → ℕ → ℕ → Bool
 is_inner h k e = is_at k (record_of h e) && eqb e (inner_of h k (face_of e))
 
-abbrev or_else : Option ℕ → ℕ → ℕ
-or_else None e = e
-or_else (Some x) e = x
-
 module _ (h : Hierarchy) (valid : IsValid h) (T : ℕ → Bool) (closed : IsClosed h T) (k : ℕ)
     (l : k < record_count h) (may : MaySplit h T k) (held : FacesAreHeld h k) where
   abbrev split_set : ℕ → Bool
   split_set = with T k
-
-  abbrev sides : ℕ
-  sides = 3 * face_count h
 
   abbrev tree : IsForest h
   tree = forest_of h valid
@@ -89,32 +82,32 @@ module _ (h : Hierarchy) (valid : IsValid h) (T : ℕ → Bool) (closed : IsClos
       find_below-has (tells_of h k e) (3 * face_count h) o t.low (tells-from e o t) in
       none-some r.0 (sym is ∙ r.1)
 
+  own_shown : (o : ℕ) → record_of h o ≡ Some k → is_shown h split_set o ≡ true
+  own_shown o is = shown_record h split_set o k is ∙ with-same T k
+
   -- only one side of the record tells of a side
   one_teller : (e o p : ℕ) → Teller e o → Teller e p → o ≡ p
   one_teller e o p a b =
       Beyond-injective h tree valid.no_side_twice split_set o p e a.low b.low
-      (shown_record h split_set o k a.outer.0 ∙ with-same T k)
-      (shown_record h split_set p k b.outer.0 ∙ with-same T k)
+      (own_shown o a.outer.0) (own_shown p b.outer.0)
       (subst (Beyond h split_set o) a.tells (split-new h valid T k closed l may o a.low a.outer.0))
       (subst (Beyond h split_set p) b.tells (split-new h valid T k closed l may p b.low b.outer.0))
 
   -- A border side of before goes on, or the other outer side of the face that it meets is one now.
   moved_on : ℕ → ℕ
-  moved_on e = or_else (option_and_then (λ o. across h o) (teller e)) e
+  moved_on e = unwrap_or (option_and_then (λ o. across h o) (teller e)) e
 
   moved_back : ℕ → ℕ
   moved_back e =
-      cond (is_at k (record_of h e)) (or_else (option_and_then (λ o. expected h o) (across h e)) e)
-      e
+      cond (is_at k (record_of h e)) (unwrap_or (option_and_then (expected h) (across h e)) e) e
 
   moved_on-none : (e : ℕ) → teller e ≡ None → moved_on e ≡ e
   unfolding moved_on
-  moved_on-none e is = ap (λ r. or_else (option_and_then (λ o. across h o) r) e) is
+  moved_on-none e is = rw is refl
 
   moved_on-some : (e o p : ℕ) → teller e ≡ Some o → across h o ≡ Some p → moved_on e ≡ p
   unfolding moved_on
-  moved_on-some e o p is x =
-      ap (λ r. or_else (option_and_then (λ o. across h o) r) e) is ∙ ap (λ r. or_else r e) x
+  moved_on-some e o p is x = rw (is, x) refl
 
   moved_back-old : (e : ℕ) → record_of h e ≢ Some k → moved_back e ≡ e
   unfolding moved_back
@@ -150,20 +143,16 @@ module _ (h : Hierarchy) (valid : IsValid h) (T : ℕ → Bool) (closed : IsClos
   moves_on e le b =
       let (s, alone) = border-parts h valid T front e le b in
       let own = not_own e s in
-      let s1 = shown_with h T k e s in
       elim (option_cases (teller e)) [
         | inl none ↦
             let is = moved_on-none e none in
             let far = split-other h valid T k closed l may e None le s alone
             (λ o ol outer x. no_teller e o none (record { low = ol; outer = outer; tells = x }))
             in
-            let b1 = border-from h valid split_set split_front e le s1 far in (
-              subst (λ i. i < 3 * face_count h) (sym is) le,
-              subst (λ i. only border_now (is_inner h k) i ≡ true) (sym is)
-                  (and_from (border_now e) (not (is_inner h k e)) b1
-                  (not_inner e (λ inner. own inner.0))),
-              ap moved_back is ∙ moved_back-old e own,
-            )
+            let now = and_from (border_now e) (not (is_inner h k e))
+            (border-from h valid split_set split_front e le (shown_with h T k e s) far)
+            (not_inner e (λ inner. own inner.0)) in
+            rw is (le, now, moved_back-old e own)
         | inr (o, found) ↦
             let t = teller-parts e o found in
             let (p, x) = across-outer h k o t.outer in
@@ -177,16 +166,10 @@ module _ (h : Hierarchy) (valid : IsValid h) (T : ℕ → Bool) (closed : IsClos
             alone in
             let far : Beyond h split_set p None =
             subst (Beyond h split_set p) none (split-new h valid T k closed l may p pl rec) in
-            let b1 = border-from h valid split_set split_front p pl
-            (shown_record h split_set p k rec ∙ with-same T k) far in
-            let outer_p : p ≢ inner_of h k (face_of p) =
-            λ z. po.1 (z ∙ ap (λ i. inner_of h i (face_of p)) (sym same)) in (
-              subst (λ i. i < 3 * face_count h) (sym is) pl,
-              subst (λ i. only border_now (is_inner h k) i ≡ true) (sym is)
-                  (and_from (border_now p) (not (is_inner h k p)) b1
-                  (not_inner p (λ inner. outer_p inner.1))),
-              ap moved_back is ∙ moved_back-new p o e rec (across_back h o p x) t.tells,
-            )
+            let b1 = border-from h valid split_set split_front p pl (own_shown p rec) far in
+            let now = and_from (border_now p) (not (is_inner h k p)) b1
+            (not_inner p (λ z. po.1 (z.1 ∙ ap (λ i. inner_of h i (face_of p)) (sym same)))) in
+            rw is (pl, now, moved_back-new p o e rec (across_back h o p x) t.tells)
       ]
 
   moves_back : (e : ℕ) → e < 3 * face_count h → only border_now (is_inner h k) e ≡ true
@@ -203,30 +186,20 @@ module _ (h : Hierarchy) (valid : IsValid h) (T : ℕ → Bool) (closed : IsClos
             let is = moved_back-old e own in
             let none : teller e ≡ None = elim (option_cases (teller e)) [
               | inl none ↦ none
-              | inr (o, found) ↦ (let t =
-                  teller-parts e o found in
+              | inr (o, found) ↦
+                  let t = teller-parts e o found in
                   absurd (none-some o
                   (Beyond-unique h tree valid.no_side_twice split_set e None (Some o) alone
-                  (split-neighbour h valid T k closed l may o e t.low t.outer t.tells))))
+                  (split-neighbour h valid T k closed l may o e t.low t.outer t.tells)))
             ] in
-            let before : Beyond h T e None = elim (option_cases (beyond_of h T e)) [
-              | inl none ↦
-                  subst (Beyond h T e) none (beyond-found h tree valid.no_side_twice T front e le s)
-              | inr (g, some) ↦
-                  let far = split-other h valid T k closed l may e (Some g) le s
-                  (subst (Beyond h T e) some
-                  (beyond-found h tree valid.no_side_twice T front e le s))
-                  (λ o ol outer x. no_teller e o none
-                  (record { low = ol; outer = outer; tells = x })) in
-                  absurd (none-some g
-                  (Beyond-unique h tree valid.no_side_twice split_set e None (Some g) alone
-                  far))
-            ] in (
-              subst (λ i. i < 3 * face_count h) (sym is) le,
-              subst (λ i. border_before i ≡ true) (sym is)
-                  (border-from h valid T front e le s before),
-              ap moved_on is ∙ moved_on-none e none,
-            )
+            let found = beyond-found h tree valid.no_side_twice T front e le s in
+            let far = split-other h valid T k closed l may e (beyond_of h T e) le s found
+            (λ o ol outer x. no_teller e o none (record { low = ol; outer = outer; tells = x }))
+            in
+            let before : Beyond h T e None = subst (Beyond h T e)
+            (Beyond-unique h tree valid.no_side_twice split_set e (beyond_of h T e) None far alone)
+            found in
+            rw is (le, border-from h valid T front e le s before, moved_on-none e none)
         | inl own ↦
             let rec = is_at-parts k (record_of h e) own in
             let outer : IsOuter h k e = (rec, λ z. inner_test e parts.1 (rec, z)) in
@@ -237,8 +210,7 @@ module _ (h : Hierarchy) (valid : IsValid h) (T : ℕ → Bool) (closed : IsClos
             let (j, eo, oo) = across-is_outer h e o x in
             let same : j ≡ k = same_Some j k (sym eo.0 ∙ rec) in
             let outer_o : IsOuter h k o = subst (λ i. IsOuter h i o) same oo in
-            let fl : face_of e < face_count h = omega arith in
-            let (c, b', face, outer_c, told) = held_side h k (face_of e) fl rec held in
+            let (c, b', face, outer_c, told) = held_side h k (face_of e) (omega arith) rec held in
             let c_is : c ≡ o = grind (arith, common_steps, none-some, two_outer) in
             let tells : expected h o ≡ Some b' = ap (expected h) (sym c_is) ∙ told in
             let is = moved_back-new e o b' rec x tells in
@@ -247,26 +219,20 @@ module _ (h : Hierarchy) (valid : IsValid h) (T : ℕ → Bool) (closed : IsClos
             sym (kept_at_side h tree T front b' bl) ∙ may.present o b' ol outer_o tells in
             let four = four_faces h valid T closed k o e b' l may ol outer_o (across_back h e o x)
             tells in
-            let alone_b : Beyond h T b' None = subst (Beyond h T b') none four in
+            let before = border-from h valid T front b' bl sb (subst (Beyond h T b') none four) in
+            let t : Teller b' o = record { low = ol; outer = outer_o; tells = tells } in
             let found : teller b' ≡ Some o = elim (option_cases (teller b')) [
-              | inl z ↦ absurd
-                  (no_teller b' o z (record { low = ol; outer = outer_o; tells = tells }))
-              | inr (q, z) ↦ z
-                  ∙ ap Some (one_teller b' q o (teller-parts b' q z)
-                  (record { low = ol; outer = outer_o; tells = tells }))
-            ] in (
-              subst (λ i. i < 3 * face_count h) (sym is) bl,
-              subst (λ i. border_before i ≡ true) (sym is)
-                  (border-from h valid T front b' bl sb alone_b),
-              ap moved_on is ∙ moved_on-some b' o e found (across_back h e o x),
-            )
+              | inl z ↦ absurd (no_teller b' o z t)
+              | inr (q, z) ↦ z ∙ ap Some (one_teller b' q o (teller-parts b' q z) t)
+            ] in
+            rw is (bl, before, moved_on-some b' o e found (across_back h e o x))
       ]
 
   pub outer_borders : count (λ e. is_border_side h T e) (3 * face_count h)
       ≡ count (only (λ e. is_border_side h (with T k) e) (is_inner h k)) (3 * face_count h)
   outer_borders =
-      count_matched border_before (only border_now (is_inner h k)) sides moved_on moved_back
-      moves_on moves_back
+      count_matched border_before (only border_now (is_inner h k)) (3 * face_count h) moved_on
+      moved_back moves_on moves_back
 
   -- The inner sides of the new faces: where there are two faces they meet, and the inner side of a
   -- single one is a border side.
@@ -282,8 +248,7 @@ module _ (h : Hierarchy) (valid : IsValid h) (T : ℕ → Bool) (closed : IsClos
   one_inner : (is_some (record_at h k).left && is_some (record_at h k).right) ≡ false → (f : ℕ)
       → mate_of h k f ≡ None
   unfolding mate_of
-  one_inner e f =
-      cond-false (is_some (record_at h k).left && is_some (record_at h k).right) (Some _) None e
+  one_inner e f = rw e refl
 
   inner-parts : (e : ℕ) → e < 3 * face_count h → both border_now (is_inner h k) e ≡ true
       → (record_of h e ≡ Some k) × (e ≡ inner_of h k (face_of e)) × (mate_of h k (face_of e) ≡ None)
@@ -304,7 +269,7 @@ module _ (h : Hierarchy) (valid : IsValid h) (T : ℕ → Bool) (closed : IsClos
   pub two_faces : is_some (record_at h k).left ≡ true → is_some (record_at h k).right ≡ true
       → count (both (λ e. is_border_side h (with T k) e) (is_inner h k)) (3 * face_count h) ≡ 0
   two_faces a b =
-      count_none (both border_now (is_inner h k)) sides
+      count_none (both border_now (is_inner h k)) (3 * face_count h)
       (λ e le. false_from_ne_true (both border_now (is_inner h k) e) (λ t.
       let p = inner-parts e le t in
       let (m, is) = two_inner a b (face_of e) in
@@ -322,9 +287,8 @@ module _ (h : Hierarchy) (valid : IsValid h) (T : ℕ → Bool) (closed : IsClos
       let far : Beyond h split_set i None =
       subst (Beyond h split_set i) (inner_expected h k f fl own ∙ one_inner alone f)
       (split-new h valid T k closed l may i il rec) in
-      let b1 = border-from h valid split_set split_front i il (shown_record h split_set i k rec
-      ∙ with-same T k) far in
-      count_one (both border_now (is_inner h k)) sides i il
+      let b1 = border-from h valid split_set split_front i il (own_shown i rec) far in
+      count_one (both border_now (is_inner h k)) (3 * face_count h) i il
       (and_from (border_now i) (is_inner h k i) b1
       (and_from (is_at k (record_of h i)) (eqb i (inner_of h k (face_of i)))
       (is_at-from k (record_of h i) rec)

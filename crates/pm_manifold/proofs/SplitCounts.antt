@@ -1,6 +1,7 @@
 -- What a legal split of a firm hierarchy does to the numbers of nodes, faces and edges.
 use Rattle.std.proofs.Common.{◌≡◌, ◌≢◌, ℕ, suc, ◌+◌, ◌*◌, ◌<◌, Bool, true, false, ◌&&◌, not, Option}
 use Rattle.std.proofs.lemmas.Grind.{common_steps}
+use Rattle.std.proofs.Math.Bool.{and_comm}
 use Rattle.std.proofs.Common.{Some, None, inl, inr, refl, sym, ap, ◌∙◌, arith}
 use Rattle.std.specs.Prelude.{is_some, is_none}
 use Rattle.std.proofs.lemmas.Bool.{cases_Bool, cases_eq, both_ways, or_cases, and_parts, and_from}
@@ -31,9 +32,6 @@ use Rattle.pm_manifold.specs.Measure.{border_sides, joined_sides, edges_shown}
 use Rattle.pm_base.proofs.Counted.{both, only, count_parts, count_one, count_two, count_sides}
 use Rattle.pm_manifold.proofs.SplitBorders.{is_inner, outer_borders, two_faces, one_face}
 
-and-turned : (a b : Bool) → (a && b) ≡ (b && a)
-and-turned a b = grind (arith, common_steps, and_from, and_left, and_right)
-
 -- Border sides and joined ones are all sides of kept faces.
 some-none : (r : Option ℕ) → not (is_none r) ≡ is_some r
 some-none None = refl
@@ -50,12 +48,7 @@ sides_shown h T =
     let joined =
     count_same (only kept none) (is_joined_side h T) n
     (λ e l. ap (λ b. kept e && b) (some-none (beyond_of h T e))) in
-    let all = count_sides (is_kept h T) kept (face_count h)
-    (λ f. (
-      ap (is_kept h T) (omega arith),
-      ap (is_kept h T) (omega arith),
-      ap (is_kept h T) (omega arith),
-    )) in
+    let all = count_sides (is_kept h T) kept (face_count h) (λ f. grind (arith, common_steps)) in
     omega arith
 
 module _ (h : Hierarchy) (valid : IsValid h) (T : ℕ → Bool) (closed : IsClosed h T) (k : ℕ)
@@ -108,7 +101,7 @@ module _ (h : Hierarchy) (valid : IsValid h) (T : ℕ → Bool) (closed : IsClos
       let a = count_parts active_now active_before n in
       let b = count_parts active_before active_now n in
       let same = count_same (both active_now active_before) (both active_before active_now) n
-      (λ v vl. and-turned (active_now v) (active_before v)) in
+      (λ v vl. and_comm (active_now v) (active_before v)) in
       let new = count_two (only active_now active_before) n (t_of h k) (u_of h k) t_lt u_lt
       (λ z. absurd (omega arith))
       (and_from (active_now (t_of h k)) (not (active_before (t_of h k)))
@@ -273,6 +266,7 @@ module _ (h : Hierarchy) (valid : IsValid h) (T : ℕ → Bool) (closed : IsClos
         let y = is_some (record_at h k).right in
         let count_is = next_first in
         let most = first_face-mono h (suc k) (record_count h) l in
+        let f = first_face h k in
         elim (cases_Bool x) [
           | inl a ↦
               elim (cases_Bool y) [
@@ -280,7 +274,6 @@ module _ (h : Hierarchy) (valid : IsValid h) (T : ℕ → Bool) (closed : IsClos
                 | inr b ↦
                     let xs : one_if x ≡ 1 = ap one_if a in
                     let ys : one_if y ≡ 0 = ap one_if b in
-                    let f = first_face h k in
                     let low : f < face_count h = omega arith in
                     one_more f low (revealed-from h f k l (omega arith) (omega arith))
                     (λ g gl own. elim (which_face h g k gl own) [
@@ -295,7 +288,6 @@ module _ (h : Hierarchy) (valid : IsValid h) (T : ℕ → Bool) (closed : IsClos
               [ inl c ↦ absurd (both_ways x a c) | inr c ↦ c ] in
               let xs : one_if x ≡ 0 = ap one_if a in
               let ys : one_if y ≡ 1 = ap one_if b in
-              let f = first_face h k in
               let low : f < face_count h = omega arith in
               one_more f low (revealed-from h f k l (omega arith) (omega arith))
               (λ g gl own. elim (which_face h g k gl own) [
