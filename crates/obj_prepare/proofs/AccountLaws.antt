@@ -233,7 +233,7 @@ module _ (places : List Place) (faces : List Corners) (m : Mesh)
         ],
       )
 
-  stay_few : count (is_some_corner stay) (length p.names) ≤ length p.old
+  pub stay_few : count (is_some_corner stay) (length p.names) ≤ length p.old
   stay_few =
       let n = length p.names in
       omega (

@@ -1,20 +1,22 @@
 -- Laws of counting what was done.
 use Rattle.std.proofs.Common.{◌≡◌, ℕ, suc, ◌+◌, ◌-◌, ◌==◌, ◌&&◌, not, Bool, true, false, List}
 use Rattle.std.proofs.lemmas.Grind.{common_steps}
-use Rattle.std.proofs.Common.{length, refl, sym, ◌∙◌, ap, arith}
+use Rattle.std.proofs.Common.{◌≤◌, [], length, refl, sym, ◌∙◌, ap, arith}
 use Rattle.std.specs.Prelude.{slice_index_or}
 use Rattle.std.specs.List.{filter}
 use Rattle.std.proofs.lemmas.Bool.{and_from}
+use Rattle.std.proofs.lemmas.List.{length-map}
 use Rattle.pm_base.specs.declared.mesh.Corners.{Corners}
 use Rattle.pm_base.specs.Sides.{net_of}
 use Rattle.pm_base.specs.Counts.{count}
 use Rattle.pm_base.proofs.Counted.{count_both}
 use Rattle.pm_base.proofs.Counts.{count-true, count-false, count-zero, count_same}
-use Rattle.pm_fans.specs.Kept.{is_flat}
+use Rattle.pm_fans.specs.Kept.{is_flat, kept_of}
 use Rattle.pm_fans.specs.Cuts.{cut_count}
 use Rattle.pm_turn.specs.Turning.{turned_by}
 use Rattle.obj_prepare.specs.Named.{is_some_corner, named_in}
-use Rattle.obj_prepare.specs.Joining.{joined_faces}
+use Rattle.obj_prepare.specs.Joining.{renamed, joined_faces}
+use Rattle.obj_prepare.proofs.KeptCounts.{kept_and_flat}
 use Rattle.obj_prepare.proofs.NamedLaws.{length-named_in, named_at}
 use Rattle.obj_prepare.specs.Prepared.{staying, joined_count, flat_count, double_count}
 use Rattle.obj_prepare.specs.Prepared.{unnamed_count, split_count, gone_count}
@@ -117,6 +119,13 @@ unfolding flat_count
 counted_flat faces renamed again names n are same is =
     is ∙ ap (λ fs. length (filter is_flat fs)) (same ∙ are)
 
+-- Faces that became edges and those that stay are among the faces.
+pub flat_and_staying : (names : List ℕ) (faces : List Corners)
+    → flat_count names faces + length (staying names faces) ≤ length faces
+unfolding flat_count kept_of
+flat_and_staying names faces =
+    omega (arith, kept_and_flat [] (joined_faces names faces), length-map faces (renamed names))
+
 pub counted_double : (faces stay : List Corners) (names : List ℕ) (flat n : ℕ)
     → flat ≡ flat_count names faces → stay ≡ staying names faces
     → n ≡ length faces - flat - length stay → n ≡ double_count names faces
@@ -134,7 +143,7 @@ counted_cut faces stay turned again names flags n stay_is turned_is same is =
     ∙ ap (turned_by flags) stay_is)
 
 -- How many flags are set of the vertices that a face names.
-counted_set : (fs : List Corners) (flags lent : List Bool) (vertices n : ℕ)
+pub counted_set : (fs : List Corners) (flags lent : List Bool) (vertices n : ℕ)
     → flags ≡ named_in fs vertices → lent ≡ flags → n ≡ set_below lent (length lent)
     → n ≡ count (is_some_corner fs) vertices
 counted_set fs flags lent vertices n are same is =

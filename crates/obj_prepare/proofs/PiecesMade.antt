@@ -9,6 +9,7 @@ use Rattle.pm_base.specs.Place.{Place}
 use Rattle.pm_base.specs.Meshes.{IsWellFormed}
 use Rattle.pm_base.specs.Sides.{net_of}
 use Rattle.pm_base.specs.Fans.{IsOrientedManifold}
+use Rattle.pm_base.specs.Counts.{count}
 use Rattle.pm_fans.specs.Splits.{IsCuttable}
 use Rattle.pm_turn.specs.declared.counts.TurnCounts.{TurnCounts}
 use Rattle.pm_turn.specs.Turning.{turned_by}
@@ -19,10 +20,11 @@ use Rattle.pm_fans.specs.Orders.{IsSplitMesh}
 use Rattle.pm_fans.specs.Kept.{kept_of}
 use Rattle.pm_fans.proofs.KeptLaws.{kept_are_fit}
 use Rattle.obj_prepare.specs.declared.notes.Notes.{Notes}
-use Rattle.obj_prepare.specs.Named.{IsWithinMesh}
+use Rattle.obj_prepare.specs.Named.{IsWithinMesh, is_some_corner}
 use Rattle.obj_prepare.specs.Joining.{place_in_list, AreJoined, renamed, joined_faces}
 use Rattle.obj_prepare.specs.Prepared.{staying, AreNotes, IsPrepared, IsPreparedWith, HasTooMany}
 use Rattle.obj_prepare.specs.Pieces.{ArePieces}
+use Rattle.obj_prepare.proofs.AccountLaws.{stay_few}
 use Rattle.obj_prepare.proofs.TurnedLaws.{turned_within}
 use Rattle.obj_prepare.proofs.PieceLaws.{renamed_within, kept_within, side_low, kept_cuttable}
 use Rattle.obj_prepare.proofs.PieceLaws.{old_low, split_formed}
@@ -125,6 +127,13 @@ module _ {places : List Place} {faces : List Corners} {names : List ℕ} {rename
   prepared_of : (points : List Place) (fs : List Corners) → points ≡ map (place_in_list places) old
       → fs ≡ split → IsPrepared places faces (record { points = points; faces = fs })
   prepared_of points fs is same = grind (arith, common_steps, split_here)
+
+  -- At least as many vertices come out as have faces that stay.
+  pub pieces_few : count (is_some_corner stay) (length places) ≤ length old
+  unfolding prepared_of
+  pieces_few =
+      let made = prepared_of (map (place_in_list places) old) split refl refl in
+      rw (pieces.stay_is, sym pieces_names) (stay_few places faces _ within.corners made)
 
   pub pieces_made : (points : List Place) (fs : List Corners) (notes : Notes)
       → points ≡ map (place_in_list places) old → fs ≡ split

@@ -92,13 +92,11 @@ fn count_up(
     Ok(Notes {
         joined: count_joined(&before, &p.names),
         flat,
-        double: (faces.len() as u32)
-            .saturating_sub(flat)
-            .saturating_sub(p.stay.len() as u32),
+        double: faces.len() as u32 - flat - p.stay.len() as u32,
         turns: p.turns.counts,
         cut: cut_sides(alloc, &p.turned)?,
-        split: (p.split.old.len() as u32).saturating_sub(count_set(&after)),
-        unnamed: (places.len() as u32).saturating_sub(count_set(&before)),
+        split: p.split.old.len() as u32 - count_set(&after),
+        unnamed: places.len() as u32 - count_set(&before),
         gone: count_gone(&before, &p.names, &after),
     })
 }
