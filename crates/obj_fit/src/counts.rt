@@ -33,6 +33,7 @@ pub struct Counts {
 
 /// The counts of a text, of whose triangles, once polygons were cut anew, these name three
 /// vertices, and of the mesh that came out.
+#[tactic(auto, using(obj_prepare::proofs::ThreeLaws::three_few))]
 pub fn counts_of(scan: &Scan, cut: &Recut, three: &[Corners], mesh: &Mesh) -> Counts
     requires within { IsWithinLimits (scanned_of scan.now) }
     requires cut { length cut.now.faces.items ≤ MOST_FACES }
@@ -50,7 +51,7 @@ pub fn counts_of(scan: &Scan, cut: &Recut, three: &[Corners], mesh: &Mesh) -> Co
         polygons: scan.polygons.len() as u32,
         overlapping: cut.overlapping,
         weights: scan.weights,
-        twice: (cut.faces.len() as u32).saturating_sub(three.len() as u32),
+        twice: cut.faces.len() as u32 - three.len() as u32,
         thin: count_thin(mesh.points.as_slice(), mesh.faces.as_slice()),
     }
 }
