@@ -1,5 +1,5 @@
 -- What is written of a mesh that was made, and what is said of it.
-use Rattle.std.specs.Prelude.{ℕ, ◌+◌, ◌==◌, ◌&&◌, pos, List, [], ◌∷◌, ◌++◌, Option, Some, None}
+use Rattle.std.specs.Prelude.{ℕ, ◌+◌, ◌==◌, ◌&&◌, pos, List, ◌++◌, Option, Some, None}
 use Rattle.std.specs.Prelude.{codes, if◌then◌else◌}
 use Rattle.std.specs.Fmt.{decimal}
 use Rattle.pm_base.specs.Place.{Place}
@@ -111,16 +111,15 @@ vertex_notes notes =
     ++ note_line (codes "vertices that no face has") notes.unnamed
     ++ note_line (codes "vertices whose faces all went") notes.gone
 
--- `x`, `y` or `z`
-abbrev pub axis_letter : Axis → ℕ
-axis_letter axes.X = 120
-axis_letter axes.Y = 121
-axis_letter axes.Z = 122
+abbrev pub axis_letter : Axis → List ℕ
+axis_letter axes.X = codes "x"
+axis_letter axes.Y = codes "y"
+axis_letter axes.Z = codes "z"
 
 -- Which axis is the longest, and from where to where it goes. Vertices are counted from 1.
 unfoldable pub longest_text : LongestAxis → List ℕ
 longest_text l =
-    codes "the longest axis, " ++ axis_letter l.axis ∷ [] ++ codes ", goes from vertex "
+    codes "the longest axis, " ++ axis_letter l.axis ++ codes ", goes from vertex "
     ++ decimal (l.low + 1) ++ codes " to vertex " ++ decimal (l.high + 1) ++ codes "\n"
 
 -- That many triangles became edges, and what the box stretches between.

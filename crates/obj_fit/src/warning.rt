@@ -6,13 +6,13 @@ use crate::text::add_number;
 use obj_prepare::{Axis, LongestAxis};
 use std::alloc::AllocError;
 
-fn axis_letter(axis: Axis) -> u8
-    ensures { result ≡ axis_letter axis }
+fn axis_letter(axis: Axis) -> &'static [u8]
+    ensures { result.now ≡ axis_letter axis }
 {
     match axis {
-        Axis::X => b'x',
-        Axis::Y => b'y',
-        Axis::Z => b'z',
+        Axis::X => b"x",
+        Axis::Y => b"y",
+        Axis::Z => b"z",
     }
 }
 
@@ -21,7 +21,7 @@ fn add_longest(text: &mut Vec<u8>, longest: LongestAxis) -> Result<(), AllocErro
     ensures { OnOk result (text.new.items ≡ text.old.items ++ longest_text longest) }
 {
     text.extend_from_slice(b"the longest axis, ")?;
-    text.push(axis_letter(longest.axis))?;
+    text.extend_from_slice(axis_letter(longest.axis))?;
     text.extend_from_slice(b", goes from vertex ")?;
     add_number(text, u64::from(longest.low) + 1)?;
     text.extend_from_slice(b" to vertex ")?;
