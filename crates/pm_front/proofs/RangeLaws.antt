@@ -12,7 +12,7 @@ use Rattle.pm_links.specs.Lists.{has, IsOnce, list_without}
 use Rattle.pm_links.proofs.Members.{has-append}
 use Rattle.pm_front.specs.Corners.{is_not_between}
 use Rattle.pm_front.specs.Members.{AreSameNumbers}
-use Rattle.pm_front.proofs.ActiveLaws.{same-without}
+use Rattle.pm_front.proofs.ListedActive.{same-without}
 use Rattle.pm_front.proofs.CornerTables.{out-begins, out-more}
 use Rattle.pm_front.proofs.ListLaws.{has_range-parts, has_range-from, has_filter-parts}
 use Rattle.pm_front.proofs.ListLaws.{has_filter-from}

@@ -4,7 +4,7 @@ use Rattle.pm_links.specs.Lists.{list_of, first_of, after}
 use Rattle.pm_links.proofs.Members.{has_head}
 use Rattle.pm_forest.specs.Forest.{s_of}
 use Rattle.pm_front.proofs.DealtCorners.{next_of_first, deals_one}
-use Rattle.pm_front.proofs.corners.deal_these.Goals as goal
+use Rattle.pm_front.proofs.dealing.deal_these.Goals as goal
 
 pub deal_one-requires-clause-corner : goal.deal_one-requires-clause-corner
 deal_one-requires-clause-corner c =

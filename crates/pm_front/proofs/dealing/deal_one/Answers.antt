@@ -1,5 +1,5 @@
 use Rattle.pm_links.proofs.Calls.{after_unlink, free-unlink_same}
-use Rattle.pm_front.proofs.corners.deal_one.Goals as goal
+use Rattle.pm_front.proofs.dealing.deal_one.Goals as goal
 
 pub push_front-requires-clause-free : goal.push_front-requires-clause-free
 push_front-requires-clause-free c =
