@@ -151,42 +151,40 @@ module _ (m : Net) (places : List Place) (mates : List (Option ℕ)) (roots : Li
 
     same : (f : ℕ) → f < m.faces → Agrees m root (root f) → flag_of flags f ≡ false
     same f l all =
-        elim (cases_Bool (odd (root f))) [
-          | inl set ↦ flag_odd f l set
-          | inr un ↦
-              let r : ℕ = root f in
-              let none : (sum_of r).odd ≡ 0 =
-              none_odd r (root_in m root parity odd t f l) (root_root m root parity odd t f l)
-              all in
-              flag_straight f r l refl un
-              ∙ ap (λ (b : Bool). flipped_if b (parity f)) (stays_without_odd (sum_of r) none)
-              ∙ all_even r all f l refl
-        ]
+        let none = none_odd (root f) (root_in m root parity odd t f l)
+        (root_root m root parity odd t f l) all in
+        let stays = stays_without_odd (sum_of (root f)) none in
+        let even = all_even (root f) all f l refl in
+        grind (arith, flag_odd f l, flag_straight f (root f) l refl)
 
     module _ (r : ℕ) (low : r < m.faces) (own : root r ≡ r) where
-      -- How many are turned in a patch that isn't twisted.
+      -- The flags of a patch that isn't twisted, and how many are turned in it.
+      flag_on : odd r ≡ false → back r ≡ true → (f : ℕ) → f < m.faces → root f ≡ r
+          → flag_of flags f ≡ not (parity f)
+      flag_on un b f l at = grind (arith, flag_straight f r l at un)
+
+      flag_off : odd r ≡ false → back r ≡ false → (f : ℕ) → f < m.faces → root f ≡ r
+          → flag_of flags f ≡ parity f
+      flag_off un b f l at = grind (arith, flag_straight f r l at un)
+
       counts_on : odd r ≡ false → back r ≡ true
           → (turned_in m root (flag_of flags) r ≡ (sum_of r).even)
           × (staying_in m root (flag_of flags) r ≡ (sum_of r).odd)
-      counts_on un b =
-          let flag : (f : ℕ) → f < m.faces → root f ≡ r → flag_of flags f ≡ not (parity f) =
-          λ f l at. flag_straight f r l at un ∙ ap (λ (x : Bool). flipped_if x (parity f)) b in (
-            patch_same root r m.faces (flag_of flags) (λ f. not (parity f)) flag
-                ∙ sym (s.each r low).even,
-            patch_same root r m.faces (λ f. not (flag_of flags f)) parity
-                (λ f l at. ap not (flag f l at) ∙ not_not (parity f)) ∙ sym (s.each r low).odd,
-          )
+      counts_on un b = (
+        patch_same root r m.faces (flag_of flags) (λ f. not (parity f)) (flag_on un b)
+            ∙ sym (s.each r low).even,
+        patch_same root r m.faces (λ f. not (flag_of flags f)) parity
+            (λ f l at. ap not (flag_on un b f l at) ∙ not_not (parity f)) ∙ sym (s.each r low).odd,
+      )
 
       counts_off : odd r ≡ false → back r ≡ false
           → (turned_in m root (flag_of flags) r ≡ (sum_of r).odd)
           × (staying_in m root (flag_of flags) r ≡ (sum_of r).even)
-      counts_off un b =
-          let flag : (f : ℕ) → f < m.faces → root f ≡ r → flag_of flags f ≡ parity f =
-          λ f l at. flag_straight f r l at un ∙ ap (λ (x : Bool). flipped_if x (parity f)) b in (
-            patch_same root r m.faces (flag_of flags) parity flag ∙ sym (s.each r low).odd,
-            patch_same root r m.faces (λ f. not (flag_of flags f)) (λ f. not (parity f))
-                (λ f l at. ap not (flag f l at)) ∙ sym (s.each r low).even,
-          )
+      counts_off un b = (
+        patch_same root r m.faces (flag_of flags) parity (flag_off un b) ∙ sym (s.each r low).odd,
+        patch_same root r m.faces (λ f. not (flag_of flags f)) (λ f. not (parity f))
+            (λ f l at. ap not (flag_off un b f l at)) ∙ sym (s.each r low).even,
+      )
 
       few_straight : odd r ≡ false → back r ≡ nat_lt (sum_of r).even (sum_of r).odd
           → IsFewest m root (flag_of flags) r
@@ -212,9 +210,8 @@ module _ (m : Net) (places : List Place) (mates : List (Option ℕ)) (roots : Li
           ≡ (sum_of r).volume
       volume_off un b =
           patch_total root r m.faces (λ f. volume_at m places (flag_of flags f) f)
-          (λ f. volume_at m places (parity f) f) (λ f l at.
-          ap (λ (x : Bool). volume_at m places x f) (flag_straight f r l at un
-          ∙ ap (λ (x : Bool). flipped_if x (parity f)) b))
+          (λ f. volume_at m places (parity f) f)
+          (λ f l at. ap (λ (x : Bool). volume_at m places x f) (flag_off un b f l at))
           ∙ sym (s.each r low).volume
 
       volume_on : odd r ≡ false → back r ≡ true → volume_in m places root (flag_of flags) r
@@ -222,8 +219,7 @@ module _ (m : Net) (places : List Place) (mates : List (Option ℕ)) (roots : Li
       volume_on un b =
           patch_opposite root r m.faces (λ f. volume_at m places (parity f) f)
           (λ f. volume_at m places (flag_of flags f) f) (λ f l at.
-          ap (λ (x : Bool). volume_at m places x f) (flag_straight f r l at un
-          ∙ ap (λ (x : Bool). flipped_if x (parity f)) b)
+          ap (λ (x : Bool). volume_at m places x f) (flag_on un b f l at)
           ∙ volume_turned m places (parity f) f)
           ∙ ap neg_ℤ (sym (s.each r low).volume)
 

@@ -53,37 +53,20 @@ more_on m n k s = grind (arith, common_steps)
 -- One more side with another key.
 noted_other : (m : Net) (n k : ℕ) (r : Option Edge) → edge_key_at m n ≢ k → IsEdge m n k r
     → IsEdge m (n + 1) k r
-noted_other m n k None ne h = λ e l.
-    elim (cases_eq e n) [
-      | inl same ↦ (λ is. ne (ap (edge_key_at m) (sym same) ∙ is))
-      | inr other ↦ h e (omega (arith, l, other))
-    ]
-noted_other m n k (Some (Edge.One v)) ne h =
-    let low = h.in_range in
-    record {
-      in_range = omega (arith, low);
-      has = h.has;
-      alone = λ e l is.
-          elim (cases_eq e n) [
-            | inl same ↦ absurd (ne (ap (edge_key_at m) (sym same) ∙ is))
-            | inr other ↦ h.alone e (omega (arith, l, other)) is
-          ];
-    }
-noted_other m n k (Some (Edge.Two v w)) ne h =
-    let one = h.one_in in
-    let other = h.other_in in
-    record {
-      one_in = omega (arith, one);
-      other_in = omega (arith, other);
-      differ = h.differ;
-      one_has = h.one_has;
-      other_has = h.other_has;
-      alone = λ e l is.
-          elim (cases_eq e n) [
-            | inl same ↦ absurd (ne (ap (edge_key_at m) (sym same) ∙ is))
-            | inr ahead ↦ h.alone e (omega (arith, l, ahead)) is
-          ];
-    }
+noted_other m n k None ne h = λ e l. grind (arith, common_steps, h e)
+noted_other m n k (Some (Edge.One v)) ne h = record {
+  in_range = omega (arith, h.in_range);
+  has = h.has;
+  alone = λ e l is. grind (arith, common_steps, h.alone e);
+}
+noted_other m n k (Some (Edge.Two v w)) ne h = record {
+  one_in = omega (arith, h.one_in);
+  other_in = omega (arith, h.other_in);
+  differ = h.differ;
+  one_has = h.one_has;
+  other_has = h.other_has;
+  alone = λ e l is. grind (arith, common_steps, h.alone e);
+}
 noted_other m n k (Some Edge.More) ne h = more_on m n k h
 
 -- One more side with this key.
@@ -91,37 +74,28 @@ noted_same : (m : Net) (n k : ℕ) (r : Option Edge) (e : Side) → e.0 ≡ n �
     → IsEdge m n k r
     → IsEdge m (n + 1) k (Some (edge_with r e))
 noted_same m n k None e at is none = grind (arith, common_steps)
-noted_same m n k (Some (Edge.One v)) e at is h =
-    let low = h.in_range in
-    record {
-      one_in = omega (arith, low);
-      other_in = omega (arith, at);
-      differ = λ i. absurd (omega (arith, low, at, i));
-      one_has = h.has;
-      other_has = ap (edge_key_at m) at ∙ is;
-      alone = λ g l has.
-          elim (cases_eq g n) [
-            | inl same ↦ inr (same ∙ sym at)
-            | inr other ↦ inl (h.alone g (omega (arith, l, other)) has)
-          ];
-    }
-noted_same m n k (Some (Edge.Two v w)) e at is h =
-    let one = h.one_in in
-    let two = h.other_in in
-    record {
-      one = v.0;
-      two = w.0;
-      three = n;
-      one_in = omega (arith, one);
-      two_in = omega (arith, two);
-      three_in = omega arith;
-      one_two = h.differ;
-      one_three = λ i. absurd (omega (arith, one, i));
-      two_three = λ i. absurd (omega (arith, two, i));
-      one_has = h.one_has;
-      two_has = h.other_has;
-      three_has = is;
-    }
+noted_same m n k (Some (Edge.One v)) e at is h = record {
+  one_in = omega (arith, h.in_range);
+  other_in = omega (arith, at);
+  differ = λ i. absurd (omega (arith, h.in_range, at, i));
+  one_has = h.has;
+  other_has = ap (edge_key_at m) at ∙ is;
+  alone = λ g l has. grind (arith, common_steps, h.alone g);
+}
+noted_same m n k (Some (Edge.Two v w)) e at is h = record {
+  one = v.0;
+  two = w.0;
+  three = n;
+  one_in = omega (arith, h.one_in);
+  two_in = omega (arith, h.other_in);
+  three_in = omega arith;
+  one_two = h.differ;
+  one_three = λ i. absurd (omega (arith, h.one_in, i));
+  two_three = λ i. absurd (omega (arith, h.other_in, i));
+  one_has = h.one_has;
+  two_has = h.other_has;
+  three_has = is;
+}
 noted_same m n k (Some Edge.More) e at is h = more_on m n k h
 
 pub one_noted : (m : Net) (s t : BTreeMap ℕ Edge) (e : Side) (key : ℕ) (r : Option Edge)
@@ -170,15 +144,7 @@ module _ (m : Net) (ok : IsCuttable m) where
       let three = a.alone t.three (joins e t.three el t.three_in t.three_has) in
       elim one [
         | inl i ↦ grind (arith, common_steps)
-        | inr i ↦
-            elim two [
-              | inr j ↦ t.one_two (i ∙ sym j)
-              | inl j ↦ elim three [
-                | inr h ↦ t.one_three (i ∙ sym h)
-                | inl h ↦
-                    t.two_three (j ∙ sym h)
-              ]
-            ]
+        | inr i ↦ grind (arith, common_steps)
       ]
 
   mate_is : (e : Side) (r : Option Edge) → e.0 < side_count m
