@@ -1,42 +1,23 @@
-use Rattle.std.proofs.Common.{◌-ℤ◌, FitsSigned, w64, lit<, rules}
-use Rattle.std.proofs.lemmas.Int.{to_z-of_z}
-use Rattle.pm_base.proofs.Range.{above_small}
-use Rattle.pm_base.proofs.ReadBack.{fits_small}
+use Rattle.std.proofs.Common.{◌-ℤ◌, w32, w64, to_z, of_z, lit<, lit≤}
+use Rattle.pm_base.proofs.ReadBack.{Computes, computed_small, difference_computes, widened}
 use Rattle.pm_deviation.proofs.steps.above.Goals as goal
 
+difference_is : (c : goal.After-from-2)
+    → Computes w64 (to_z w64 (of_z w64 c.from.result) -ℤ to_z w64 (of_z w64 c.from-2.result))
+    (c.args.x -ℤ c.args.y) 65534
+difference_is c =
+    difference_computes w64 _ _ c.args.x c.args.y 32767 32767 65534
+    (widened w32 w64 c.args.x c.from.result 32767 c.ranges.x c.from.ensures
+    c.requires.x_small (lit< tt))
+    (widened w32 w64 c.args.y c.from-2.result 32767 c.ranges.y c.from-2.ensures
+    c.requires.y_small (lit< tt))
+    c.requires.x_small c.requires.y_small (lit≤ tt) (lit< tt)
+
 pub overflow_sub-result : goal.overflow_sub-result
-overflow_sub-result c =
-    let fx = c.ranges.x in
-    let fy = c.ranges.y in
-    let rx : FitsSigned w64 c.from.result = search rules in
-    let ry : FitsSigned w64 c.from-2.result = search rules in
-    let x = simp to_z-of_z at c.from.ensures in
-    let y = simp to_z-of_z at c.from-2.ensures in
-    let small = above_small c.args.x c.args.y c.requires.x_small c.requires.y_small in
-    simp to_z-of_z (rw (x, y) (fits_small w64 (c.args.x -ℤ c.args.y) 65534 small (lit< tt)))
+overflow_sub-result c = (difference_is c).fits
 
 pub returns-clause-value : goal.returns-clause-value
-returns-clause-value c =
-    let fx = c.ranges.x in
-    let fy = c.ranges.y in
-    let rx : FitsSigned w64 c.from.result = search rules in
-    let ry : FitsSigned w64 c.from-2.result = search rules in
-    let x = simp to_z-of_z at c.from.ensures in
-    let y = simp to_z-of_z at c.from-2.ensures in
-    let small = above_small c.args.x c.args.y c.requires.x_small c.requires.y_small in
-    let f : FitsSigned w64 (c.args.x -ℤ c.args.y) =
-    fits_small w64 (c.args.x -ℤ c.args.y) 65534 small (lit< tt) in
-    simp to_z-of_z (rw (x, y) (simp to_z-of_z))
+returns-clause-value c = (difference_is c).value
 
 pub returns-clause-small : goal.returns-clause-small
-returns-clause-small c =
-    let fx = c.ranges.x in
-    let fy = c.ranges.y in
-    let rx : FitsSigned w64 c.from.result = search rules in
-    let ry : FitsSigned w64 c.from-2.result = search rules in
-    let x = simp to_z-of_z at c.from.ensures in
-    let y = simp to_z-of_z at c.from-2.ensures in
-    let small = above_small c.args.x c.args.y c.requires.x_small c.requires.y_small in
-    let f : FitsSigned w64 (c.args.x -ℤ c.args.y) =
-    fits_small w64 (c.args.x -ℤ c.args.y) 65534 small (lit< tt) in
-    simp to_z-of_z (rw (x, y) (simp to_z-of_z small))
+returns-clause-small c = computed_small _ _ _ _ (difference_is c)

@@ -1,53 +1,35 @@
-use Rattle.std.proofs.Common.{◌*◌, ◌^◌, ◌+ℤ◌, FitsSigned, w64, lit<}
-use Rattle.std.proofs.lemmas.Int.{to_z-of_z}
-use Rattle.pm_base.proofs.ReadBack.{fits_small}
-use Rattle.pm_deviation.proofs.WordLaws.{two_small, three_small}
+use Rattle.std.proofs.Common.{◌*◌, ◌^◌, w64, to_z, of_z, lit<, lit≤}
+use Rattle.std.specs.Prelude.{ℤ, ◌+ℤ◌}
+use Rattle.pm_base.proofs.ReadBack.{Computes, computed_small, read_is, sum_computes}
 use Rattle.pm_deviation.proofs.unit_box.add_three.Goals as goal
 
+abbrev read : ℤ → ℤ
+read z = to_z w64 (of_z w64 z)
+
+two_are : (c : goal.Start)
+    → Computes w64 (read c.args.a +ℤ read c.args.b) (c.args.a +ℤ c.args.b) (2 ^ 33)
+two_are c =
+    sum_computes w64 _ _ c.args.a c.args.b (2 ^ 32) (2 ^ 32) (2 ^ 33)
+    (read_is w64 c.args.a (2 ^ 32) c.requires.a_small (lit< tt))
+    (read_is w64 c.args.b (2 ^ 32) c.requires.b_small (lit< tt))
+    c.requires.a_small c.requires.b_small (lit≤ tt) (lit< tt)
+
+three_are : (c : goal.Start)
+    → Computes w64 (read (read c.args.a +ℤ read c.args.b) +ℤ read c.args.c)
+    (c.args.a +ℤ c.args.b +ℤ c.args.c) (3 * 2 ^ 32)
+three_are c =
+    sum_computes w64 _ _ (c.args.a +ℤ c.args.b) c.args.c (2 ^ 33) (2 ^ 32) (3 * 2 ^ 32)
+    (two_are c).value (read_is w64 c.args.c (2 ^ 32) c.requires.c_small (lit< tt))
+    (two_are c).small c.requires.c_small (lit≤ tt) (lit< tt)
+
 pub overflow_add-result : goal.overflow_add-result
-overflow_add-result c =
-    let fa = c.ranges.a in
-    let fb = c.ranges.b in
-    let small = two_small c.args.a c.args.b c.requires.a_small c.requires.b_small in
-    simp to_z-of_z (fits_small w64 (c.args.a +ℤ c.args.b) (2 ^ 33) small (lit< tt))
+overflow_add-result c = (two_are c).fits
 
 pub overflow_add-result-2 : goal.overflow_add-result-2
-overflow_add-result-2 c =
-    let fa = c.ranges.a in
-    let fb = c.ranges.b in
-    let fc = c.ranges.c in
-    let two = two_small c.args.a c.args.b c.requires.a_small c.requires.b_small in
-    let f : FitsSigned w64 (c.args.a +ℤ c.args.b) =
-    fits_small w64 (c.args.a +ℤ c.args.b) (2 ^ 33) two (lit< tt) in
-    let three = three_small c.args.a c.args.b c.args.c c.requires.a_small c.requires.b_small
-    c.requires.c_small in
-    simp to_z-of_z
-    (fits_small w64 (c.args.a +ℤ c.args.b +ℤ c.args.c) (3 * 2 ^ 32) three (lit< tt))
+overflow_add-result-2 c = (three_are c).fits
 
 pub returns-clause-value : goal.returns-clause-value
-returns-clause-value c =
-    let fa = c.ranges.a in
-    let fb = c.ranges.b in
-    let fc = c.ranges.c in
-    let two = two_small c.args.a c.args.b c.requires.a_small c.requires.b_small in
-    let f : FitsSigned w64 (c.args.a +ℤ c.args.b) =
-    fits_small w64 (c.args.a +ℤ c.args.b) (2 ^ 33) two (lit< tt) in
-    let three = three_small c.args.a c.args.b c.args.c c.requires.a_small c.requires.b_small
-    c.requires.c_small in
-    let g : FitsSigned w64 (c.args.a +ℤ c.args.b +ℤ c.args.c) =
-    fits_small w64 (c.args.a +ℤ c.args.b +ℤ c.args.c) (3 * 2 ^ 32) three (lit< tt) in
-    simp to_z-of_z
+returns-clause-value c = (three_are c).value
 
 pub returns-clause-small : goal.returns-clause-small
-returns-clause-small c =
-    let fa = c.ranges.a in
-    let fb = c.ranges.b in
-    let fc = c.ranges.c in
-    let two = two_small c.args.a c.args.b c.requires.a_small c.requires.b_small in
-    let f : FitsSigned w64 (c.args.a +ℤ c.args.b) =
-    fits_small w64 (c.args.a +ℤ c.args.b) (2 ^ 33) two (lit< tt) in
-    let three = three_small c.args.a c.args.b c.args.c c.requires.a_small c.requires.b_small
-    c.requires.c_small in
-    let g : FitsSigned w64 (c.args.a +ℤ c.args.b +ℤ c.args.c) =
-    fits_small w64 (c.args.a +ℤ c.args.b +ℤ c.args.c) (3 * 2 ^ 32) three (lit< tt) in
-    simp to_z-of_z three
+returns-clause-small c = computed_small _ _ _ _ (three_are c)
