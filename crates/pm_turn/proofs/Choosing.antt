@@ -4,6 +4,7 @@ use Rattle.std.proofs.Common.{true, false, not, List, Option, None, length, slic
 use Rattle.std.proofs.lemmas.Grind.{common_steps}
 use Rattle.std.specs.Prelude.{ℤ, pos, neg_ℤ, ◌≤ℤ◌, nat_lt}
 use Rattle.std.proofs.lemmas.Bool.{cases_Bool, cond-true, cond-false, ltb-true, ltb-false}
+use Rattle.std.proofs.Math.Bool.{not-not}
 use Rattle.pm_base.specs.Place.{Place}
 use Rattle.pm_base.specs.Sides.{Net, face_of, side_count, beside_side}
 use Rattle.pm_turn.specs.declared.patches.Root.{Root}
@@ -17,7 +18,7 @@ use Rattle.pm_turn.specs.Choice.{AreChosenTurns}
 use Rattle.pm_turn.specs.Sums.{root_at, parity_at, is_bare, no_sums, AreSums, is_reversed}
 use Rattle.pm_turn.specs.Sums.{chosen_flag}
 use Rattle.pm_turn.proofs.Traced.{one_in, other_in, roots_same, root_in, root_root, odd_way}
-use Rattle.pm_turn.proofs.Reversing.{flip_past, stays_without_odd, by_count, at_least_own, not_not}
+use Rattle.pm_turn.proofs.Reversing.{flip_past, stays_without_odd, by_count, at_least_own}
 use Rattle.pm_turn.proofs.Reversing.{by_volumes}
 use Rattle.pm_turn.proofs.Totals.{patch_same, patch_none, patch_some, patch_total, patch_opposite}
 use Rattle.pm_turn.proofs.Totals.{determinant_turned}
@@ -174,7 +175,7 @@ module _ (m : Net) (places : List Place) (mates : List (Option ℕ)) (roots : Li
         patch_same root r m.faces (flag_of flags) (λ f. not (parity f)) (flag_on un b)
             ∙ sym (s.each r low).even,
         patch_same root r m.faces (λ f. not (flag_of flags f)) parity
-            (λ f l at. ap not (flag_on un b f l at) ∙ not_not (parity f)) ∙ sym (s.each r low).odd,
+            (λ f l at. ap not (flag_on un b f l at) ∙ not-not (parity f)) ∙ sym (s.each r low).odd,
       )
 
       counts_off : odd r ≡ false → back r ≡ false

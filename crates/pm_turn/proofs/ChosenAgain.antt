@@ -1,7 +1,8 @@
 -- Faces that agree are kept, and those that were turned aren't turned again.
-use Rattle.std.proofs.Common.{◌≡◌, ℕ, ◌<◌, inl, inr, refl, sym, ap, ◌∙◌, subst, List, length, Bool}
+use Rattle.std.proofs.Common.{arith, ◌≡◌, ℕ, ◌<◌, inl, inr, sym, ap, ◌∙◌, subst, List, length, Bool}
 use Rattle.std.proofs.Common.{true, false}
-use Rattle.std.proofs.lemmas.Bool.{cases_Bool, true≢false}
+use Rattle.std.proofs.lemmas.Grind.{common_steps}
+use Rattle.std.proofs.lemmas.Bool.{cases_Bool}
 use Rattle.pm_base.specs.declared.mesh.Corners.{Corners}
 use Rattle.pm_base.specs.Place.{Place}
 use Rattle.pm_base.specs.Sides.{Net, face_of, net_of}
@@ -28,15 +29,7 @@ manifolds_are_kept fs places flags stand is t =
     agreeing_faces_are_kept fs places flags (once_agree (net_of fs) is.no_side_twice) t
 
 undone : (c d p q : Bool) → d ≡ flipped_if p (flipped_if q c) → q ≡ flipped_if d p → c ≡ false
-undone true true true q e f =
-    absurd (true≢false (e ∙ ap (λ (b : Bool). flipped_if true (flipped_if b true)) f))
-undone true true false q e f =
-    absurd (true≢false (e ∙ ap (λ (b : Bool). flipped_if false (flipped_if b true)) f))
-undone true false true q e f =
-    absurd (true≢false (sym (e ∙ ap (λ (b : Bool). flipped_if true (flipped_if b true)) f)))
-undone true false false q e f =
-    absurd (true≢false (sym (e ∙ ap (λ (b : Bool). flipped_if false (flipped_if b true)) f)))
-undone false d p q e f = refl
+undone c d p q e f = grind (arith, common_steps)
 
 module _ (fs : List Corners) (places : List Place) (flags again : List Bool)
     (t : AgreeOnceTurned (net_of (kept_of fs)) flags)

@@ -1,7 +1,6 @@
 -- One pair of mates joined, in the tables.
-use Rattle.std.proofs.Common.{◌≡◌, ℕ, ◌+◌, ◌<◌, refl, sym, Bool, true, false, not}
+use Rattle.std.proofs.Common.{◌≡◌, ℕ, ◌+◌, ◌<◌, Bool, true, false, not, arith}
 use Rattle.std.proofs.lemmas.Grind.{common_steps}
-use Rattle.std.proofs.Common.{arith}
 use Rattle.pm_base.specs.Sides.{Net, face_of}
 use Rattle.pm_turn.specs.Turning.{AreMates, clash, flipped_if}
 use Rattle.pm_turn.specs.Unions.{Elders, Up, AreElders, under, marked}
@@ -9,16 +8,10 @@ use Rattle.pm_turn.proofs.Joining.{up_below}
 use Rattle.pm_turn.proofs.JoinedSides.{agreeing_more, odd_more, under_first, under_second}
 
 flips_differ : (q x : Bool) → flipped_if q x ≡ true → q ≡ not x
-flips_differ true true e = sym e
-flips_differ true false e = refl
-flips_differ false true e = refl
-flips_differ false false e = e
+flips_differ q x h = grind (arith, common_steps)
 
 flips_same : (q x : Bool) → flipped_if q x ≡ false → q ≡ x
-flips_same true true e = refl
-flips_same true false e = e
-flips_same false true e = sym e
-flips_same false false e = refl
+flips_same q x h = grind (arith, common_steps)
 
 module _ (m : Net) (n k : ℕ) (t : Elders) (s : AreElders m n t) (a : AreMates m n k) (r o : ℕ)
     (p q c : Bool) (v : Up t (face_of n) r p) (w : Up t (face_of k) o q) (ci : c ≡ clash m n k)

@@ -1,57 +1,23 @@
 -- Joining mates, pair by pair.
-use Rattle.std.proofs.Common.{◌≡◌, ◌≢◌, ℕ, ◌<◌, ◌≤◌, ◌⊎◌, inl, inr, refl, sym, ap, ◌∙◌, subst}
+use Rattle.std.proofs.Common.{◌≡◌, ◌≢◌, ℕ, ◌<◌, ◌≤◌, ◌⊎◌, inl, inr, refl, sym, ap, ◌∙◌, subst, Bool}
+use Rattle.std.proofs.Common.{true, false, ◌||◌, arith}
 use Rattle.std.proofs.lemmas.Grind.{common_steps}
-use Rattle.std.proofs.Common.{Bool, true, false, ◌||◌, arith}
 use Rattle.std.proofs.lemmas.Bool.{cases_eq, cond-true, cond-false, eq-eqb, ne_eqb, or_parts}
 use Rattle.std.proofs.lemmas.Bool.{or_cases}
 use Rattle.pm_base.specs.Sides.{Net, face_of}
 use Rattle.pm_turn.specs.Turning.{AreMates, clash, flipped_if, Way, stay}
 use Rattle.pm_turn.specs.Unions.{Elders, Up, top, up, AreJoined, AreElders, put, under}
-use Rattle.pm_turn.proofs.Traced.{way_on, way_back}
+use Rattle.pm_turn.proofs.TurnedFaces.{flip_flip}
+use Rattle.pm_turn.proofs.Traced.{way_on, way_back, flip_again}
 
 order_three : (p d x : Bool) → flipped_if (flipped_if p d) x ≡ flipped_if (flipped_if p x) d
-order_three true true true = refl
-order_three true true false = refl
-order_three true false true = refl
-order_three true false false = refl
-order_three false true true = refl
-order_three false true false = refl
-order_three false false true = refl
-order_three false false false = refl
-
-both_moved : (c p d : Bool) → flipped_if (flipped_if c p) d ≡ flipped_if c (flipped_if p d)
-both_moved true true true = refl
-both_moved true true false = refl
-both_moved true false true = refl
-both_moved true false false = refl
-both_moved false true true = refl
-both_moved false true false = refl
-both_moved false false true = refl
-both_moved false false false = refl
+order_three p d x = grind (arith, common_steps)
 
 pub closes : (q p c : Bool) → flipped_if q (flipped_if p (flipped_if c q)) ≡ flipped_if c p
-closes true true true = refl
-closes true true false = refl
-closes true false true = refl
-closes true false false = refl
-closes false true true = refl
-closes false true false = refl
-closes false false true = refl
-closes false false false = refl
+closes q p c = grind (arith, common_steps)
 
 pub closes_back : (q p c : Bool) → q ≡ flipped_if c (flipped_if p (flipped_if q (flipped_if c p)))
-closes_back true true true = refl
-closes_back true true false = refl
-closes_back true false true = refl
-closes_back true false false = refl
-closes_back false true true = refl
-closes_back false true false = refl
-closes_back false false true = refl
-closes_back false false false = refl
-
-closes_true : (d : Bool) → flipped_if d (flipped_if true d) ≡ true
-closes_true true = refl
-closes_true false = refl
+closes_back q p c = grind (arith, common_steps)
 
 pub put_same : {A : Type 0} (f : ℕ → A) (i j : ℕ) (v : A) → j ≡ i → put f i v j ≡ v
 put_same f i j v is = cond-true _ _ _ (eq-eqb _ _ is)
@@ -147,7 +113,7 @@ module _ (t : Elders) (low high : ℕ) (d : Bool) (less : low < high) (lo : t.el
                     let was = (or_parts (t.odd low) (t.odd high)
                     (sym (put_same t.odd low low (t.odd low || t.odd high) refl) ∙ none)).1 in
                     ap (λ (b : Bool). flipped_if b d) (j.agree (ap t.odd h ∙ was))
-                    ∙ both_moved (clash m e k) j.one d;
+                    ∙ sym (flip_flip (clash m e k) j.one d);
               }
             ]
       ]
@@ -185,7 +151,7 @@ module _ (t : Elders) (low high : ℕ) (d : Bool) (less : low < high) (lo : t.el
                     way_on m low high low (flipped_if true d) d
                     (way_on m low high high d true out (s.twisted high l a)) w in
                     subst (λ i. Way m i i true) (sym is)
-                    (subst (λ (b : Bool). Way m low low b) (closes_true d) round)
+                    (subst (λ (b : Bool). Way m low low b) (flip_again d) round)
               ]
         ];
     joined = λ e k el a. joined_under m e k (s.joined e k el a);

@@ -1,9 +1,10 @@
 -- One list of flags is chosen, and no other turns fewer faces of an open patch.
 use Rattle.std.proofs.Common.{◌≡◌, ℕ, ◌<◌, ◌≤◌, ◌⊎◌, inl, inr, refl, sym, ap, ◌∙◌, subst, Bool}
-use Rattle.std.proofs.lemmas.Grind.{common_steps}
 use Rattle.std.proofs.Common.{true, false, not, ◌&&◌, List, arith}
+use Rattle.std.proofs.lemmas.Grind.{common_steps}
 use Rattle.std.specs.Prelude.{ℤ, pos, neg_ℤ, ◌≤ℤ◌, ◌==◌}
-use Rattle.std.proofs.lemmas.Bool.{cases_Bool, true≢false}
+use Rattle.std.proofs.lemmas.Bool.{cases_Bool}
+use Rattle.std.proofs.Math.Bool.{not-not}
 use borrow.Author.Differences.{ints}
 use Rattle.pm_base.specs.Place.{Place}
 use Rattle.pm_base.specs.Counts.{count}
@@ -13,10 +14,9 @@ use Rattle.pm_turn.specs.Turning.{flag_of, clash, flipped_if, Way, stay, AgreeOn
 use Rattle.pm_turn.specs.Choice.{AreLeast, IsOpen, IsClosed, Agrees, HasClash, turned_in}
 use Rattle.pm_turn.specs.Choice.{staying_in, IsFewest, volume_at, volume_in, IsOutward}
 use Rattle.pm_turn.specs.Choice.{AreChosenTurns}
-use Rattle.pm_turn.proofs.TurnedFaces.{along, not_both, same_flags}
+use Rattle.pm_turn.proofs.TurnedFaces.{along, not_both, same_flags, own_not}
 use Rattle.pm_turn.proofs.Traced.{way_back, one_in}
 use Rattle.pm_turn.proofs.Totals.{total_same, patch_same, patch_none, patch_opposite}
-use Rattle.pm_turn.proofs.Reversing.{not_not}
 use Rattle.pm_turn.proofs.Choosing.{volume_turned}
 
 -- The same by another table of least faces.
@@ -58,18 +58,11 @@ module _ (m : Net) (places : List Place) (a b : ℕ → ℕ)
   outward_by turned r h = grind (arith, common_steps, fewest_by, volume_by)
 
 same_or_not : (a b : Bool) → (a ≡ b) ⊎ (b ≡ not a)
-same_or_not true true = inl refl
-same_or_not true false = inr refl
-same_or_not false true = inr refl
-same_or_not false false = inl refl
+same_or_not a b = grind (arith, common_steps)
 
 flip_not : (p b : Bool) → flipped_if p (not b) ≡ not (flipped_if p b)
 flip_not true b = refl
 flip_not false b = refl
-
-pub own_not : (b : Bool) → b ≡ not b → ⊥
-own_not true e = true≢false e
-own_not false e = true≢false (sym e)
 
 least_in : (m : Net) (least : ℕ → ℕ) → AreLeast m least → (f : ℕ) → f < m.faces → least f < m.faces
 least_in m least h f l = let (p, w) = h.way f l in let b = h.low f f false l stay in
@@ -115,7 +108,7 @@ module _ (m : Net) (least : ℕ → ℕ) (one other : List Bool) (h : AreLeast m
 
     staying_other : staying_in m least (flag_of other) r ≡ turned_in m least (flag_of one) r
     staying_other = patch_same least r m.faces (λ f. not (flag_of other f)) (flag_of one)
-        (λ f l at. ap not (reversed e f l at) ∙ not_not (flag_of one f))
+        (λ f l at. ap not (reversed e f l at) ∙ not-not (flag_of one f))
 
     both_fewest : IsFewest m least (flag_of one) r → IsFewest m least (flag_of other) r → ⊥
     both_fewest a b = grind (arith, common_steps, own_not, staying_other, turned_other)

@@ -1,4 +1,5 @@
 -- The choice between the two ways round of a patch, by the patch's sums.
+use Rattle.std.proofs.lemmas.Grind.{common_steps}
 use Rattle.std.proofs.Common.{◌≡◌, ◌≢◌, ◌⊎◌, inl, inr, refl, sym, ap, ◌∙◌, Bool, true, false, not}
 use Rattle.std.proofs.Common.{◌&&◌, arith}
 use Rattle.std.specs.Prelude.{ℤ, pos, neg_ℤ, ◌≤ℤ◌, ◌==◌, nat_lt, int_lt, if◌then◌else◌}
@@ -13,14 +14,10 @@ use Rattle.pm_turn.specs.Sums.{is_reversed}
 
 -- Tests.
 pub flip_past : (b c p : Bool) → flipped_if b (flipped_if c p) ≡ flipped_if c (flipped_if b p)
-flip_past true true p = refl
-flip_past true false p = refl
-flip_past false c p = refl
+flip_past b c p = grind (arith, common_steps)
 
 second_false : (a b c x y : Bool) → b ≡ false → (if a && b && c then x else y) ≡ y
-second_false a true c x y e = absurd (true≢false e)
-second_false true false c x y e = refl
-second_false false false c x y e = refl
+second_false a b c x y h = grind (arith, common_steps)
 
 first_false : (a b c x y : Bool) → a ≡ false → (if a && b && c then x else y) ≡ y
 first_false true b c x y e = absurd (true≢false e)
@@ -28,9 +25,7 @@ first_false false b c x y e = refl
 
 both_true : (a b c x y : Bool) → a ≡ true → b ≡ true
     → (if a && b && c then x else y) ≡ (if c then x else y)
-both_true true true c x y e f = refl
-both_true true false c x y e f = absurd (true≢false (sym f))
-both_true false b c x y e f = absurd (true≢false (sym e))
+both_true a b c x y e f = grind (arith, common_steps)
 
 -- The choice by sums: no face with odd parity, a side without a mate, and neither.
 pub stays_without_odd : (s : Sums) → s.odd ≡ 0 → is_reversed s ≡ false
@@ -59,10 +54,6 @@ opposite_apart z ne is = ne (omega (arith, ints, is))
 
 pub at_least_own : (z : ℤ) → z ≤ℤ z
 at_least_own z = omega (arith, ints)
-
-pub not_not : (b : Bool) → not (not b) ≡ b
-not_not true = refl
-not_not false = refl
 
 by_volume : (z : ℤ) (y r : Bool) → r ≡ (if not (int_eq z (pos 0)) then int_lt z (pos 0) else y)
     → IsTold z y r

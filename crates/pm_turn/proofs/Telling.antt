@@ -16,9 +16,8 @@ use Rattle.pm_turn.specs.Choice.{volume_at, volume_in}
 use Rattle.pm_turn.specs.Sums.{root_at, parity_at, no_sums, AreSums}
 use Rattle.pm_turn.specs.Told.{IsCount, IsTwisted, IsInsideOut, AreInsideOut, is_inward}
 use Rattle.pm_turn.proofs.Traced.{one_in, other_in, roots_same, odd_way}
-use Rattle.pm_turn.proofs.TurnedFaces.{flip_flip}
+use Rattle.pm_turn.proofs.TurnedFaces.{flip_flip, own_not}
 use Rattle.pm_turn.proofs.Totals.{patch_some, patch_total}
-use Rattle.pm_turn.proofs.OneChoice.{own_not}
 use Rattle.pm_turn.proofs.Choosing.{patches, even_way, all_even, some_bare, none_bare, none_odd}
 
 -- Faces in twisted patches.
@@ -50,12 +49,7 @@ own_and false odd b c v e = absurd (true≢false (sym e))
 
 all_and : (own odd b c v : Bool) → own ≡ true → odd ≡ false → b ≡ true → c ≡ true → v ≡ true
     → (own && not odd && b && c && v) ≡ true
-all_and true false true true true p q r s t = refl
-all_and true false true true false p q r s t = absurd (true≢false (sym t))
-all_and true false true false v p q r s t = absurd (true≢false (sym s))
-all_and true false false c v p q r s t = absurd (true≢false (sym r))
-all_and true true b c v p q r s t = absurd (true≢false q)
-all_and false odd b c v p q r s t = absurd (true≢false (sym p))
+all_and own odd b c v h0 h1 h2 h3 h4 = grind (arith, common_steps)
 
 agree_even : (c a b : Bool) → b ≡ flipped_if c a → a ≡ false → b ≡ false → c ≡ false
 agree_even true a b e f g = absurd (true≢false (sym (sym g ∙ e ∙ ap not f)))

@@ -1,7 +1,7 @@
 -- Flags from traced tables.
 use Rattle.std.proofs.Common.{◌≡◌, ℕ, ◌<◌, ◌≤◌, inl, inr, refl, sym, ap, ◌∙◌, subst, List, length}
-use Rattle.std.proofs.lemmas.Grind.{common_steps}
 use Rattle.std.proofs.Common.{Bool, true, false, arith}
+use Rattle.std.proofs.lemmas.Grind.{common_steps}
 use Rattle.std.proofs.lemmas.Bool.{cases_Bool, cond-true, cond-false, eqb-true, eqb-false, eq-eqb}
 use Rattle.std.proofs.lemmas.Bool.{ne_eqb}
 use Rattle.pm_base.specs.Sides.{Net, face_of}
@@ -26,12 +26,9 @@ flip_none true = refl
 flip_none false = refl
 
 flip_order : (p q : Bool) → flipped_if p q ≡ flipped_if q p
-flip_order true true = refl
-flip_order true false = refl
-flip_order false true = refl
-flip_order false false = refl
+flip_order p q = grind (arith, common_steps)
 
-flip_again : (p : Bool) → flipped_if p (flipped_if true p) ≡ true
+pub flip_again : (p : Bool) → flipped_if p (flipped_if true p) ≡ true
 flip_again true = refl
 flip_again false = refl
 

@@ -1,10 +1,10 @@
 -- Faces that were turned aren't turned again.
 use Rattle.std.proofs.Common.{◌≡◌, ◌≢◌, ℕ, ◌*◌, ◌<◌, ◌⊎◌, inl, inr, refl, sym, ap, ◌∙◌, subst, List}
-use Rattle.std.proofs.Common.{arith}
+use Rattle.std.proofs.Common.{arith, [], ◌∷◌, length, Bool, true, false, not}
 use Rattle.std.proofs.lemmas.Grind.{common_steps}
-use Rattle.std.proofs.Common.{[], ◌∷◌, length, Bool, true, false, not}
 use Rattle.std.specs.Prelude.{◌==◌}
 use Rattle.std.proofs.lemmas.Bool.{cases_Bool, eq-eqb, ne_eqb}
+use Rattle.std.proofs.Math.Bool.{not-not}
 use Rattle.pm_base.specs.declared.mesh.Corners.{Corners}
 use Rattle.pm_base.specs.Sides.{Net, face_of, to, net_of, Stands}
 use Rattle.pm_fans.specs.Splits.{AllStand}
@@ -27,26 +27,7 @@ turned_twice (false ∷ flags) (f ∷ fs) = ap (λ (l : List Corners). f ∷ l) 
 round : (cn p fk fe : Bool)
     → flipped_if (flipped_if cn p) fk
     ≡ flipped_if (flipped_if fe (flipped_if fk cn)) (flipped_if p fe)
-round true true true true = refl
-round true true true false = refl
-round true true false true = refl
-round true true false false = refl
-round true false true true = refl
-round true false true false = refl
-round true false false true = refl
-round true false false false = refl
-round false true true true = refl
-round false true true false = refl
-round false true false true = refl
-round false true false false = refl
-round false false true true = refl
-round false false true false = refl
-round false false false true = refl
-round false false false false = refl
-
-not_not : (b : Bool) → b ≡ not (not b)
-not_not true = refl
-not_not false = refl
+round cn p fk fe = grind (arith, common_steps)
 
 -- Four ends of two sides, of which each is turned or not.
 module _ (a b x y : ℕ) (ab : a ≢ b) where
@@ -124,7 +105,7 @@ module _ (flags : List Bool) (fs : List Corners) (stand : AllStand (net_of fs))
                   ∙ ap (λ (v : ℕ). to n e == v) j ∙ first)
               | inr (q, j) ↦
                   fold true true _ p q (ap (λ (v : ℕ). v == m.from (moved flags k)) i
-                  ∙ ap (λ (v : ℕ). to n e == v) j ∙ both ∙ not_not (clash n e k))
+                  ∙ ap (λ (v : ℕ). to n e == v) j ∙ both ∙ sym (not-not (clash n e k)))
             ]
       ]
 
@@ -174,14 +155,10 @@ module _ (flags : List Bool) (fs : List Corners) (stand : AllStand (net_of fs))
       )
 
 same_even : (p x : Bool) → flipped_if p x ≡ x → p ≡ false
-same_even false x e = refl
-same_even true true e = sym e
-same_even true false e = e
+same_even p x h = grind (arith, common_steps)
 
 not_same : (p x : Bool) → flipped_if p x ≡ flipped_if true x → p ≡ true
-not_same true x e = refl
-not_same false true e = sym e
-not_same false false e = e
+not_same p x h = grind (arith, common_steps)
 
 module _ (fs : List Corners) (flags : List Bool) (t : AgreeOnceTurned (net_of (kept_of fs)) flags)
   where

@@ -1,7 +1,7 @@
 -- Turning faces round.
 use Rattle.std.proofs.Common.{◌≡◌, ℕ, zero, suc, ◌<◌, ◌≤◌, ◌⊎◌, inl, inr, refl, sym, ap, ◌∙◌, subst}
-use Rattle.std.proofs.lemmas.Grind.{common_steps}
 use Rattle.std.proofs.Common.{List, [], ◌∷◌, length, Bool, true, false, not, ◌&&◌, ◌||◌, arith}
+use Rattle.std.proofs.lemmas.Grind.{common_steps}
 use Rattle.std.specs.Prelude.{◌==◌}
 use Rattle.std.proofs.lemmas.Bool.{cases_Bool, eqb-true, ne_eqb, or_from, true≢false}
 use Rattle.pm_base.specs.declared.mesh.Corners.{Corners}
@@ -46,18 +46,10 @@ each_is_turned_or_not flags fs =
 
 -- A turned face has the same corners.
 or_swap : (p q r : Bool) → (p || r || q) ≡ (p || q || r)
-or_swap true q r = refl
-or_swap false true true = refl
-or_swap false true false = refl
-or_swap false false true = refl
-or_swap false false false = refl
+or_swap p q r = grind (arith, common_steps)
 
 and_swap : (p q r : Bool) → (p && r && q) ≡ (p && q && r)
-and_swap false q r = refl
-and_swap true true true = refl
-and_swap true true false = refl
-and_swap true false true = refl
-and_swap true false false = refl
+and_swap p q r = grind (arith, common_steps)
 
 corner_turned : (f : Corners) (v : ℕ) → is_corner (turned_face f) v ≡ is_corner f v
 corner_turned f v = or_swap (f.a == v) (f.b == v) (f.c == v)
@@ -110,19 +102,14 @@ turned_faces_become_manifolds fs fs' flags s =
 
 -- Flags along a way.
 pub flip_flip : (c p x : Bool) → flipped_if c (flipped_if p x) ≡ flipped_if (flipped_if c p) x
-flip_flip true true true = refl
-flip_flip true true false = refl
-flip_flip true false x = refl
-flip_flip false p x = refl
+flip_flip c p x = grind (arith, common_steps)
 
 flip_false : (p x : Bool) → flipped_if p x ≡ false → x ≡ p
-flip_false true true e = refl
-flip_false true false e = sym e
-flip_false false x e = e
+flip_false p x h = grind (arith, common_steps)
 
-not_odd : (x : Bool) → x ≡ not x → ⊥
-not_odd true e = true≢false e
-not_odd false e = true≢false (sym e)
+pub own_not : (b : Bool) → b ≡ not b → ⊥
+own_not true e = true≢false e
+own_not false e = true≢false (sym e)
 
 module _ (m : Net) (flags : List Bool) (t : AgreeOnceTurned m flags) where
   pub along : (f g : ℕ) (p : Bool) → Way m f g p → t.twisted f ≡ false → (t.twisted g ≡ false)
@@ -134,7 +121,7 @@ module _ (m : Net) (flags : List Bool) (t : AgreeOnceTurned m flags) where
       (n', is' ∙ ap (flipped_if (clash m e k)) is ∙ flip_flip (clash m e k) p (flag_of flags f))
 
   pub not_both : (f : ℕ) → t.twisted f ≡ false → Way m f f true → ⊥
-  not_both f un w = not_odd (flag_of flags f) (along f f true w un).1
+  not_both f un w = own_not (flag_of flags f) (along f f true w un).1
 
 module _ (m : Net) (flags : List Bool) (t : AreTurns m flags) where
   -- The flag of a face whose patch isn't twisted is the parity of a way to the least face of the

@@ -1,8 +1,8 @@
 -- Of each mesh it can be told which faces are turned: mates are looked for and joined, side by
 -- side.
-use Rattle.std.proofs.Common.{◌≡◌, ◌≢◌, ℕ, zero, suc, ◌+◌, ◌<◌, ◌≤◌, ◌⊎◌, inl, inr, refl, sym, ap}
+use Rattle.std.proofs.Common.{◌≡◌, ◌≢◌, ℕ, zero, suc, ◌+◌, ◌<◌, ◌≤◌, ◌⊎◌, inl, inr, sym, ap, ◌∙◌}
+use Rattle.std.proofs.Common.{subst, Bool, false, not, List, length, map, arith}
 use Rattle.std.proofs.lemmas.Grind.{common_steps}
-use Rattle.std.proofs.Common.{◌∙◌, subst, Bool, true, false, not, List, length, map, arith}
 use Rattle.std.specs.List.{range_with_len}
 use Rattle.std.proofs.lemmas.Bool.{cases_eq, cases_order}
 use Rattle.std.proofs.lemmas.List.{length-map, get_or-map}
@@ -99,10 +99,7 @@ pub up_of : (t : Elders) → ((x : ℕ) → t.elder x ≤ x) → (x : ℕ) → H
 up_of t below x = up_there t below (suc x) x (omega arith)
 
 same_or_not : (b c : Bool) → (b ≡ c) ⊎ (b ≡ not c)
-same_or_not true true = inl refl
-same_or_not true false = inr refl
-same_or_not false true = inr refl
-same_or_not false false = inl refl
+same_or_not b c = grind (arith, common_steps)
 
 -- The mates of one more side are joined.
 abbrev pub AreGrown : Net → ℕ → Type 0
