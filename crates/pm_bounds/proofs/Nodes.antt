@@ -1,12 +1,11 @@
 -- Nodes of a hierarchy of the right shape: their numbers, the leaves and faces under them.
-use Rattle.std.proofs.Common.{◌≡◌, ◌≢◌, ℕ, ◌+◌, ◌<◌, ◌≤◌, eqb, Bool, true, false, ◌||◌, None}
+use Rattle.std.proofs.Common.{◌≡◌, ◌≢◌, ℕ, ◌+◌, ◌<◌, ◌≤◌, eqb, Bool, ◌||◌, None, refl, sym, ap, ◌∙◌}
+use Rattle.std.proofs.Common.{arith}
 use Rattle.std.proofs.lemmas.Grind.{common_steps}
-use Rattle.std.proofs.Common.{refl, sym, ap, ◌∙◌, arith}
 use Rattle.std.proofs.lemmas.Bool.{eq-eqb, ne_eqb}
 use Rattle.pm_forest.specs.declared.parts.Face.{Face}
-use Rattle.pm_forest.specs.Forest.{Hierarchy, within, record_count, node_count}
-use Rattle.pm_forest.specs.Forest.{leaf_count, s_of, t_of, u_of, holds, Holds, interval_of}
-use Rattle.pm_forest.specs.Forest.{splitter_of}
+use Rattle.pm_forest.specs.Forest.{Hierarchy, within, record_count, node_count, leaf_count, s_of}
+use Rattle.pm_forest.specs.Forest.{t_of, u_of, holds, Holds, interval_of, splitter_of}
 use Rattle.pm_forest.specs.Rules.{HasShape}
 use Rattle.pm_forest.specs.Tables.{leaf_node_of}
 use Rattle.pm_forest.proofs.Nodes.{within-true, within-from, holds-s_from_t, holds-s_from_u}
@@ -69,15 +68,7 @@ module _ (h : Hierarchy) (shape : HasShape h) where
 
   mixed : (a b c d e f : Bool) → ((a || b) || (c || d) || (e || f))
       ≡ ((a || c || e) || (b || d || f))
-  mixed true b c d e f = refl
-  mixed false true true d e f = refl
-  mixed false true false d true f = refl
-  mixed false true false d false f = refl
-  mixed false false true d e f = refl
-  mixed false false false true true f = refl
-  mixed false false false true false f = refl
-  mixed false false false false true f = refl
-  mixed false false false false false f = refl
+  mixed a b c d e f = grind (arith, common_steps)
 
   -- and so are the faces under it
   pub children_faces : (k : ℕ) (f : Face) → k < record_count h

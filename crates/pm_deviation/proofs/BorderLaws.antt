@@ -1,6 +1,6 @@
 -- Nodes at the border: what passes up, and what the leaf mesh tells.
-use Rattle.std.proofs.Common.{◌≡◌, ℕ, ◌+◌, ◌*◌, ◌<◌, Bool, true, false, ◌||◌, ◌&&◌, List, [], ◌∷◌}
-use Rattle.std.proofs.Common.{length, get_or, None, ◌↔◌, inl, inr, refl, sym, ap, ◌∙◌, subst, arith}
+use Rattle.std.proofs.Common.{◌≡◌, ℕ, ◌+◌, ◌*◌, ◌<◌, Bool, true, ◌||◌, ◌&&◌, List, [], ◌∷◌, length}
+use Rattle.std.proofs.Common.{get_or, None, ◌↔◌, inl, inr, refl, sym, ap, ◌∙◌, subst, arith}
 use Rattle.std.proofs.lemmas.Grind.{common_steps}
 use Rattle.std.specs.List.{list_any, range_with_len}
 use Rattle.std.specs.Option.{is_none}
@@ -25,10 +25,7 @@ use Rattle.pm_beyond.proofs.Twins.{side-stands}
 use Rattle.pm_deviation.specs.Borders.{is_border_side_under, is_at_border}
 
 crossed : (a b c d : Bool) → ((a || b) || (c || d)) ≡ ((a || c) || (b || d))
-crossed true b c d = refl
-crossed false true true d = refl
-crossed false true false d = refl
-crossed false false c d = refl
+crossed a b c d = grind (arith, common_steps)
 
 any-either : {X : Type 0} (r p q : X → Bool) (xs : List X) → ((x : X) → r x ≡ (p x || q x))
     → list_any r xs ≡ (list_any p xs || list_any q xs)
@@ -38,11 +35,7 @@ any-either r p q (x ∷ xs) same =
 
 module _ (h : Hierarchy) (shape : HasShape h) where
   mixed : (n a b c d : Bool) → (n && ((a || b) || (c || d))) ≡ ((n && (a || c)) || (n && (b || d)))
-  mixed false a b c d = refl
-  mixed true true b c d = refl
-  mixed true false true true d = refl
-  mixed true false true false d = refl
-  mixed true false false c d = refl
+  mixed n a b c d = grind (arith, common_steps)
 
   side-split : (k e : ℕ) → k < record_count h →
       is_border_side_under h (s_of h k) e

@@ -212,9 +212,7 @@ tiny b v e =
 
 -- where both tolerances are one, the outline makes no difference
 absorbed : (p q : Bool) → (p || (q && p)) ≡ p
-absorbed true q = refl
-absorbed false true = refl
-absorbed false false = refl
+absorbed p q = grind (arith, common_steps)
 
 pub plain : (b : Bounded) (v : View) → v.sil ≡ v.tol → is_large b v ≡ looks_large b v v.tol
 unfolding is_large
@@ -225,16 +223,7 @@ plain b v same =
 -- size first, and of each tolerance what is left to ask
 pub asked_in_turn : (o f t w s : Bool) → ((t || s) && not o && (f && (t || w)))
     ≡ (not o && f && (t || (w && s)))
-asked_in_turn true f true w s = refl
-asked_in_turn true f false w true = refl
-asked_in_turn true f false w false = refl
-asked_in_turn false f true w s = refl
-asked_in_turn false true false true true = refl
-asked_in_turn false true false true false = refl
-asked_in_turn false true false false true = refl
-asked_in_turn false true false false false = refl
-asked_in_turn false false false w true = refl
-asked_in_turn false false false w false = refl
+asked_in_turn o f t w s = grind (arith, common_steps)
 
 -- all three
 pub wanted_passes : (child parent : Bounded) (v : View) → IsChild child parent
