@@ -1,7 +1,7 @@
 -- The choice between the two ways round of a patch, by the patch's sums.
 use Rattle.std.proofs.lemmas.Grind.{common_steps}
-use Rattle.std.proofs.Common.{◌≡◌, ◌≢◌, ◌⊎◌, inl, inr, refl, sym, ap, ◌∙◌, Bool, true, false, not}
-use Rattle.std.proofs.Common.{◌&&◌, arith}
+use Rattle.std.proofs.Common.{◌≡◌, ◌≢◌, ◌⊎◌, inl, inr, refl, ap, ◌∙◌, Bool, true, false, not, ◌&&◌}
+use Rattle.std.proofs.Common.{arith}
 use Rattle.std.specs.Prelude.{ℤ, pos, neg_ℤ, ◌≤ℤ◌, ◌==◌, nat_lt, int_lt, if◌then◌else◌}
 use Rattle.std.specs.Ordering.{int_eq}
 use Rattle.std.proofs.lemmas.Bool.{cases_Bool, cond-true, cond-false, eq-eqb, ne_eqb, le-ltb}
@@ -29,10 +29,7 @@ both_true a b c x y e f = grind (arith, common_steps)
 
 -- The choice by sums: no face with odd parity, a side without a mate, and neither.
 pub stays_without_odd : (s : Sums) → s.odd ≡ 0 → is_reversed s ≡ false
-stays_without_odd s none =
-    let low : nat_lt s.even s.odd ≡ false = le-ltb s.even s.odd (omega (arith, none)) in
-    second_false (s.bare == 0) (not (s.odd == 0)) (not (int_eq s.volume (pos 0)))
-    (int_lt s.volume (pos 0)) (nat_lt s.even s.odd) (ap not (eq-eqb s.odd 0 none)) ∙ low
+stays_without_odd s none = grind (arith, common_steps, eq-eqb, le-ltb, second_false)
 
 pub by_count : (s : Sums) → s.bare ≢ 0 → is_reversed s ≡ nat_lt s.even s.odd
 by_count s bare = first_false (s.bare == 0) (not (s.odd == 0)) (not (int_eq s.volume (pos 0)))
@@ -61,18 +58,9 @@ by_volume z y r e =
     elim (cases_Bool (int_eq z (pos 0))) [
       | inl t ↦ inl ((Decides-int_eq z (pos 0)).0 t, e ∙ cond-false _ _ _ (ap not t))
       | inr f ↦
-          let ne : z ≢ pos 0 = λ is. true≢false (sym ((Decides-int_eq z (pos 0)).1 is) ∙ f) in
-          let told : r ≡ int_lt z (pos 0) = e ∙ cond-true _ _ _ (ap not f) in
-          elim (cases_Bool (int_lt z (pos 0))) [
-            | inl s ↦ inr (inr (negative z s, opposite_apart z ne, told ∙ s))
-            | inr s ↦ inr (inl (positive z s, ne, told ∙ s))
-          ]
+          grind (arith, common_steps, Decides-int_eq, cond-true, negative, opposite_apart, positive)
     ]
 
 pub by_volumes : (s : Sums) → s.bare ≡ 0 → s.odd ≢ 0
     → IsTold s.volume (nat_lt s.even s.odd) (is_reversed s)
-by_volumes s bare odd =
-    by_volume s.volume (nat_lt s.even s.odd) (is_reversed s)
-    (both_true (s.bare == 0) (not (s.odd == 0)) (not (int_eq s.volume (pos 0)))
-    (int_lt s.volume (pos 0)) (nat_lt s.even s.odd) (eq-eqb s.bare 0 bare)
-    (ap not (ne_eqb s.odd 0 odd)))
+by_volumes s bare odd = grind (arith, common_steps, both_true, by_volume, eq-eqb, ne_eqb)

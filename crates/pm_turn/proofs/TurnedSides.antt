@@ -1,11 +1,11 @@
 -- The sides of turned faces, and what is glued.
 use Rattle.std.proofs.Common.{◌≡◌, ◌≢◌, ℕ, ◌+◌, ◌-◌, ◌*◌, ◌/◌, ◌%◌, ◌<◌, ◌⊎◌, inl, inr, refl, sym}
-use Rattle.std.proofs.lemmas.Grind.{common_steps}
 use Rattle.std.proofs.Common.{ap, ◌∙◌, subst, List, length, Bool, true, false, not, arith}
+use Rattle.std.proofs.lemmas.Grind.{common_steps}
 use Rattle.std.proofs.lemmas.Bool.{cases_Bool, cases_eq, cond-true, cond-false, eqb-true, eqb-false}
 use Rattle.std.proofs.lemmas.Bool.{ne_eqb, true≢false}
 use Rattle.pm_base.specs.declared.mesh.Corners.{Corners}
-use Rattle.pm_base.specs.Sides.{Net, face_of, next, to, net_of, corner_in, Stands}
+use Rattle.pm_base.specs.Sides.{Net, face_of, to, net_of, corner_in, Stands}
 use Rattle.pm_base.proofs.Sides.{next-lt, face_of-next}
 use Rattle.pm_base.proofs.NetLaws.{face_at, first_side, second_side, third_side}
 use Rattle.pm_fans.specs.Splits.{AllStand, IsGlued}
@@ -73,15 +73,7 @@ module _ (flags : List Bool) (fs : List Corners) where
     pub to_is : to n (moved flags e) ≡ m.from e
 
   runs : (e : ℕ) → e < 3 * length fs → flag_of flags (face_of e) ≡ false → Runs e
-  runs e l is =
-      let at = moved_not e is in
-      let next_is = ap (flag_of flags) (face_of-next e) ∙ is in
-      record {
-        unset = is;
-        from_is = ap n.from at ∙ from_not e l is;
-        to_is =
-            ap (to n) at ∙ from_not (next e) (next-lt (length fs) e l) next_is;
-      }
+  runs e l is = grind (arith, common_steps, face_of-next, from_not, moved_not, next-lt)
 
   runs_back : (e f : ℕ) → face_of e ≡ f → f < length fs → flag_of flags f ≡ true
       → (n.from (3 * f + (2 - e % 3)) ≡ to m e) × (to n (3 * f + (2 - e % 3)) ≡ m.from e)
@@ -109,13 +101,7 @@ module _ (flags : List Bool) (fs : List Corners) where
             )
         | inr r0 ↦
             elim (cases_eq (e % 3) 1) [
-              | inl r ↦
-                  let e' : e ≡ 3 * f + 1 = omega (arith, at, r) in
-                  let g' : 3 * f + (2 - e % 3) ≡ 3 * f + 1 = omega (arith, r) in (
-                    ap n.from g' ∙ tb2 ∙ kb ∙ sym c ∙ ap (to m) (sym e'),
-                    ap (to n) g' ∙ tc ∙ kc
-                        ∙ sym b2 ∙ ap m.from (sym e'),
-                  )
+              | inl r ↦ grind (arith, common_steps)
               | inr r1 ↦
                   let r : e % 3 ≡ 2 = omega (arith, r0, r1) in
                   let e' : e ≡ 3 * f + 2 = omega (arith, at, r) in
@@ -128,10 +114,7 @@ module _ (flags : List Bool) (fs : List Corners) where
       ]
 
   runs_on : (e : ℕ) → e < 3 * length fs → flag_of flags (face_of e) ≡ true → RunsBack e
-  runs_on e l is =
-      let at = moved_on e is in
-      let (a, b) = runs_back e (face_of e) refl (omega arith) is in
-      record { set = is; from_is = ap n.from at ∙ a; to_is = ap (to n) at ∙ b }
+  runs_on e l is = grind (arith, common_steps, moved_on e is, runs_back e (face_of e) refl)
 
   pub runs_cases : (e : ℕ) → e < 3 * length fs → Runs e ⊎ RunsBack e
   runs_cases e l =
@@ -248,17 +231,7 @@ glued_mates m e k w =
     )
 
 pub mates_back : (m : Net) (e k : ℕ) → AreMates m e k → AreMates m k e
-mates_back m e k a =
-    record {
-      stands = a.same.stands;
-      differ = λ is. a.differ (sym is);
-      same = record { stands = a.stands; ends = ends_back a.same.ends };
-      alone = λ g s.
-          elim (a.alone g (record { stands = s.stands; ends = ends_on s.ends a.same.ends })) [
-            | inl is ↦ inr is
-            | inr is ↦ inl is
-          ];
-    }
+mates_back m e k a = grind (arith, common_steps, ends_back, ends_on)
 
 module _ (fs : List Corners) (flags : List Bool) (t : AgreeOnceTurned (net_of (kept_of fs)) flags)
   where
