@@ -1,5 +1,6 @@
 -- The table of quadrics goes by a fine policy: at the start, and over one collapse more.
 use Rattle.std.proofs.Common.{◌≡◌, ◌≢◌, ℕ, suc, ◌+◌, ◌*◌, ◌<◌, ◌≤◌, Bool, Some, true, List, [], ◌∷◌}
+use Rattle.std.proofs.lemmas.Grind.{common_steps}
 use Rattle.std.proofs.Common.{◌++◌, length, length-append, get_or, inl, inr, refl, sym, ap, ◌∙◌}
 use Rattle.std.proofs.Common.{subst, arith}
 use Rattle.std.proofs.lemmas.Bool.{cases_eq}
@@ -111,11 +112,7 @@ module _
         count_is (quadrics_at t v).all (planes_by p m log v) (goes.all v (live_here v live))
 
     brought_fits : (quadrics_at t v).brought.count ≤ (quadrics_at t v).all.count
-    brought_fits =
-        let both = length-append (taken_after p m log v) (brought_after p m log v) in
-        let one = brought_count in
-        let all = all_count in
-        omega arith
+    brought_fits = grind (arith, common_steps, all_count, brought_count, length-append)
 
   module _ (a b : ℕ) (la : is_live s.surface a ≡ true) (lb : is_live s.surface b ≡ true) where
     pub pair_fits :
@@ -140,14 +137,7 @@ module _
     pub best_is :
         (t u x : Place) → t ≡ place_at s.surface a → u ≡ place_at s.surface b →
         x ≡ best_fine_place_of (pair_planes_by p m log a b) t u → x ≡ place_by p m log a b
-    best_is t u x at_a at_b is =
-        let now : Surface = surface_after m log in
-        let planes : List Plane = pair_planes_by p m log a b in
-        let first : t ≡ place_at now a = at_a ∙ ap (λ (z : Surface). place_at z a) after.surface in
-        let second : u ≡ place_at now b = at_b ∙ ap (λ (z : Surface). place_at z b) after.surface in
-        is ∙ ap (λ (k : Place). best_fine_place_of planes k u) first
-        ∙ ap (best_fine_place_of planes (place_at now a)) second
-        ∙ sym (ap (λ (r : Policy). r.place planes (place_at now a) (place_at now b)) goes.policy)
+    best_is t u x at_a at_b is = grind (arith, common_steps)
 
 -- Over one collapse.
 module _
@@ -179,21 +169,13 @@ module _
   low = (let room = goes.room in let less = fewer in omega arith)
 
   pub merged_in : (c.t < length t.slots) × ((c.u < length t.slots) × (c.s < length t.slots))
-  merged_in =
-      let new = step-new now c step in
-      let room = low in
-      let lt = live_below now c.t live.0 in
-      let lu = live_below now c.u live.1 in (omega arith, (omega arith, omega arith))
+  merged_in = grind (arith, common_steps, live, live_below, low, step, step-new)
 
   pub merged_fits :
       (quadrics_at t c.t).brought.count + (quadrics_at t c.u).brought.count ≤ MOST_FINE_PLANES
   merged_fits =
       let before : IsAfter m log here =
-      record {
-        start = after.start;
-        run = run;
-        surface = refl;
-      } in
+      record { start = after.start; run = run; surface = refl } in
       omega (
         arith,
         pair_fits p m log here t before goes c.t c.u live.0 live.1 step.ordered,
@@ -205,10 +187,7 @@ module _
   later = surface_after-more m log c
 
   pub made_live : is_live s.surface c.s ≡ true
-  made_live =
-      ap (λ (z : Surface). is_live z c.s) (after.surface ∙ later)
-      ∙ ap (is_live (collapsed now c.t c.u c.place)) (step-new now c step)
-      ∙ new_live now c.t c.u c.place
+  made_live = grind (arith, common_steps, later, new_live, step, step-new)
 
   abbrev more : List Collapse
   more = log ++ c ∷ []
@@ -306,6 +285,7 @@ module _
         let own = slots-own now c.t c.u c.place live.0 low_t low_u t r q goes.own merged low in
         let room = goes.room in
         let less = fewer in
+        let next = next-after now c.t c.u c.place in
         let slots = ap length w.slots ∙ length-set t.slots c.s (get_or t.slots c.t 0) in
         record {
           policy = goes.policy;
@@ -314,10 +294,5 @@ module _
           all = λ v there.
               each_all v (subst (λ (z : Surface). is_live z v ≡ true) later there);
           own = subst (λ (z : Surface). HaveOwnSlots z r.slots) (sym later) own;
-          room = omega (
-            arith,
-            ap next_vertex later,
-            ap live_count_of later,
-            next-after now c.t c.u c.place,
-          );
+          room = omega (arith, ap next_vertex later, ap live_count_of later);
         }

@@ -208,24 +208,24 @@ module _ (mesh : Mesh) where
           corner_more w v u old old sum at refl (λ is. absurd (ne is)) (λ off. refl) planes
 
     -- Both quadrics of a vertex.
+    abbrev plain : Corner → Sums
+    plain k = sums_of (planes_with (normals_of k) k.at)
+
+    abbrev weighty : Corner → Sums
+    weighty k = sums_of (planes_with (doubled_normals (normals_of k)) k.at)
+
+    abbrev with_corner : BothQuadrics → Corner → BothQuadrics
+    with_corner q k = record {
+      brought = plus_sums q.brought (plain k);
+      all = plus_sums q.all (plus_sums (weighty k) (plain k));
+    }
+
     module _
         (items more : List BothQuadrics) (u v : ℕ) (k : Corner) (within : u < length items)
         (at : u ≡ (net_of mesh.faces).from n) (corner : k ≡ corner_of s n)
-        (set_is : more ≡ set items u (record {
-          brought = plus_sums (get_or items u no_quadrics).brought
-              (sums_of (planes_with (normals_of k) k.at));
-          all = plus_sums (get_or items u no_quadrics).all (plus_sums
-              (sums_of (planes_with (doubled_normals (normals_of k)) k.at))
-              (sums_of (planes_with (normals_of k) k.at)));
-        })) where
+        (set_is : more ≡ set items u (with_corner (get_or items u no_quadrics) k)) where
       abbrev added : BothQuadrics
-      added = record {
-        brought = plus_sums (get_or items u no_quadrics).brought
-            (sums_of (planes_with (normals_of k) k.at));
-        all = plus_sums (get_or items u no_quadrics).all (plus_sums
-            (sums_of (planes_with (doubled_normals (normals_of k)) k.at))
-            (sums_of (planes_with (normals_of k) k.at)));
-      }
+      added = with_corner (get_or items u no_quadrics) k
 
       item_here : v ≡ u → get_or more v no_quadrics ≡ added
       item_here is =
@@ -238,34 +238,21 @@ module _ (mesh : Mesh) where
           ap (λ (l : List BothQuadrics). get_or l v no_quadrics) set_is
           ∙ get_or-set_other items u v added no_quadrics ne
 
+      plain_is : StandsFor (plain k) (corner_planes as_it_is s (m.from n) n)
+      plain_is = ap plain corner ∙ ap sums_of (sym (planes_same s n))
+
+      weighty_is : StandsFor (weighty k) (corner_planes doubled s (m.from n) n)
+      weighty_is = ap weighty corner ∙ ap sums_of (sym (planes_doubled s n))
+
       pub brought_more :
           StandsFor (get_or items v no_quadrics).brought (planes_below as_it_is v n) →
           StandsFor (get_or more v no_quadrics).brought (planes_below as_it_is v (n + 1))
       brought_more before =
           corner_more as_it_is v u (get_or items v no_quadrics).brought
-          (get_or more v no_quadrics).brought (sums_of (planes_with (normals_of k) k.at)) at before
+          (get_or more v no_quadrics).brought (plain k) at before
           (λ is. ap (λ (q : BothQuadrics). q.brought) (item_here is)
-          ∙ ap (λ (j : ℕ). plus_sums (get_or items j no_quadrics).brought
-          (sums_of (planes_with (normals_of k) k.at))) (sym is))
-          (λ ne. ap (λ (q : BothQuadrics). q.brought) (item_other ne))
-          (ap (λ (j : Corner). sums_of (planes_with (normals_of j) j.at)) corner
-          ∙ ap sums_of (sym (planes_same s n)))
-
-      abbrev plain : Sums
-      plain = sums_of (planes_with (normals_of k) k.at)
-
-      abbrev weighty : Sums
-      weighty = sums_of (planes_with (doubled_normals (normals_of k)) k.at)
-
-      plain_is : StandsFor plain (corner_planes as_it_is s (m.from n) n)
-      plain_is =
-          ap (λ (j : Corner). sums_of (planes_with (normals_of j) j.at)) corner
-          ∙ ap sums_of (sym (planes_same s n))
-
-      weighty_is : StandsFor weighty (corner_planes doubled s (m.from n) n)
-      weighty_is =
-          ap (λ (j : Corner). sums_of (planes_with (doubled_normals (normals_of j)) j.at)) corner
-          ∙ ap sums_of (sym (planes_doubled s n))
+          ∙ ap (λ (j : ℕ). plus_sums (get_or items j no_quadrics).brought (plain k)) (sym is))
+          (λ ne. ap (λ (q : BothQuadrics). q.brought) (item_other ne)) plain_is
 
       abbrev first : List Plane
       first = planes_below doubled v n
@@ -289,19 +276,21 @@ module _ (mesh : Mesh) where
             | inl is ↦
                 ap (λ (q : BothQuadrics). q.all) (item_here is)
                 ∙ ap (λ (j : ℕ). plus_sums (get_or items j no_quadrics).all
-                (plus_sums weighty plain)) (sym is)
-                ∙ ap (λ (x : Sums). plus_sums x (plus_sums weighty plain))
+                (plus_sums (weighty k) (plain k))) (sym is)
+                ∙ ap (λ (x : Sums). plus_sums x (plus_sums (weighty k) (plain k)))
                 (before ∙ sums-append first second)
-                ∙ plus-paired (sums_of first) (sums_of second) weighty plain
-                ∙ ap (λ (x : Sums). plus_sums x (plus_sums (sums_of second) plain))
-                (sums_here doubled v u weighty at weighty_is is)
-                ∙ ap (plus_sums (sums_of first_more)) (sums_here as_it_is v u plain at plain_is is)
+                ∙ plus-paired (sums_of first) (sums_of second) (weighty k) (plain k)
+                ∙ ap (λ (x : Sums). plus_sums x (plus_sums (sums_of second) (plain k)))
+                (sums_here doubled v u (weighty k) at weighty_is is)
+                ∙ ap (plus_sums (sums_of first_more))
+                (sums_here as_it_is v u (plain k) at plain_is is)
                 ∙ sym (sums-append first_more second_more)
             | inr ne ↦
                 ap (λ (q : BothQuadrics). q.all) (item_other ne) ∙ before
                 ∙ sums-append first second
                 ∙ ap (λ (x : Sums). plus_sums x (sums_of second))
-                (sums_other doubled v u weighty at weighty_is ne)
-                ∙ ap (plus_sums (sums_of first_more)) (sums_other as_it_is v u plain at plain_is ne)
+                (sums_other doubled v u (weighty k) at weighty_is ne)
+                ∙ ap (plus_sums (sums_of first_more))
+                (sums_other as_it_is v u (plain k) at plain_is ne)
                 ∙ sym (sums-append first_more second_more)
           ]
