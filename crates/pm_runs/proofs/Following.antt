@@ -1,15 +1,16 @@
 -- How two sides that follow one another round a vertex before a split stand after it.
-use Rattle.std.proofs.Common.{◌≡◌, ◌≢◌, ℕ, Option, inl, inr, sym, ap, ◌∙◌, subst, arith}
+use Rattle.std.proofs.Common.{◌≡◌, ◌≢◌, ℕ, Option, inl, inr, refl, sym, ap, ◌∙◌, subst, arith}
 use Rattle.std.proofs.lemmas.Grind.{common_steps}
 use Rattle.pm_base.specs.Sides.{Net, next, prev, to, third, Stands, NoSideTwice}
 use Rattle.pm_base.specs.Fans.{IsPairAt}
 use Rattle.pm_base.proofs.Sides.{next-next-next, stands_next, pair_at}
 use Rattle.pm_runs.specs.Pairs.{IsPair as AreEnds}
 use Rattle.pm_runs.proofs.Apart.{stood}
+use Rattle.pm_runs.proofs.Merges.{turned}
 use Rattle.pm_runs.proofs.MergedPairs.{unmoved}
 use Rattle.pm_runs.specs.Splits.{IsSplit}
 use Rattle.pm_runs.proofs.Facts.{one_twin, twin_beyond, HasNoMirror}
-use Rattle.pm_runs.proofs.Split.{merged_name, merged_net, renamed_face}
+use Rattle.pm_runs.proofs.Split.{merged_name, merged_net, other_end, renamed_face}
 
 module _ (n : Net) (t u s : ℕ) (beyond : ℕ → Option ℕ) (h : IsSplit n t u s beyond)
     (once : NoSideTwice (merged_net n t u s beyond h)) (plain : HasNoMirror n) where
@@ -78,10 +79,8 @@ module _ (n : Net) (t u s : ℕ) (beyond : ℕ → Option ℕ) (h : IsSplit n t 
 
   -- which end takes the other place
   pub second_end : (p q z : ℕ) → AreEnds t u p q → AreEnds t u z p → z ≡ q
-  second_end p q z (inl (a, b)) (inl (c, d)) = absurd (h.differ (sym a ∙ d))
-  second_end p q z (inl (a, b)) (inr (c, d)) = c ∙ sym b
-  second_end p q z (inr (a, b)) (inl (c, d)) = c ∙ sym b
-  second_end p q z (inr (a, b)) (inr (c, d)) = absurd (h.differ (sym d ∙ a))
+  second_end p q z ends e =
+      sym (other_end n t u s beyond h p q p z ends (turned t u z p e) refl)
 
   pub other_of : (p q p' q' : ℕ) → AreEnds t u p q → AreEnds t u p' q' → p' ≢ p
       → (p' ≡ q) × (q' ≡ p)

@@ -13,10 +13,11 @@ use Rattle.pm_base.proofs.Sides.{first-second, second-corner, pair_at, one_side,
 use Rattle.pm_base.proofs.Rounds.{IsFirst, append, uncons, ends_first}
 use Rattle.pm_runs.specs.Pairs.{IsPair as AreEnds}
 use Rattle.pm_runs.proofs.Apart.{stood}
+use Rattle.pm_runs.proofs.Merges.{turned}
 use Rattle.pm_runs.proofs.MergedPairs.{new-t, new-u, new-other, not_s, is_t, is_u, other, kind_of}
 use Rattle.pm_runs.specs.Splits.{IsSplit}
 use Rattle.pm_runs.proofs.Facts.{HasNoMirror, Leads, pair_from, leads_by, leads?, begins?}
-use Rattle.pm_runs.proofs.Split.{merged_name, merged_net, swap, prev_ends, new_prev, by_next}
+use Rattle.pm_runs.proofs.Split.{merged_name, merged_net, prev_ends, new_prev, by_next}
 use Rattle.pm_runs.proofs.Split.{by_prev}
 use Rattle.pm_runs.proofs.Split.{meets_old, renamed_face, no_side_twice_after}
 use Rattle.pm_runs.proofs.Following.{cut_between, stays, old_face}
@@ -37,7 +38,7 @@ module _ (n : Net) (t u s : ℕ) (beyond : ℕ → Option ℕ) (h : IsSplit n t 
   own_end-is p q (inr (a, b)) = new-u n t u s h.fresh p a
 
   pub other_end-is : (p q : ℕ) → AreEnds t u p q → name_before q ≡ s
-  other_end-is p q ends = own_end-is q p (swap n t u s beyond h p q ends)
+  other_end-is p q ends = own_end-is q p (turned t u p q ends)
 
   pub not_end : (p q : ℕ) → AreEnds t u p q → (x : ℕ) → x ≢ p → x ≢ q → name_before x ≡ x
   not_end p q ends x xp xq = grind (arith, common_steps, new-other n t u s h.fresh x)
@@ -212,7 +213,7 @@ module _ (n : Net) (t u s : ℕ) (beyond : ℕ → Option ℕ) (h : IsSplit n t 
 
         starts_at_end : (x : ℕ) → IsPairAt n p x q → (Leads n x p → ⊥) → reached f0.side ≡ q
         starts_at_end x f none = reached-other f0.side
-            (starts_at q p x (swap n t u s beyond h p q ends) (back n p x q f) none).0
+            (starts_at q p x (turned t u p q ends) (back n p x q f) none).0
 
         starts_at_third : (w : ℕ) → IsPairAt n p q w → (Leads n w q → ⊥) → reached f0.side ≡ w
         starts_at_third w f none =
@@ -277,7 +278,7 @@ module _ (n : Net) (t u s : ℕ) (beyond : ℕ → Option ℕ) (h : IsSplit n t 
                 elim (cases_eq y q) [
                   | inr yq ↦ absurd
                       (none f.side (old_end f xq yq) (ap name_before f.at ∙ own_end-is p q ends))
-                  | inl is ↦ absurd (none_new none q p x (swap n t u s beyond h p q ends)
+                  | inl is ↦ absurd (none_new none q p x (turned t u p q ends)
                       (back n p x q (subst (λ i. IsPairAt n p x i) is f)))
                 ]
           ],

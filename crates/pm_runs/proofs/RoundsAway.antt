@@ -11,10 +11,11 @@ use Rattle.pm_base.proofs.Sides.{first-second, second-corner, one_side, one_seco
 use Rattle.pm_base.proofs.Rounds.{IsFirst, append, uncons, ends_first}
 use Rattle.pm_runs.specs.Pairs.{IsPair as AreEnds}
 use Rattle.pm_runs.proofs.Apart.{stood}
+use Rattle.pm_runs.proofs.Merges.{turned}
 use Rattle.pm_runs.proofs.MergedPairs.{new-other, not_s, same_new}
 use Rattle.pm_runs.specs.Splits.{IsSplit}
 use Rattle.pm_runs.proofs.Facts.{HasNoMirror, Leads, pair_from, leads_by, leads?, begins?}
-use Rattle.pm_runs.proofs.Split.{merged_name, merged_net, swap, ends_of, next_ends, by_next}
+use Rattle.pm_runs.proofs.Split.{merged_name, merged_net, ends_of, next_ends, by_next}
 use Rattle.pm_runs.proofs.Split.{by_prev}
 use Rattle.pm_runs.proofs.Split.{meets_old, new_next, renamed_face, no_side_twice_after}
 use Rattle.pm_runs.proofs.Following.{direct, fan, cut, meets, stays, old_face, second_end}
@@ -139,7 +140,7 @@ module _ (n : Net) (t u s : ℕ) (beyond : ℕ → Option ℕ) (h : IsSplit n t 
                           | inr (i, e) ↦
                               let third_p : third n g.side ≡ p =
                               second_end n t u s beyond h once plain q p (third n g.side)
-                              (swap n t u s beyond h p q ends) e in
+                              (turned t u p q ends) e in
                               none (
                                 to n g.side,
                                 subst (λ j. IsPairAt n j v (to n g.side)) third_p

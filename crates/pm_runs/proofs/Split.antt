@@ -9,6 +9,7 @@ use Rattle.pm_base.specs.Fans.{IsPairAt}
 use Rattle.pm_base.proofs.Sides.{next-next-next, turn, back, corner-first, first-second}
 use Rattle.pm_base.proofs.Sides.{second-corner, pair_at}
 use Rattle.pm_runs.specs.Pairs.{IsPair as AreEnds}
+use Rattle.pm_runs.proofs.Merges.{turned}
 use Rattle.pm_runs.proofs.MergedPairs.{new, after, new-t, new-u, not_s, same_new}
 use Rattle.pm_runs.specs.Splits.{IsSplit}
 use Rattle.pm_runs.proofs.Facts.{RunsBack, one_twin, twin_beyond}
@@ -23,10 +24,6 @@ module _ (n : Net) (t u s : ℕ) (beyond : ℕ → Option ℕ) (h : IsSplit n t 
   pub same_ends : (p q : ℕ) → AreEnds t u p q → merged_name p ≡ merged_name q
   same_ends p q (inl (a, b)) = new-t n t u s h.fresh p a ∙ sym (new-u n t u s h.fresh q b)
   same_ends p q (inr (a, b)) = new-u n t u s h.fresh p a ∙ sym (new-t n t u s h.fresh q b)
-
-  pub swap : (p q : ℕ) → AreEnds t u p q → AreEnds t u q p
-  swap p q (inl (a, b)) = inr (b, a)
-  swap p q (inr (a, b)) = inl (b, a)
 
   pub other_end : (p q p' q' : ℕ) → AreEnds t u p q → AreEnds t u p' q' → p ≡ p' → q ≡ q'
   other_end p q p' q' (inl (a, b)) (inl (c, d)) is = b ∙ sym d
@@ -231,7 +228,7 @@ module _ (n : Net) (t u s : ℕ) (beyond : ℕ → Option ℕ) (h : IsSplit n t 
         let apart : (p q w p' q' : ℕ) → AreEnds t u p q → AreEnds t u p' q' → IsPairAt n p' q' w
         → (w ≢ p) × (w ≢ q) =
         λ p q w p' q' ends ends' f.
-        grind (arith, common_steps, either, first-second, second-corner, swap) in
+        grind (arith, common_steps, either, first-second, second-corner, turned) in
         apart k.p k.q k'.w k'.p k'.q k.are_ends k'.are_ends k'.face
 
     -- two new faces from one end to the other are one
@@ -265,8 +262,8 @@ module _ (n : Net) (t u s : ℕ) (beyond : ℕ → Option ℕ) (h : IsSplit n t 
               elim k'.which [
                 | inl is' ↦ absurd (apart'.1 (ew ∙ ap (to n) is' ∙ f'.one))
                 | inr (inl is') ↦
-                    let pp = other_end k.q k.p k'.q k'.p (swap k.p k.q k.are_ends)
-                    (swap k'.p k'.q k'.are_ends) (eq ∙ ap n.from is' ∙ a1') in
+                    let pp = other_end k.q k.p k'.q k'.p (turned t u k.p k.q k.are_ends)
+                    (turned t u k'.p k'.q k'.are_ends) (eq ∙ ap n.from is' ∙ a1') in
                     is ∙ ap next (one_new k k' pp) ∙ sym is'
                 | inr (inr is') ↦ absurd (apart.1 (sym (eq ∙ ap n.from is' ∙ c1')))
               ]

@@ -4,10 +4,11 @@ use Rattle.std.proofs.lemmas.Grind.{common_steps}
 use Rattle.pm_base.specs.Sides.{Net, next, prev, to, third, Stands, NoSideTwice}
 use Rattle.pm_base.specs.Fans.{IsPairAt}
 use Rattle.pm_base.proofs.Sides.{turn, back}
+use Rattle.pm_runs.proofs.Merges.{turned}
 use Rattle.pm_runs.specs.Pairs.{IsPair as AreEnds}
 use Rattle.pm_runs.specs.Splits.{IsSplit}
 use Rattle.pm_runs.proofs.Facts.{twin_beyond, HasNoMirror}
-use Rattle.pm_runs.proofs.Split.{merged_name, merged_net, swap, old_or_new, next_ends, prev_ends}
+use Rattle.pm_runs.proofs.Split.{merged_name, merged_net, old_or_new, next_ends, prev_ends}
 use Rattle.pm_runs.proofs.Split.{new_next, new_prev, renamed_face, no_side_twice_after}
 
 module _ (n : Net) (t u s : ℕ) (beyond : ℕ → Option ℕ) (h : IsSplit n t u s beyond)
@@ -29,13 +30,13 @@ module _ (n : Net) (t u s : ℕ) (beyond : ℕ → Option ℕ) (h : IsSplit n t 
       elim side [
         | inl l ↦
             let (bn, bf, bto) = twin_beyond h (next f.side) b at l in
-            new_prev n t u s beyond h q p w (swap n t u s beyond h p q k) g
+            new_prev n t u s beyond h q p w (turned t u p q k) g
             (subst (Stands net_before)
             (no_side_twice_after n t u s beyond h once b (prev g.side) bn ct'
             (bf ∙ a2 ∙ sym c1') (bto ∙ a1 ∙ sym c2')) bt)
         | inr l ↦
             let (bn, bf, bto) = twin_beyond h (prev f.side) b ct l in
-            new_next n t u s beyond h q p w (swap n t u s beyond h p q k) g
+            new_next n t u s beyond h q p w (turned t u p q k) g
             (subst (Stands net_before)
             (no_side_twice_after n t u s beyond h once b (next g.side) bn at'
             (bf ∙ c2 ∙ sym a1') (bto ∙ c1 ∙ sym a2')) bt)
