@@ -7,9 +7,10 @@ use Rattle.pm_base.proofs.Sides.{turn, back}
 use Rattle.pm_runs.proofs.Merges.{turned}
 use Rattle.pm_runs.specs.Pairs.{IsPair as AreEnds}
 use Rattle.pm_runs.specs.Splits.{IsSplit}
-use Rattle.pm_runs.proofs.Facts.{twin_beyond, HasNoMirror}
+use Rattle.pm_runs.proofs.Facts.{HasNoMirror}
 use Rattle.pm_runs.proofs.Split.{merged_name, merged_net, old_or_new, next_ends, prev_ends}
-use Rattle.pm_runs.proofs.Split.{new_next, new_prev, renamed_face, no_side_twice_after}
+use Rattle.pm_runs.proofs.Split.{meets_old, by_next, by_prev, new_next, new_prev, renamed_face}
+use Rattle.pm_runs.proofs.Split.{no_side_twice_after}
 
 module _ (n : Net) (t u s : ℕ) (beyond : ℕ → Option ℕ) (h : IsSplit n t u s beyond)
     (once : NoSideTwice (merged_net n t u s beyond h)) where
@@ -22,24 +23,19 @@ module _ (n : Net) (t u s : ℕ) (beyond : ℕ → Option ℕ) (h : IsSplit n t 
   -- No two new faces have the same corners
   no_two : (p q w : ℕ) → AreEnds t u p q → IsPairAt n p q w → IsPairAt n q p w → ⊥
   no_two p q w k f g =
-      let (b, bt, side) = h.held p q w k f in
-      let (a1, a2, a3, at) = next_ends n t u s beyond h f in
-      let (c1, c2, c3, ct) = prev_ends n t u s beyond h f in
       let (a1', a2', a3', at') = next_ends n t u s beyond h g in
       let (c1', c2', c3', ct') = prev_ends n t u s beyond h g in
-      elim side [
-        | inl l ↦
-            let (bn, bf, bto) = twin_beyond h (next f.side) b at l in
+      elim (meets_old n t u s beyond h p q w k f) [
+        | by_next b bt bn l bf bto ↦
             new_prev n t u s beyond h q p w (turned t u p q k) g
             (subst (Stands net_before)
             (no_side_twice_after n t u s beyond h once b (prev g.side) bn ct'
-            (bf ∙ a2 ∙ sym c1') (bto ∙ a1 ∙ sym c2')) bt)
-        | inr l ↦
-            let (bn, bf, bto) = twin_beyond h (prev f.side) b ct l in
+            (bf ∙ sym c1') (bto ∙ sym c2')) bt)
+        | by_prev b bt bn l bf bto ↦
             new_next n t u s beyond h q p w (turned t u p q k) g
             (subst (Stands net_before)
             (no_side_twice_after n t u s beyond h once b (next g.side) bn at'
-            (bf ∙ c2 ∙ sym a1') (bto ∙ c1 ∙ sym a2')) bt)
+            (bf ∙ sym a1') (bto ∙ sym a2')) bt)
       ]
 
   -- the corners of a face, as its side stands in another form of it

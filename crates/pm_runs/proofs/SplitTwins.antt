@@ -17,6 +17,7 @@ use Rattle.pm_runs.proofs.MergedPairs.{not_s}
 use Rattle.pm_runs.specs.Splits.{IsSplit}
 use Rattle.pm_runs.proofs.Facts.{RunsBack, is_twin, one_twin, twin_beyond, HasNoMirror}
 use Rattle.pm_runs.proofs.Split.{merged_name, merged_net, IsNew, old_or_new, next_ends, prev_ends}
+use Rattle.pm_runs.proofs.Split.{meets_old, by_next, by_prev}
 use Rattle.pm_runs.proofs.Split.{new_next, new_prev, renamed_face, no_side_twice_after}
 use Rattle.pm_runs.proofs.SplitMirrors.{no_mirror_after}
 use Rattle.pm_runs.proofs.Following.{old_face}
@@ -76,18 +77,16 @@ module _ (n : Net) (t u s : ℕ) (beyond : ℕ → Option ℕ) (h : IsSplit n t 
                         let old = one_end p q w q (third n g) ends F (inr refl)
                         (second-corner n p q w f) (λ i. first-second n p q w f (sym i)) ne
                         (λ i. first-second n w q (third n g) F (sym i)) in
-                        let (b, bt, side) = h.held p q w ends f in
-                        elim side [
-                          | inl l ↦ none-some b (sym lo ∙ ap beyond is ∙ l)
-                          | inr l ↦
-                              let (bn, bf, bto) = twin_beyond h (prev f.side) b ct l in
+                        elim (meets_old n t u s beyond h p q w ends f) [
+                          | by_next b bt bn l bf bto ↦ none-some b (sym lo ∙ ap beyond is ∙ l)
+                          | by_prev b bt bn l bf bto ↦
                               let lb = h.back (prev f.side) b ct l in
                               let tw : RunsBack net_before b g = (
                                 old,
-                                ap name_before (g_w ∙ sym c1 ∙ sym bto),
+                                ap name_before (g_w ∙ sym bto),
                                 ap name_before g_q
                                     ∙ other_end-is n t u s beyond h once plain p q ends
-                                    ∙ sym (ap name_before (bf ∙ c2)
+                                    ∙ sym (ap name_before bf
                                     ∙ own_end-is n t u s beyond h once plain p q ends),
                               ) in
                               elim (h.kept b g bt (one_twin net_before once b g tw)) [
@@ -125,19 +124,17 @@ module _ (n : Net) (t u s : ℕ) (beyond : ℕ → Option ℕ) (h : IsSplit n t 
                         let old : Stands net_before g =
                         subst (Stands net_before) (next-next-next g)
                         (stands_next net_before (prev g) old2) in
-                        let (b, bt, side) = h.held p q w ends f in
-                        elim side [
-                          | inr l ↦ none-some b (sym lo ∙ ap beyond is ∙ l)
-                          | inl l ↦
-                              let (bn, bf, bto) = twin_beyond h (next f.side) b at l in
+                        elim (meets_old n t u s beyond h p q w ends f) [
+                          | by_prev b bt bn l bf bto ↦ none-some b (sym lo ∙ ap beyond is ∙ l)
+                          | by_next b bt bn l bf bto ↦
                               let lb = h.back (next f.side) b at l in
                               let tw : RunsBack net_before b g = (
                                 old,
                                 ap name_before g_p
                                     ∙ own_end-is n t u s beyond h once plain p q ends
-                                    ∙ sym (ap name_before (bto ∙ a1)
+                                    ∙ sym (ap name_before bto
                                     ∙ other_end-is n t u s beyond h once plain p q ends),
-                                ap name_before (g_w ∙ sym a2 ∙ sym bf),
+                                ap name_before (g_w ∙ sym bf),
                               ) in
                               elim (h.kept b g bt (one_twin net_before once b g tw)) [
                                 | inl l' ↦ new_next n t u s beyond h p q w ends f
