@@ -1,11 +1,16 @@
-use Rattle.std.proofs.Common.{None, Err, IfSome, inl, sym, ◌∙◌, subst, arith}
+use Rattle.std.proofs.Common.{◌≡◌, ◌≢◌, ℕ, List, Option, None, Err, IfSome, inl, refl, sym, ◌∙◌}
+use Rattle.std.proofs.Common.{subst, arith}
 use Rattle.std.specs.Prelude.{codes}
+use Rattle.pm_commands.specs.declared.asked.Asked.{Asked}
 use Rattle.pm_commands.specs.declared.asked.Asked.TheVariants as asked
 use Rattle.pm_commands.specs.Outcome.{IsOutcome, Replied}
-use Rattle.pm_commands.specs.Ending.{ReadToEnd, ReadToPlace, Ends}
+use Rattle.pm_commands.specs.declared.fault.CommandFail.{CommandFail}
+use Rattle.pm_commands.specs.declared.fault.CommandFail.TheVariants as fails
+use Rattle.pm_commands.specs.Ending.{Ends, FewMore, FewMoreLive, status_of}
 use Rattle.pm_commands.proofs.EndingLaws.{one_asked, said_fault, read_of, cut_of, write_of}
 use Rattle.pm_commands.proofs.EndingLaws.{said_line, text_of_read, text_of_write, text_of_memory}
 use Rattle.pm_commands.proofs.EndingLaws.{completes_whole, completes}
+use Rattle.vdpm.specs.Endings.{ReadsTo, CutsALine}
 use Rattle.vdpm.proofs.run.run.Goals as goal
 
 pub returns-in-Ok-clause-whole : goal.returns-in-Ok-clause-whole
@@ -33,21 +38,9 @@ returns-in-Ok-clause-unread g c =
       (λ is. absurd (omega arith), λ is. absurd (omega arith)),
     )
 
-pub returns-in-Ok-clause-read_whole : goal.returns-in-Ok-clause-read_whole
-returns-in-Ok-clause-read_whole g c = λ other asks is.
-    subst (λ a. ReadToEnd a (g.S.Source.left c.args.input.now) (g.S.Source.left c.obey.new.input))
-    (one_asked _ _ other (sym c.read_words.ensures.asked ∙ c.in-Some.is) asks)
-    c.in-Ok.ensures.read_whole
-
-pub returns-in-Ok-clause-read_to_place : goal.returns-in-Ok-clause-read_to_place
-returns-in-Ok-clause-read_to_place g c = λ other asks is.
-    subst (λ a. ReadToPlace a (g.S.Source.left c.args.input.now) (g.S.Source.left c.obey.new.input))
-    (one_asked _ _ other (sym c.read_words.ensures.asked ∙ c.in-Some.is) asks)
-    c.in-Ok.ensures.read_to_place
-
 pub returns-in-Ok-clause-complete : goal.returns-in-Ok-clause-complete
 returns-in-Ok-clause-complete g c =
-    λ other bytes all asks left outcome in_same out_same in_few out_few.
+    λ other bytes all asks left outcome none.
     inl (completes_whole c.outcomes_are_sound.ensures.one c.in-Some.asked bytes all _ _ _ left
     (subst (λ a. IsOutcome a bytes all)
     (one_asked _ other _ asks (sym c.read_words.ensures.asked ∙ c.in-Some.is)) outcome)
@@ -77,47 +70,71 @@ returns-in-Err-clause-unreached g c = λ other asks is.
     (one_asked _ _ other (sym c.read_words.ensures.asked ∙ c.in-Some.is) asks)
     c.in-Err.ensures.ends)
 
-pub returns-in-Err-clause-write : goal.returns-in-Err-clause-write
-returns-in-Err-clause-write g c = λ other asks is.
-    cut_of other c.in-Err.fail _ _ _ _ _ _ _ _ (sym c.tell.ensures.status ∙ is)
-    (subst (λ a. Ends a (Err c.in-Err.fail) (g.S.Source.left c.args.input.now)
-    (g.S.Source.left c.obey.new.input) (g.K.Sink.got c.args.out.now)
-    (g.K.Sink.got c.obey.new.out))
-    (one_asked _ _ other (sym c.read_words.ensures.asked ∙ c.in-Some.is) asks)
-    c.in-Err.ensures.ends) c.in-Err.ensures.counts
-
-pub returns-in-Err-clause-few_more : goal.returns-in-Err-clause-few_more
-returns-in-Err-clause-few_more g c = λ budget asks is.
-    c.in-Err.ensures.few_more budget
-    (one_asked _ _ (asked.View budget) (sym c.read_words.ensures.asked ∙ c.in-Some.is) asks)
-    (write_of c.in-Err.fail (sym c.tell.ensures.status ∙ is))
-
-pub returns-in-Err-clause-few_more_live : goal.returns-in-Err-clause-few_more_live
-returns-in-Err-clause-few_more_live g c = λ budget asks is.
-    c.in-Err.ensures.few_more_live budget
-    (one_asked _ _ (asked.Live budget) (sym c.read_words.ensures.asked ∙ c.in-Some.is) asks)
-    (write_of c.in-Err.fail (sym c.tell.ensures.status ∙ is))
-
-pub returns-in-Err-clause-said_read : goal.returns-in-Err-clause-said_read
-returns-in-Err-clause-said_read g c =
-    λ is. said_line (codes "vdpm: ") c.in-Err.fail _ _ _ _ _
-    (text_of_read c.in-Err.fail (sym c.tell.ensures.status ∙ is)) c.tell.ensures.said
-
-pub returns-in-Err-clause-said_write : goal.returns-in-Err-clause-said_write
-returns-in-Err-clause-said_write g c =
-    λ is. said_line (codes "vdpm: ") c.in-Err.fail _ _ _ _ _
-    (text_of_write c.in-Err.fail (sym c.tell.ensures.status ∙ is)) c.tell.ensures.said
-
-pub returns-in-Err-clause-said_memory : goal.returns-in-Err-clause-said_memory
-returns-in-Err-clause-said_memory g c =
-    λ is. said_line (codes "vdpm: ") c.in-Err.fail _ _ _ _ _
-    (text_of_memory c.in-Err.fail (sym c.tell.ensures.status ∙ is)) c.tell.ensures.said
-
 pub returns-in-Err-clause-complete : goal.returns-in-Err-clause-complete
 returns-in-Err-clause-complete g c =
-    λ other bytes all asks left outcome in_same out_same in_few out_few.
+    λ other bytes all asks left outcome none.
     completes c.outcomes_are_sound.ensures.one c.in-Some.asked c.in-Err.fail _ _ _ _ _ bytes all _ _
     _ _ left (subst (λ a. IsOutcome a bytes all)
     (one_asked _ other _ asks (sym c.read_words.ensures.asked ∙ c.in-Some.is)) outcome)
-    c.in-Err.ensures.ends c.in-Err.ensures.counts c.tell.ensures.status in_same out_same in_few
-    out_few
+    c.in-Err.ensures.ends c.in-Err.ensures.counts c.tell.ensures.status none.input_same
+    none.out_same none.input_few none.out_few
+
+pub returns-in-Ok-clause-read_to : goal.returns-in-Ok-clause-read_to
+returns-in-Ok-clause-read_to g c = λ other asks is.
+    subst (λ a. ReadsTo a (g.S.Source.left c.args.input.now) (g.S.Source.left c.obey.new.input))
+    (one_asked _ _ other (sym c.read_words.ensures.asked ∙ c.in-Some.is) asks)
+    (c.in-Ok.ensures.read_whole, c.in-Ok.ensures.read_to_place)
+
+-- Which line a failed write cut, where the words ask for a script.
+cut_line : (a : Asked) (left now old new : Option (List ℕ))
+    → ((budget : ℕ) → a ≡ asked.View budget → FewMore budget left now old new)
+    → ((budget : ℕ) → a ≡ asked.Live budget → FewMoreLive budget left now old new)
+    → CutsALine a left now old new
+cut_line (asked.View budget) left now old new view live = view budget refl
+cut_line (asked.Live budget) left now old new view live = live budget refl
+cut_line (asked.Canon digits) left now old new view live = tt
+cut_line (asked.Build target digits) left now old new view live = tt
+cut_line asked.Expand left now old new view live = tt
+cut_line asked.Check left now old new view live = tt
+cut_line (asked.Demo n) left now old new view live = tt
+cut_line (asked.Simplify target digits border) left now old new view live = tt
+
+pub returns-in-Err-clause-write : goal.returns-in-Err-clause-write
+returns-in-Err-clause-write g c = λ other asks is.
+    let same = one_asked _ _ other (sym c.read_words.ensures.asked ∙ c.in-Some.is) asks in
+    let failed = sym c.tell.ensures.status ∙ is in
+    let cut = cut_of other c.in-Err.fail _ _ _ _ _ _ _ _ failed
+    (subst (λ a. Ends a (Err c.in-Err.fail) (g.S.Source.left c.args.input.now)
+    (g.S.Source.left c.obey.new.input) (g.K.Sink.got c.args.out.now)
+    (g.K.Sink.got c.obey.new.out)) same c.in-Err.ensures.ends) c.in-Err.ensures.counts in
+    record {
+      rose = cut.0;
+      part = cut.1;
+      line = cut_line other _ _ _ _
+          (λ budget view. c.in-Err.ensures.few_more budget (same ∙ view)
+          (write_of c.in-Err.fail failed))
+          (λ budget live. c.in-Err.ensures.few_more_live budget (same ∙ live)
+          (write_of c.in-Err.fail failed));
+    }
+
+-- What ends a command early has neither the status of what was done nor that of other words.
+ended : (fail : CommandFail) → (status_of fail ≢ 0) × (status_of fail ≢ 2)
+ended (fails.Faulty f) = (λ is. absurd (omega arith), λ is. absurd (omega arith))
+ended fails.Read = (λ is. absurd (omega arith), λ is. absurd (omega arith))
+ended fails.Write = (λ is. absurd (omega arith), λ is. absurd (omega arith))
+ended fails.OutOfMemory = (λ is. absurd (omega arith), λ is. absurd (omega arith))
+
+pub returns-in-Err-clause-said : goal.returns-in-Err-clause-said
+returns-in-Err-clause-said g c =
+    let fail = c.in-Err.fail in
+    let status = sym c.tell.ensures.status in
+    record {
+      silent = λ is. absurd ((ended fail).0 (status ∙ is));
+      words = λ is. absurd ((ended fail).1 (status ∙ is));
+      read = λ is. said_line (codes "vdpm: ") fail _ _ _ _ _ (text_of_read fail (status ∙ is))
+          c.tell.ensures.said;
+      write = λ is. said_line (codes "vdpm: ") fail _ _ _ _ _ (text_of_write fail (status ∙ is))
+          c.tell.ensures.said;
+      memory = λ is. said_line (codes "vdpm: ") fail _ _ _ _ _ (text_of_memory fail (status ∙ is))
+          c.tell.ensures.said;
+    }
