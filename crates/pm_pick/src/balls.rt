@@ -53,7 +53,9 @@ impl Ray {
         ensures value { result ≡ norm2_of self.now.way }
         ensures small { result ≤ 2 ^ 34 }
     {
-        square_of_component(self.dx) + square_of_component(self.dy) + square_of_component(self.dz)
+        square_of_component(self.way.x)
+            + square_of_component(self.way.y)
+            + square_of_component(self.way.z)
     }
 
     // Whether the line of the ray passes the ball by.

@@ -10,7 +10,7 @@ apart-requires c = record {
       equal_small w32 c.x.result c.args.p.x 32767 c.x.ensures.value c.x.ensures.in_range.0
       (lit< tt);
   origin_small =
-      read_small w32 c.self.inside.ox 16777215 c.self.invariant.origin_x (lit< tt);
+      read_small w32 c.self.inside.origin.x 16777215 c.self.invariant.origin_x (lit< tt);
 }
 
 pub apart-requires-2 : goal.apart-requires-2
@@ -19,7 +19,7 @@ apart-requires-2 c = record {
       equal_small w32 c.y.result c.args.p.y 32767 c.y.ensures.value c.y.ensures.in_range.1
       (lit< tt);
   origin_small =
-      read_small w32 c.self.inside.oy 16777215 c.self.invariant.origin_y (lit< tt);
+      read_small w32 c.self.inside.origin.y 16777215 c.self.invariant.origin_y (lit< tt);
 }
 
 pub apart-requires-3 : goal.apart-requires-3
@@ -28,24 +28,24 @@ apart-requires-3 c = record {
       equal_small w32 c.z.result c.args.p.z 32767 c.z.ensures.value c.z.ensures.in_range.2
       (lit< tt);
   origin_small =
-      read_small w32 c.self.inside.oz 16777215 c.self.invariant.origin_z (lit< tt);
+      read_small w32 c.self.inside.origin.z 16777215 c.self.invariant.origin_z (lit< tt);
 }
 
 pub returns-clause-x : goal.returns-clause-x
 returns-clause-x c =
-    apart_is c.apart.result c.x.result c.self.inside.ox c.args.p.x _ c.apart.ensures.value
+    apart_is c.apart.result c.x.result c.self.inside.origin.x c.args.p.x _ c.apart.ensures.value
     c.x.ensures.value (ap (λ (r : Ray). r.origin.x) c.self.view_is) c.x.ensures.in_range.0
     c.self.invariant.origin_x c.apart.ensures.small
 
 pub returns-clause-y : goal.returns-clause-y
 returns-clause-y c =
-    apart_is c.apart-2.result c.y.result c.self.inside.oy c.args.p.y _ c.apart-2.ensures.value
+    apart_is c.apart-2.result c.y.result c.self.inside.origin.y c.args.p.y _ c.apart-2.ensures.value
     c.y.ensures.value (ap (λ (r : Ray). r.origin.y) c.self.view_is) c.y.ensures.in_range.1
     c.self.invariant.origin_y c.apart-2.ensures.small
 
 pub returns-clause-z : goal.returns-clause-z
 returns-clause-z c =
-    apart_is c.apart-3.result c.z.result c.self.inside.oz c.args.p.z _ c.apart-3.ensures.value
+    apart_is c.apart-3.result c.z.result c.self.inside.origin.z c.args.p.z _ c.apart-3.ensures.value
     c.z.ensures.value (ap (λ (r : Ray). r.origin.z) c.self.view_is) c.z.ensures.in_range.2
     c.self.invariant.origin_z c.apart-3.ensures.small
 
