@@ -11,9 +11,9 @@ ghost use Rattle.pm_commands.specs.Devices.{LeadsBack, FramesAreSurfaces};
 
 use crate::asked::Asked;
 use crate::fault::{CommandFail, InputFail};
+use crate::owned::put_stream;
 use crate::surface::read_surface;
 use pm_forest::Hierarchy;
-use pm_format::encode;
 use pm_io::{Sink, Source};
 use pm_number::{OutOfMemory, from_log};
 use pm_simplify::simplify_surface;
@@ -78,6 +78,6 @@ pub fn build<S: Source, K: Sink>(
     ensures read_whole { OnOk result (AtEnd (S.left input.new)) }
 {
     let h = build_hierarchy(alloc, target, digits, input)?;
-    encode(&h, digits, out)?;
+    put_stream(h, digits, out)?;
     Ok(())
 }

@@ -8,12 +8,12 @@ ghost use Rattle.pm_commands.specs.Ending.{FewMoreIn, FewMoreLive};
 use crate::asked::Asked;
 use crate::fault::CommandFail;
 use crate::hierarchy::read_hierarchy;
-use crate::line::put_counts;
+use crate::owned::{counts_of, input_mesh, put_mesh};
 use crate::starting::start;
 use crate::surface::read_surface;
 use obj_write::write_obj;
 use pm_format::{Stream, read_stream};
-use pm_io::{Line, Sink, Source, Taker, put_all};
+use pm_io::{Sink, Source, Taker, put_all};
 use pm_session::Grammar;
 use std::alloc::Global;
 
@@ -53,8 +53,8 @@ pub fn expand<S: Source, K: Sink>(
     ensures read_whole { OnOk result (AtEnd (S.left input.new)) }
 {
     let stream = read_hierarchy(alloc, input)?;
-    let mesh = stream.h.input_mesh(alloc)?;
-    write_obj(&mesh, stream.digits, out)?;
+    let mesh = input_mesh(alloc, stream.h)?;
+    put_mesh(mesh, stream.digits, out)?;
     Ok(())
 }
 
@@ -72,8 +72,7 @@ pub fn check<S: Source, K: Sink>(
     ensures read_whole { OnOk result (AtEnd (S.left input.new)) }
 {
     let stream = read_hierarchy(alloc, input)?;
-    let mut line = Line::new();
-    put_counts(&mut line, &stream.h);
+    let line = counts_of(stream.h);
     put_all(out, line.as_slice())?;
     Ok(())
 }

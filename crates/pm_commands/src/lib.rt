@@ -11,6 +11,7 @@ mod fault;
 mod hierarchy;
 mod line;
 mod outcomes;
+mod owned;
 mod said;
 mod simplify;
 mod starting;

@@ -15,10 +15,10 @@ ghost use Rattle.pm_commands.specs.Ending.{Ends, Counts};
 
 use crate::asked::{Asked, Border};
 use crate::fault::{CommandFail, InputFail};
+use crate::owned::put_stream;
 use crate::surface::read_surface;
 use pm_fine_costs::simplify_fine;
 use pm_forest::Hierarchy;
-use pm_format::encode;
 use pm_io::{Sink, Source};
 use pm_number::{OutOfMemory, from_log};
 use pm_tiles::border_flags;
@@ -106,6 +106,6 @@ pub fn simplify<S: Source, K: Sink>(
     ensures read_whole { OnOk result (AtEnd (S.left input.new)) }
 {
     let h = simplified_text(alloc, target, digits, border, input)?;
-    encode(&h, digits, out)?;
+    put_stream(h, digits, out)?;
     Ok(())
 }

@@ -30,7 +30,7 @@ returns-clause-ends g c =
     (record { digits = c.in_ok-stream.stream.digits; h = c.in_ok-stream.stream.h; rest = [] })
     None c.in_ok-stream.ensures.read) refl
     (subst (λ (l : List _). Gains (g.K.Sink.got c.args.out.now) (g.K.Sink.got c.put_all.new.out) l)
-    (c.as_slice.ensures ∙ c.put_counts.ensures) c.in_ok-put_all.ensures.ok)
+    (c.as_slice.ensures ∙ c.counts_of-line.ensures) c.in_ok-put_all.ensures.ok)
 
 pub returns-in_err-put_all-clause-ends : goal.returns-in_err-put_all-clause-ends
 returns-in_err-put_all-clause-ends g c =
@@ -42,7 +42,7 @@ returns-in_err-put_all-clause-ends g c =
     (record { digits = c.in_ok-stream.stream.digits; h = c.in_ok-stream.stream.h; rest = [] })
     None c.in_ok-stream.ensures.read)
     (subst (λ (l : List _). GainsPart (g.K.Sink.got c.args.out.now) (g.K.Sink.got c.put_all.new.out)
-    l) (c.as_slice.ensures ∙ c.put_counts.ensures) c.in_err-put_all.ensures.err))
+    l) (c.as_slice.ensures ∙ c.counts_of-line.ensures) c.in_err-put_all.ensures.err))
 
 pub returns-in_err-put_all-clause-counts : goal.returns-in_err-put_all-clause-counts
 returns-in_err-put_all-clause-counts g c =

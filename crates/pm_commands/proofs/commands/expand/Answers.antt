@@ -36,14 +36,14 @@ returns-clause-ends g c =
     (λ o. whole_output (canonical_text o.digits (input_mesh_of o.h))) _
     (record { digits = c.in_ok-stream.stream.digits; h = c.in_ok-stream.stream.h; rest = [] })
     None c.in_ok-stream.ensures.read) refl
-    (subst (λ (m : Mesh). Gains (g.K.Sink.got c.args.out.now) (g.K.Sink.got c.write_obj.new.out)
+    (subst (λ (m : Mesh). Gains (g.K.Sink.got c.args.out.now) (g.K.Sink.got c.put_mesh.new.out)
     (canonical_text c.in_ok-stream.stream.digits m)) c.in_ok-mesh.ensures.mesh
-    c.in_ok-write_obj.ensures.ok)
+    c.in_ok-put_mesh.ensures.ok)
 
-pub returns-in_err-write_obj-clause-ends : goal.returns-in_err-write_obj-clause-ends
-returns-in_err-write_obj-clause-ends g c =
-    let p = err_from_is_err_and c.from_residual-in_err-write_obj.result
-    c.from_residual-in_err-write_obj.ensures.1 in
+pub returns-in_err-put_mesh-clause-ends : goal.returns-in_err-put_mesh-clause-ends
+returns-in_err-put_mesh-clause-ends g c =
+    let p = err_from_is_err_and c.from_residual-in_err-put_mesh.result
+    c.from_residual-in_err-put_mesh.ensures.1 in
     rw (p.1, p.2)
     (ends_part asked.Expand _ _ _
     (whole_output
@@ -52,9 +52,9 @@ returns-in_err-write_obj-clause-ends g c =
     (λ o. whole_output (canonical_text o.digits (input_mesh_of o.h))) _
     (record { digits = c.in_ok-stream.stream.digits; h = c.in_ok-stream.stream.h; rest = [] })
     None c.in_ok-stream.ensures.read)
-    (subst (λ (m : Mesh). GainsPart (g.K.Sink.got c.args.out.now) (g.K.Sink.got c.write_obj.new.out)
+    (subst (λ (m : Mesh). GainsPart (g.K.Sink.got c.args.out.now) (g.K.Sink.got c.put_mesh.new.out)
     (canonical_text c.in_ok-stream.stream.digits m)) c.in_ok-mesh.ensures.mesh
-    c.in_err-write_obj.ensures.err))
+    c.in_err-put_mesh.ensures.err))
 
 pub returns-in_err-mesh-clause-ends : goal.returns-in_err-mesh-clause-ends
 returns-in_err-mesh-clause-ends g c =
@@ -68,8 +68,8 @@ returns-in_err-mesh-clause-counts g c =
     c.from_residual-in_err-mesh.ensures.1 in
     rw (p.1, p.2) (c.in_ok-stream.ensures.count, refl)
 
-pub returns-in_err-write_obj-clause-counts : goal.returns-in_err-write_obj-clause-counts
-returns-in_err-write_obj-clause-counts g c =
-    let p = err_from_is_err_and c.from_residual-in_err-write_obj.result
-    c.from_residual-in_err-write_obj.ensures.1 in
-    rw (p.1, p.2) c.in_err-write_obj.ensures.cause.failed
+pub returns-in_err-put_mesh-clause-counts : goal.returns-in_err-put_mesh-clause-counts
+returns-in_err-put_mesh-clause-counts g c =
+    let p = err_from_is_err_and c.from_residual-in_err-put_mesh.result
+    c.from_residual-in_err-put_mesh.ensures.1 in
+    rw (p.1, p.2) c.in_err-put_mesh.ensures.cause.failed

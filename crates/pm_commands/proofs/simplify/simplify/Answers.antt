@@ -33,7 +33,7 @@ returns-clause-ends g c =
     (whole_output (stream c.args.digits c.in_ok-h.h)) None
     (follows_done (IsSimplifiedText c.args.border c.args.target c.args.digits)
     (λ h. whole_output (stream c.args.digits h)) _ c.in_ok-h.h None c.in_ok-h.ensures.made) refl
-    c.in_ok-encode.ensures.ok
+    c.in_ok-put_stream.ensures.ok
 
 pub returns-clause-gives_back : goal.returns-clause-gives_back
 returns-clause-gives_back g c =
@@ -41,24 +41,24 @@ returns-clause-gives_back g c =
     c.requires.few
     (follows_done (IsSimplifiedText c.args.border c.args.target c.args.digits)
     (λ h. whole_output (stream c.args.digits h)) _ c.in_ok-h.h None c.in_ok-h.ensures.made)
-    c.in_ok-h.ensures.mesh c.in_ok-h.ensures.firm.valid c.in_ok-encode.ensures.ok
+    c.in_ok-h.ensures.mesh c.in_ok-h.ensures.firm.valid c.in_ok-put_stream.ensures.ok
 
 pub returns-clause-surfaces : goal.returns-clause-surfaces
 returns-clause-surfaces g c =
     shows_surfaces (IsSimplifiedText c.args.border c.args.target c.args.digits) c.args.digits _ _ _
     c.in_ok-h.h c.in_ok-h.ensures.made c.requires.few c.in_ok-h.ensures.firm
-    c.in_ok-encode.ensures.ok
+    c.in_ok-put_stream.ensures.ok
 
-pub returns-in_err-encode-clause-ends : goal.returns-in_err-encode-clause-ends
-returns-in_err-encode-clause-ends g c =
-    let p = err_from_is_err_and c.from_residual-in_err-encode.result
-    c.from_residual-in_err-encode.ensures.1 in
+pub returns-in_err-put_stream-clause-ends : goal.returns-in_err-put_stream-clause-ends
+returns-in_err-put_stream-clause-ends g c =
+    let p = err_from_is_err_and c.from_residual-in_err-put_stream.result
+    c.from_residual-in_err-put_stream.ensures.1 in
     rw (p.1, p.2)
     (ends_part (asked.Simplify c.args.target c.args.digits c.args.border) _ _ _
     (whole_output (stream c.args.digits c.in_ok-h.h))
     (follows_done (IsSimplifiedText c.args.border c.args.target c.args.digits)
     (λ h. whole_output (stream c.args.digits h)) _ c.in_ok-h.h None c.in_ok-h.ensures.made)
-    c.in_err-encode.ensures.err)
+    c.in_err-put_stream.ensures.err)
 
 pub returns-clause-meets : goal.returns-clause-meets
 returns-clause-meets g c = λ kept.
@@ -66,4 +66,4 @@ returns-clause-meets g c = λ kept.
     (subst (λ (b : Border). IfSome (g.S.Source.left c.args.input.now)
     (λ bytes. IsSimplifiedText b c.args.target c.args.digits bytes (Ok c.in_ok-h.h) None)) kept
     c.in_ok-h.ensures.made)
-    c.requires.few c.in_ok-h.ensures.firm c.in_ok-encode.ensures.ok
+    c.requires.few c.in_ok-h.ensures.firm c.in_ok-put_stream.ensures.ok
