@@ -1,10 +1,11 @@
 -- How reading a stream text ends.
 use Rattle.std.proofs.Common.{◌≡◌, ℕ, ◌+◌, ◌<◌, List, [], ◌++◌}
-use Rattle.std.proofs.Common.{length, Option, Some, None, IfSome, Result, Ok, Err, refl, ◌∙◌}
+use Rattle.std.proofs.Common.{length, Option, Some, None, IfSome, Result, Ok, Err, refl, sym, ◌∙◌}
 use Rattle.std.proofs.Common.{ap, subst, arith, length-append}
 use Rattle.std.specs.Io.KnownBytes.{prepend_known}
 use Rattle.pm_io.specs.Bytes.{Loses, AtEnd}
 use Rattle.pm_io.specs.Causes.{HasCause}
+use Rattle.pm_io.proofs.Known.{loses_none}
 use Rattle.pm_forest.specs.Forest.{Hierarchy}
 use Rattle.pm_beyond.specs.Valid.{IsValid}
 use Rattle.pm_load.specs.declared.open.LoadFail.{LoadFail}
@@ -28,6 +29,11 @@ use Rattle.pm_commands.specs.Beginning.{IsValidBeginning, invalid, valid}
 use Rattle.pm_commands.specs.Beginning.{IsHierarchyText, no_hierarchy, bytes_after, whole_text}
 use Rattle.pm_commands.proofs.BeginningLaws.{valid_place, same_valid, no_valid}
 use Rattle.pm_commands.proofs.StreamLaws.{valid_unreached, bad_stream}
+
+-- What a window that holds nothing and a source have to come is what the source has.
+pub nothing_held : (held : List ℕ) (left : Option (List ℕ)) → held ≡ []
+    → prepend_known held left ≡ left
+nothing_held held left none = ap (λ (l : List ℕ). prepend_known l left) none ∙ sym (loses_none left)
 
 -- A stream that isn't read stops all.
 

@@ -1,10 +1,10 @@
 -- How `view` ends, by what its parts answer.
 use Rattle.std.proofs.Common.{◌≡◌, ℕ, ◌+◌, ◌<◌, ◌≤◌, List, [], length, Option, Some, None}
-use Rattle.std.proofs.Common.{IfSome, Result, Ok, Err, refl, sym, ◌∙◌, ap, subst, arith}
+use Rattle.std.proofs.Common.{IfSome, Result, Ok, Err, refl, sym, ◌∙◌, subst, arith}
 use Rattle.std.specs.Option.{option_map}
 use Rattle.std.specs.Io.KnownBytes.{prepend_known}
 use Rattle.pm_io.specs.Causes.{Rose}
-use Rattle.pm_io.proofs.Known.{loses_none, gains_none}
+use Rattle.pm_io.proofs.Known.{gains_none}
 use Rattle.pm_forest.specs.Forest.{Hierarchy}
 use Rattle.pm_beyond.specs.Valid.{IsValid}
 use Rattle.pm_load.specs.declared.open.LoadFail.{LoadFail}
@@ -33,7 +33,7 @@ use Rattle.pm_commands.specs.Ending.{in_stream, ReadFails, ReadToEnd}
 use Rattle.pm_commands.specs.Ending.{ReadToPlace, FewMoreIn, Ends, Counts}
 use Rattle.pm_commands.proofs.BeginningLaws.{valid_place}
 use Rattle.pm_commands.proofs.StreamLaws.{valid_unread}
-use Rattle.pm_commands.proofs.ReadingLaws.{Begun}
+use Rattle.pm_commands.proofs.ReadingLaws.{Begun, nothing_held}
 use Rattle.pm_commands.proofs.OutcomeLaws.{follows_refused, ends_refused}
 use Rattle.pm_commands.proofs.ScriptLaws.{is_script, as_script, put_script, script_unread}
 use Rattle.pm_commands.proofs.ScriptLaws.{script_ended, script_to_end, script_to_place, script_cut}
@@ -203,7 +203,7 @@ module _ (grammar grammar' : Grammar) (b d : ℕ) (h h' : Hierarchy) (T : State)
       go serve_fails.Read s w =
           script_unread grammar b d h left mid now got_old got_new after begun good
           (subst (λ (o : Option (List ℕ)). CutOff h grammar (at_first b) mid o got_old got_new
-          after) (ap (λ (l : List ℕ). prepend_known l now) w ∙ sym (loses_none now)) s)
+          after) (nothing_held window now w) s)
       go serve_fails.Write s w =
           script_cut grammar b d h left mid (prepend_known window now) got_old got_new after begun
           good s

@@ -1,10 +1,9 @@
-use Rattle.std.proofs.Common.{◌≡◌, sym, ◌∙◌, ap}
+use Rattle.std.proofs.Common.{sym, ◌∙◌}
 use Rattle.std.proofs.lemmas.Result.{err_from_is_err_and}
 use Rattle.std.specs.Io.KnownBytes.{prepend_known}
-use Rattle.pm_io.proofs.Known.{loses_none}
 use Rattle.pm_session.specs.Session.{state_of}
 use Rattle.pm_commands.specs.Beginning.{IsValidBeginning, stream_fail, load_fail}
-use Rattle.pm_commands.proofs.ReadingLaws.{begun, stream_stops, load_stops}
+use Rattle.pm_commands.proofs.ReadingLaws.{nothing_held, begun, stream_stops, load_stops}
 use Rattle.pm_commands.proofs.OutcomeLaws.{counts_stopped, no_write}
 use Rattle.pm_commands.proofs.StartLaws.{started}
 use Rattle.pm_commands.proofs.ViewLaws.{view_stream, view_load, view_done, view_to_end}
@@ -15,8 +14,7 @@ pub returns-in_err-h-clause-ends : goal.returns-in_err-h-clause-ends
 returns-in_err-h-clause-ends g c =
     let left = g.S.Source.left c.args.input.now in
     let later = g.S.Source.left c.read_stream.new.source in
-    let same : prepend_known c.in_ok-taker.taker left ≡ left =
-    ap (λ l. prepend_known l left) c.in_ok-taker.ensures ∙ sym (loses_none left) in
+    let same = nothing_held c.in_ok-taker.taker left c.in_ok-taker.ensures in
     let p = err_from_is_err_and c.from_residual-in_err-h.result
     c.from_residual-in_err-h.ensures.1 in
     rw (p.1, p.2)
@@ -31,8 +29,7 @@ pub returns-in_err-h-clause-counts : goal.returns-in_err-h-clause-counts
 returns-in_err-h-clause-counts g c =
     let left = g.S.Source.left c.args.input.now in
     let later = g.S.Source.left c.read_stream.new.source in
-    let same : prepend_known c.in_ok-taker.taker left ≡ left =
-    ap (λ l. prepend_known l left) c.in_ok-taker.ensures ∙ sym (loses_none left) in
+    let same = nothing_held c.in_ok-taker.taker left c.in_ok-taker.ensures in
     let p = err_from_is_err_and c.from_residual-in_err-h.result
     c.from_residual-in_err-h.ensures.1 in
     rw (p.1, p.2)
@@ -51,8 +48,7 @@ pub returns-in_err-session-clause-ends : goal.returns-in_err-session-clause-ends
 returns-in_err-session-clause-ends g c =
     let left = g.S.Source.left c.args.input.now in
     let later = g.S.Source.left c.read_stream.new.source in
-    let same : prepend_known c.in_ok-taker.taker left ≡ left =
-    ap (λ l. prepend_known l left) c.in_ok-taker.ensures ∙ sym (loses_none left) in
+    let same = nothing_held c.in_ok-taker.taker left c.in_ok-taker.ensures in
     let p = err_from_is_err_and c.from_residual-in_err-session.result
     c.from_residual-in_err-session.ensures.1 in
     rw (p.1, p.2)
@@ -67,8 +63,7 @@ pub returns-in_err-session-clause-counts : goal.returns-in_err-session-clause-co
 returns-in_err-session-clause-counts g c =
     let left = g.S.Source.left c.args.input.now in
     let later = g.S.Source.left c.read_stream.new.source in
-    let same : prepend_known c.in_ok-taker.taker left ≡ left =
-    ap (λ l. prepend_known l left) c.in_ok-taker.ensures ∙ sym (loses_none left) in
+    let same = nothing_held c.in_ok-taker.taker left c.in_ok-taker.ensures in
     let p = err_from_is_err_and c.from_residual-in_err-session.result
     c.from_residual-in_err-session.ensures.1 in
     rw (p.1, p.2)
@@ -89,8 +84,7 @@ pub returns-clause-ends : goal.returns-clause-ends
 returns-clause-ends g c =
     let left = g.S.Source.left c.args.input.now in
     let later = g.S.Source.left c.read_stream.new.source in
-    let same : prepend_known c.in_ok-taker.taker left ≡ left =
-    ap (λ l. prepend_known l left) c.in_ok-taker.ensures ∙ sym (loses_none left) in
+    let same = nothing_held c.in_ok-taker.taker left c.in_ok-taker.ensures in
     let now = g.S.Source.left c.serve.new.source in
     let mid = prepend_known c.read_stream.new.taker later in
     let d = c.in_ok-h.field-0.digits in
@@ -110,8 +104,7 @@ pub returns-clause-read_whole : goal.returns-clause-read_whole
 returns-clause-read_whole g c =
     let left = g.S.Source.left c.args.input.now in
     let later = g.S.Source.left c.read_stream.new.source in
-    let same : prepend_known c.in_ok-taker.taker left ≡ left =
-    ap (λ l. prepend_known l left) c.in_ok-taker.ensures ∙ sym (loses_none left) in
+    let same = nothing_held c.in_ok-taker.taker left c.in_ok-taker.ensures in
     let now = g.S.Source.left c.serve.new.source in
     let mid = prepend_known c.read_stream.new.taker later in
     let d = c.in_ok-h.field-0.digits in
@@ -131,8 +124,7 @@ pub returns-clause-read_to_place : goal.returns-clause-read_to_place
 returns-clause-read_to_place g c =
     let left = g.S.Source.left c.args.input.now in
     let later = g.S.Source.left c.read_stream.new.source in
-    let same : prepend_known c.in_ok-taker.taker left ≡ left =
-    ap (λ l. prepend_known l left) c.in_ok-taker.ensures ∙ sym (loses_none left) in
+    let same = nothing_held c.in_ok-taker.taker left c.in_ok-taker.ensures in
     let now = g.S.Source.left c.serve.new.source in
     let mid = prepend_known c.read_stream.new.taker later in
     let d = c.in_ok-h.field-0.digits in
@@ -152,8 +144,7 @@ pub returns-in_err-serve-clause-ends : goal.returns-in_err-serve-clause-ends
 returns-in_err-serve-clause-ends g c =
     let left = g.S.Source.left c.args.input.now in
     let later = g.S.Source.left c.read_stream.new.source in
-    let same : prepend_known c.in_ok-taker.taker left ≡ left =
-    ap (λ l. prepend_known l left) c.in_ok-taker.ensures ∙ sym (loses_none left) in
+    let same = nothing_held c.in_ok-taker.taker left c.in_ok-taker.ensures in
     let now = g.S.Source.left c.serve.new.source in
     let mid = prepend_known c.read_stream.new.taker later in
     let d = c.in_ok-h.field-0.digits in
@@ -182,8 +173,7 @@ pub returns-in_err-serve-clause-few_more : goal.returns-in_err-serve-clause-few_
 returns-in_err-serve-clause-few_more g c =
     let left = g.S.Source.left c.args.input.now in
     let later = g.S.Source.left c.read_stream.new.source in
-    let same : prepend_known c.in_ok-taker.taker left ≡ left =
-    ap (λ l. prepend_known l left) c.in_ok-taker.ensures ∙ sym (loses_none left) in
+    let same = nothing_held c.in_ok-taker.taker left c.in_ok-taker.ensures in
     let now = g.S.Source.left c.serve.new.source in
     let mid = prepend_known c.read_stream.new.taker later in
     let d = c.in_ok-h.field-0.digits in
