@@ -5,6 +5,7 @@ ghost use Rattle.pm_io.specs.Bytes.{AtEnd};
 ghost use Rattle.pm_forest.specs.Meshes.{input_mesh_of};
 ghost use Rattle.pm_firm.specs.Firm.{IsFirm};
 ghost use Rattle.pm_keeping.specs.Keeping.{kept_in};
+ghost use Rattle.pm_commands.specs.declared.asked.Border.{Border};
 ghost use Rattle.pm_commands.specs.Input.{Stops};
 ghost use Rattle.pm_commands.specs.Surface.{IsSurfaceRead};
 ghost use Rattle.pm_commands.specs.Simplified.{IsKeptWith, IsSimplifiedWith, IsSimplifiedText};
@@ -36,7 +37,25 @@ fn kept_flags(alloc: Global, surface: &Surface, border: Border) -> Result<Vec<bo
     }
 }
 
-// The hierarchy of a surface's run to a number of faces, with its border free or kept.
+// The hierarchy of a surface's run to a number of faces that keeps the vertices of these flags.
+fn simplified_keeping(
+    alloc: Global,
+    surface: Surface,
+    kept: &[bool],
+    target: u32,
+) -> Result<Hierarchy, OutOfMemory>
+    ensures simplified { (border : Border) → IsKeptWith border surface (kept_in kept.now)
+        → IfOk result (IsSimplifiedWith border surface target) }
+    ensures firm { IfOk result IsFirm }
+    ensures mesh { IfOk result (λ h. input_mesh_of h ≡ surface) }
+{
+    surface.invariant();
+    let mesh = surface.mesh().copy(alloc)?;
+    let log = simplify_fine(alloc, surface, kept, target)?;
+    from_log(alloc, &mesh, &log)
+}
+
+// The same with the border free or kept.
 fn simplified_with(
     alloc: Global,
     surface: Surface,
@@ -47,11 +66,8 @@ fn simplified_with(
     ensures firm { IfOk result IsFirm }
     ensures mesh { IfOk result (λ h. input_mesh_of h ≡ surface) }
 {
-    surface.invariant();
-    let mesh = surface.mesh().copy(alloc)?;
     let kept = kept_flags(alloc, &surface, border)?;
-    let log = simplify_fine(alloc, surface, &kept, target)?;
-    from_log(alloc, &mesh, &log)
+    simplified_keeping(alloc, surface, &kept, target)
 }
 
 // Reads an OBJ text, and simplifies its mesh to a number of faces.
