@@ -8,10 +8,9 @@ ghost use Rattle.pm_commands.specs.Ending.{FewMoreIn, FewMoreLive};
 use crate::asked::Asked;
 use crate::fault::CommandFail;
 use crate::hierarchy::read_hierarchy;
-use crate::owned::{counts_of, input_mesh, put_mesh};
+use crate::owned::{counts_of, input_mesh, put_mesh, put_surface};
 use crate::starting::start;
 use crate::surface::read_surface;
-use obj_write::write_obj;
 use pm_format::{Stream, read_stream};
 use pm_io::{Sink, Source, Taker, put_all};
 use pm_session::Grammar;
@@ -34,7 +33,7 @@ pub fn canon<S: Source, K: Sink>(
     ensures read_whole { OnOk result (AtEnd (S.left input.new)) }
 {
     let surface = read_surface(alloc, digits, input)?;
-    write_obj(surface.mesh(), digits, out)?;
+    put_surface(surface, digits, out)?;
     Ok(())
 }
 

@@ -14,6 +14,7 @@ use pm_base::Mesh;
 use pm_forest::Hierarchy;
 use pm_format::encode;
 use pm_io::{Line, Sink, WriteFault};
+use pm_twins::Surface;
 use std::alloc::{AllocError, Global};
 
 /// Writes the stream text of a hierarchy, with so many decimals a coordinate.
@@ -48,4 +49,13 @@ pub fn counts_of(h: Hierarchy) -> Line
     let mut line = Line::new();
     put_counts(&mut line, &h);
     line
+}
+
+/// Writes the canonical text of a surface's mesh, with so many decimals a coordinate.
+pub fn put_surface<K: Sink>(surface: Surface, digits: u32, out: &mut K) -> Result<(), WriteFault>
+    requires { digits ≤ 4 }
+    ensures { Puts K.Sink out.old out.new (canonical_text digits surface) result }
+{
+    surface.invariant();
+    write_obj(surface.mesh(), digits, out)
 }

@@ -1,8 +1,6 @@
-use Rattle.std.proofs.Common.{None, refl, sym, subst}
+use Rattle.std.proofs.Common.{None, refl}
 use Rattle.std.proofs.lemmas.Result.{err_from_is_err_and}
-use Rattle.pm_base.specs.Meshes.{Mesh, IsWellFormed}
 use Rattle.pm_base.specs.Canonical.{canonical_text}
-use Rattle.pm_io.specs.Bytes.{Gains, GainsPart}
 use Rattle.pm_commands.specs.declared.asked.Asked.TheVariants as asked
 use Rattle.pm_commands.specs.Surface.{IsSurfaceRead}
 use Rattle.pm_commands.specs.Ran.{whole_output}
@@ -24,10 +22,6 @@ returns-in_err-surface-clause-counts g c =
     rw (p.1, p.2) (counts_stopped (IsSurfaceRead c.args.digits) c.in_err-surface.field-0.0 _ _ _ _ _
     c.in_err-surface.ensures.err)
 
-pub write_obj-requires-clause-formed : goal.write_obj-requires-clause-formed
-write_obj-requires-clause-formed g c =
-    subst (λ (m : Mesh). IsWellFormed m) (sym c.mesh.ensures) c.in_ok-surface.ensures.start.formed
-
 pub returns-clause-ends : goal.returns-clause-ends
 returns-clause-ends g c =
     ends_all (asked.Canon c.args.digits) _ _ _
@@ -35,19 +29,16 @@ returns-clause-ends g c =
     (follows_done (IsSurfaceRead c.args.digits)
     (λ m. whole_output (canonical_text c.args.digits m)) _ c.in_ok-surface.surface None
     c.in_ok-surface.ensures.surface) refl
-    (subst (λ (m : Mesh). Gains (g.K.Sink.got c.args.out.now) (g.K.Sink.got c.write_obj.new.out)
-    (canonical_text c.args.digits m)) c.mesh.ensures c.in_ok-write_obj.ensures.ok)
+    c.in_ok-put_surface.ensures.ok
 
-pub returns-in_err-write_obj-clause-ends : goal.returns-in_err-write_obj-clause-ends
-returns-in_err-write_obj-clause-ends g c =
-    let p = err_from_is_err_and c.from_residual-in_err-write_obj.result
-    c.from_residual-in_err-write_obj.ensures.1 in
+pub returns-in_err-put_surface-clause-ends : goal.returns-in_err-put_surface-clause-ends
+returns-in_err-put_surface-clause-ends g c =
+    let p = err_from_is_err_and c.from_residual-in_err-put_surface.result
+    c.from_residual-in_err-put_surface.ensures.1 in
     rw (p.1, p.2)
     (ends_part (asked.Canon c.args.digits) _ _ _
     (whole_output (canonical_text c.args.digits c.in_ok-surface.surface))
     (follows_done (IsSurfaceRead c.args.digits)
     (λ m. whole_output (canonical_text c.args.digits m)) _ c.in_ok-surface.surface None
     c.in_ok-surface.ensures.surface)
-    (subst (λ (m : Mesh). GainsPart (g.K.Sink.got c.args.out.now)
-    (g.K.Sink.got c.write_obj.new.out) (canonical_text c.args.digits m)) c.mesh.ensures
-    c.in_err-write_obj.ensures.err))
+    c.in_err-put_surface.ensures.err)
