@@ -31,11 +31,12 @@ fn read_through<S: Source>(
 {
     let Stream { h, digits } = read_stream(alloc, taker, input)?;
     let valid = validate(alloc, h)?;
-    match taker.piece(input) {
-        Ok([]) => Ok(Stream { h: valid, digits }),
+    let ended = match taker.piece(input) {
+        Ok([]) => Ok(()),
         Ok(_) => Err(InputFail::Faulty(Fault::Trailing)),
         Err(_) => Err(InputFail::Read),
-    }
+    };
+    ended.and(Ok(Stream { h: valid, digits }))
 }
 
 /// Reads the stream text of a valid hierarchy, and looks that no byte follows it. A fault is
