@@ -11,8 +11,8 @@ use std::marker::Model;
 /// busy with one page while the next is made.
 pub const PAGE_BYTES: usize = 32_768;
 
-/// A page of at most 32,768 bytes on their way to a sink, within the value itself. Contracts see the
-/// bytes that it holds. It takes no memory.
+/// A page of at most 32,768 bytes on their way to a sink, within the value itself. Contracts see
+/// the bytes that it holds. It takes no memory.
 #[derive(Drop)]
 pub struct Page {
     held: ArrayVec<u8, 32_768>,
