@@ -1,9 +1,11 @@
 -- How a script ends that follows the stream of a valid hierarchy.
-use Rattle.std.proofs.Common.{◌≡◌, ℕ, ◌+◌, ◌<◌, ◌≤◌, List, ◌++◌, length, Option, Some, None}
+use Rattle.std.proofs.Common.{◌≡◌, ◌⊎◌, inl, inr, ℕ, ◌+◌, ◌<◌, ◌≤◌, List, [], ◌++◌, length}
+use Rattle.std.proofs.Common.{Option, Some, None, append_assoc}
 use Rattle.std.proofs.Common.{IfSome, Ok, refl, sym, ◌∙◌, ap, subst, arith}
 use Rattle.std.proofs.Common.{length-append}
 use Rattle.std.specs.Option.{option_map}
 use Rattle.std.specs.Io.KnownBytes.{prepend_known}
+use Rattle.pm_io.specs.Bytes.{Loses, AtEnd}
 use Rattle.pm_io.proofs.Known.{loses_both}
 use Rattle.obj_lines.proofs.FinishLaws.{left_at_end}
 use Rattle.pm_forest.specs.Forest.{Hierarchy}
@@ -13,7 +15,8 @@ use Rattle.pm_session.specs.declared.command.ScriptFault.{ScriptFault}
 use Rattle.pm_session.specs.declared.grammar.Grammar.{Grammar}
 use Rattle.pm_session.specs.declared.grammar.Grammar.TheVariants as grammars
 use Rattle.pm_session.specs.Script.{State, at_first}
-use Rattle.pm_session.specs.Serving.{played, Ended, CutOff, PutPart, NotReached, ReachesPlace}
+use Rattle.pm_session.specs.Serving.{played, AreLines, Ended, CutOff, PutPart, NotReached}
+use Rattle.pm_session.specs.Serving.{ReachesPlace}
 use Rattle.pm_commands.specs.declared.fault.Fault.{Fault}
 use Rattle.pm_commands.specs.Asked.{script_asked}
 use Rattle.pm_commands.specs.Ran.{Ran, line_fault, of_script}
@@ -190,39 +193,54 @@ script_to_place grammar b d h (Some bytes) (Some rest) now got_old got_new windo
         }
 
 -- A write failed.
-pub script_cut : (grammar : Grammar) (b d : ℕ) (h : Hierarchy)
-    (left mid now got_old got_new : Option (List ℕ)) (after : State) → Begun left mid d h
-    → IsValid h → PutPart h grammar (at_first b) mid now got_old got_new after
+pub script_cut : (grammar : Grammar) (b d : ℕ) (h : Hierarchy) (left mid now : Option (List ℕ))
+    (window : List ℕ) (got_old got_new : Option (List ℕ)) (after : State) → Begun left mid d h
+    → IsValid h → PutPart h grammar (at_first b) mid now window got_old got_new after
     → IfSome left (λ bytes. CutShort (script_asked grammar b) bytes got_old got_new)
-script_cut grammar b d h None mid now got_old got_new after begun good p = tt
-script_cut grammar b d h (Some bytes) None now got_old got_new after begun good p =
+script_cut grammar b d h None mid now window got_old got_new after begun good p = tt
+script_cut grammar b d h (Some bytes) None now window got_old got_new after begun good p =
     absurd (cc begun.took)
-script_cut grammar b d h (Some bytes) (Some rest) now got_old got_new after begun good p = record {
-  all = of_script (length (stream d h)) (played h grammar (at_first b) rest);
-  outcome = view_outcome grammar b d h bytes rest begun good;
-  part = p.all;
-}
+script_cut grammar b d h (Some bytes) (Some rest) now window got_old got_new after begun good p =
+    record {
+      all = of_script (length (stream d h)) (played h grammar (at_first b) rest);
+      outcome = view_outcome grammar b d h bytes rest begun good;
+      part = p.all;
+    }
 
 pub script_few : (grammar : Grammar) (b d : ℕ) (h : Hierarchy) (window : List ℕ)
     (left mid now got_old got_new : Option (List ℕ)) (after : State) → Begun left mid d h
-    → IsValid h → length window ≤ 4095
-    → PutPart h grammar (at_first b) mid (prepend_known window now) got_old got_new after
+    → IsValid h
+    → PutPart h grammar (at_first b) mid (prepend_known window now) window got_old got_new after
     → FewMoreIn grammar b left now got_old got_new
-script_few grammar b d h window left mid now got_old got_new after begun good few p = record {
+script_few grammar b d h window left mid now got_old got_new after begun good p = record {
   digits = d;
   h = h;
   front = p.front;
   line = p.line;
-  window = window;
+  window = (p.more ++ p.past) ++ window;
   told = begun.text.few;
   good = good;
-  took = loses_both left mid now (stream d h) ((p.front ++ p.line) ++ window)
-      (took_text left mid d h begun)
-      (loses_both mid (prepend_known window now) now (p.front ++ p.line) window p.took refl);
+  took = loses_both left mid now (stream d h)
+      ((p.front ++ p.line) ++ ((p.more ++ p.past) ++ window)) (took_text left mid d h begun)
+      (subst (λ (l : List ℕ). Loses mid now l) regrouped
+      (loses_both mid (prepend_known window now) now (((p.front ++ p.line) ++ p.more) ++ p.past)
+      window p.took refl));
   ends = p.ends;
   one = p.one;
-  to_its_end = p.to_its_end;
-  few = few;
+  to_its_end = to_its_end p.to_its_end;
+  few = omega (arith, p.few, length-append (p.more ++ p.past) window);
   part = p.part;
   before = p.before;
 }
+  where
+    regrouped : (((p.front ++ p.line) ++ p.more) ++ p.past) ++ window
+        ≡ (p.front ++ p.line) ++ ((p.more ++ p.past) ++ window)
+    regrouped =
+        ap (λ (l : List ℕ). l ++ window) (append_assoc (p.front ++ p.line) p.more p.past)
+        ∙ append_assoc (p.front ++ p.line) (p.more ++ p.past) window
+
+    to_its_end : AreLines p.line ⊎ (AtEnd (prepend_known window now) × (p.more ++ p.past ≡ []))
+        → AreLines p.line ⊎ AtEnd (prepend_known ((p.more ++ p.past) ++ window) now)
+    to_its_end (inl whole) = inl whole
+    to_its_end (inr over) =
+        inr (subst (λ (l : List ℕ). AtEnd (prepend_known (l ++ window) now)) (sym over.1) over.0)

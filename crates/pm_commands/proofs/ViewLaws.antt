@@ -144,52 +144,57 @@ view_stream grammar b left whole mid now got e in_old in_new same reads stops =
 
 -- The session shows the base front of the hierarchy.
 shown : (grammar grammar' : Grammar) (h h' : Hierarchy) (b : ℕ) (T : State)
-    (mid now got_old got_new : Option (List ℕ)) (r : Result (Unit {0}) ServeFail) (after : State)
-    → h' ≡ h → grammar' ≡ grammar → T ≡ at_first b
-    → Serves h' grammar' T mid now got_old got_new r after
-    → Serves h grammar (at_first b) mid now got_old got_new r after
-shown grammar grammar' h h' b T mid now got_old got_new r after same_h same_grammar base serves =
-    subst (λ (q : Hierarchy). Serves q grammar (at_first b) mid now got_old got_new r after) same_h
-    (subst (λ (k : Grammar). Serves h' k (at_first b) mid now got_old got_new r after) same_grammar
-    (subst (λ (S : State). Serves h' grammar' S mid now got_old got_new r after) base serves))
+    (mid now : Option (List ℕ)) (window : List ℕ) (got_old got_new : Option (List ℕ))
+    (r : Result (Unit {0}) ServeFail) (after : State) → h' ≡ h → grammar' ≡ grammar
+    → T ≡ at_first b
+    → Serves h' grammar' T mid now window got_old got_new r after
+    → Serves h grammar (at_first b) mid now window got_old got_new r after
+shown grammar grammar' h h' b T mid now window got_old got_new r after same_h same_grammar base
+    serves =
+    subst (λ (q : Hierarchy). Serves q grammar (at_first b) mid now window got_old got_new r after)
+    same_h
+    (subst (λ (k : Grammar). Serves h' k (at_first b) mid now window got_old got_new r after)
+    same_grammar
+    (subst (λ (S : State). Serves h' grammar' S mid now window got_old got_new r after) base
+    serves))
 
 -- What a session that began so makes of `view`.
 module _ (grammar grammar' : Grammar) (b d : ℕ) (h h' : Hierarchy) (T : State)
     (left mid now got_old got_new : Option (List ℕ)) (window : List ℕ) (after : State)
     (begun : Begun left mid d h) (good : IsValid h) (same_h : h' ≡ h) (same_grammar : grammar'
     ≡ grammar) (base : T ≡ at_first b) where
-  pub view_done : Serves h' grammar' T mid (prepend_known window now) got_old got_new (Ok tt) after
-      → IfSome left (λ bytes. Replied (script_asked grammar b) bytes None got_old got_new)
+  pub view_done : Serves h' grammar' T mid (prepend_known window now) window got_old got_new (Ok tt)
+      after → IfSome left (λ bytes. Replied (script_asked grammar b) bytes None got_old got_new)
   view_done serves =
       script_ended grammar b d h left mid (prepend_known window now) got_old got_new None None after
-      begun good refl (shown grammar grammar' h h' b T mid (prepend_known window now) got_old
+      begun good refl (shown grammar grammar' h h' b T mid (prepend_known window now) window got_old
       got_new (Ok tt) after same_h same_grammar base serves)
 
-  pub view_to_end : Serves h' grammar' T mid (prepend_known window now) got_old got_new (Ok tt)
-      after → ReadToEnd (script_asked grammar b) left now
+  pub view_to_end : Serves h' grammar' T mid (prepend_known window now) window got_old got_new
+      (Ok tt) after → ReadToEnd (script_asked grammar b) left now
   view_to_end serves =
       script_to_end grammar b d h left mid now got_old got_new window after begun good
-      (shown grammar grammar' h h' b T mid (prepend_known window now) got_old got_new (Ok tt) after
-      same_h same_grammar base serves)
+      (shown grammar grammar' h h' b T mid (prepend_known window now) window got_old got_new (Ok tt)
+      after same_h same_grammar base serves)
 
-  pub view_to_place : Serves h' grammar' T mid (prepend_known window now) got_old got_new (Ok tt)
-      after → length window ≤ 4095 → ReadToPlace (script_asked grammar b) left now
+  pub view_to_place : Serves h' grammar' T mid (prepend_known window now) window got_old got_new
+      (Ok tt) after → length window ≤ 4095 → ReadToPlace (script_asked grammar b) left now
   view_to_place serves few =
       script_to_place grammar b d h left mid now got_old got_new window after begun good few
-      (shown grammar grammar' h h' b T mid (prepend_known window now) got_old got_new (Ok tt) after
-      same_h same_grammar base serves)
+      (shown grammar grammar' h h' b T mid (prepend_known window now) window got_old got_new (Ok tt)
+      after same_h same_grammar base serves)
 
   pub view_served : (e : ServeFail)
-      → Serves h' grammar' T mid (prepend_known window now) got_old got_new (Err e) after
+      → Serves h' grammar' T mid (prepend_known window now) window got_old got_new (Err e) after
       → WindowAfter {X = Unit {0}} (Err e) window
       → Ends (script_asked grammar b) (Err (serve_fail e)) left now got_old got_new
   view_served e serves is =
-      go e (shown grammar grammar' h h' b T mid (prepend_known window now) got_old got_new (Err e)
-      after same_h same_grammar base serves) is
+      go e (shown grammar grammar' h h' b T mid (prepend_known window now) window got_old got_new
+      (Err e) after same_h same_grammar base serves) is
     where
       go : (e : ServeFail)
-          → Serves h grammar (at_first b) mid (prepend_known window now) got_old got_new (Err e)
-          after → WindowAfter {X = Unit {0}} (Err e) window
+          → Serves h grammar (at_first b) mid (prepend_known window now) window got_old got_new
+          (Err e) after → WindowAfter {X = Unit {0}} (Err e) window
           → Ends (script_asked grammar b) (Err (serve_fail e)) left now got_old got_new
       go (serve_fails.BadLine n) s w =
           script_ended grammar b d h left mid (prepend_known window now) got_old got_new
@@ -205,27 +210,27 @@ module _ (grammar grammar' : Grammar) (b d : ℕ) (h h' : Hierarchy) (T : State)
           (subst (λ (o : Option (List ℕ)). CutOff h grammar (at_first b) mid o got_old got_new
           after) (nothing_held window now w) s)
       go serve_fails.Write s w =
-          script_cut grammar b d h left mid (prepend_known window now) got_old got_new after begun
-          good s
+          script_cut grammar b d h left mid (prepend_known window now) window got_old got_new after
+          begun good s
 
   pub view_few : (e : ServeFail)
-      → Serves h' grammar' T mid (prepend_known window now) got_old got_new (Err e) after
+      → Serves h' grammar' T mid (prepend_known window now) window got_old got_new (Err e) after
       → WindowAfter {X = Unit {0}} (Err e) window → serve_fail e ≡ fails.Write
       → FewMoreIn grammar b left now got_old got_new
   view_few e serves is write =
-      go e (shown grammar grammar' h h' b T mid (prepend_known window now) got_old got_new (Err e)
-      after same_h same_grammar base serves) is write
+      go e (shown grammar grammar' h h' b T mid (prepend_known window now) window got_old got_new
+      (Err e) after same_h same_grammar base serves) is write
     where
       go : (e : ServeFail)
-          → Serves h grammar (at_first b) mid (prepend_known window now) got_old got_new (Err e)
-          after → WindowAfter {X = Unit {0}} (Err e) window → serve_fail e ≡ fails.Write
+          → Serves h grammar (at_first b) mid (prepend_known window now) window got_old got_new
+          (Err e) after → WindowAfter {X = Unit {0}} (Err e) window → serve_fail e ≡ fails.Write
           → FewMoreIn grammar b left now got_old got_new
       go (serve_fails.BadLine n) s w write = absurd (cc write)
       go (serve_fails.NoRecord n) s w write = absurd (cc write)
       go serve_fails.ScriptTooLong s w write = absurd (cc write)
       go serve_fails.Read s w write = absurd (cc write)
       go serve_fails.Write s w write =
-          script_few grammar b d h window left mid now got_old got_new after begun good w s
+          script_few grammar b d h window left mid now got_old got_new after begun good s
 
 pub view_counts : (e : ServeFail) (in_old in_mid in_new out_old out_new : ℕ) → in_mid ≡ in_old
     → ServeCounts {X = Unit {0}} (Err e) in_mid in_new out_old out_new

@@ -1,7 +1,7 @@
 -- How a script is served step by step: what is taken of it, and what comes of a line.
 use Rattle.std.specs.Prelude.{◌≡◌, ℕ, ◌+◌, ◌<◌, ◌≤◌, Bool, true, false, List, [], ◌∷◌, ◌++◌}
 use Rattle.std.specs.Prelude.{length, Option, None, Result, Ok, Err}
-use Rattle.pm_io.specs.Bytes.{Gains, Loses, AtEnd}
+use Rattle.pm_io.specs.Bytes.{Gains, Loses}
 use Rattle.pm_io.specs.Letters.{line_feed}
 use Rattle.obj_lines.specs.Text.{until, lines}
 use Rattle.pm_forest.specs.Forest.{Hierarchy}
@@ -100,10 +100,11 @@ abbrev pub HasEnded : Begun → Standing → Option ScriptFault → Type 0
 HasEnded b s fault = Ended b.h b.grammar b.state b.script s.left b.got s.got fault s.state
 
 -- One step of the serving: it goes on, or the script has ended, or why it stops.
-abbrev pub Steps : Begun → Standing → Result Bool ServeFail → Type 0
-Steps b s (Ok true) = IsServing b s
-Steps b s (Ok false) = HasEnded b s None
-Steps b s (Err e) = Serves b.h b.grammar b.state b.script s.left b.got s.got (Err e) s.state
+abbrev pub Steps : Begun → Standing → List ℕ → Result Bool ServeFail → Type 0
+Steps b s window (Ok true) = IsServing b s
+Steps b s window (Ok false) = HasEnded b s None
+Steps b s window (Err e) =
+    Serves b.h b.grammar b.state b.script s.left window b.got s.got (Err e) s.state
 
 -- The bytes taken end the open line, which has this text before its LF.
 pub record EndsLine (line taken text : List ℕ) : Type 0 where
@@ -115,7 +116,6 @@ pub record EndsLine (line taken text : List ℕ) : Type 0 where
 
 -- What bytes that are taken make of the open line, where there is room for so many.
 abbrev pub Gathers : LineState → ℕ → List ℕ → List ℕ → List ℕ → Type 0
-Gathers states.NoMore room line taken line' = (taken ≡ []) × (line' ≡ line)
 Gathers states.Past room line taken line' =
     (room ≡ 0) × (length taken ≡ 1) × (line' ≡ line)
 Gathers states.Partial room line taken line' =
@@ -126,13 +126,12 @@ Gathers states.TooLong room line taken line' =
     (length taken ≤ room) × (until line_feed taken ≡ taken) × (length line + length taken ≡ 1025)
     × (line' ≡ line)
 
--- Bytes are taken of what is left; where none are, nothing is.
-pub record TakesIn (state : LineState) (room : ℕ) (line line' : List ℕ)
-    (old new : Option (List ℕ)) : Type 0 where
-  pub taken : List ℕ
-  pub took : Loses old new taken
-  pub gathers : Gathers state room line taken line'
-  pub at_end : state ≡ states.NoMore → AtEnd new
+-- Bytes are taken from the front of a window.
+pub record TakesIn (state : LineState) (room : ℕ) (line line' window window' : List ℕ) : Type 0
+  where
+    pub taken : List ℕ
+    pub cut : window ≡ taken ++ window'
+    pub gathers : Gathers state room line taken line'
 
 -- What comes of a line, once it is done: the next line begins, the script has ended, or why it
 -- stops.

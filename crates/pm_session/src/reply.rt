@@ -10,9 +10,9 @@ use pm_manifold::Measure;
 use pm_pick::Hit;
 use pm_refine::Adapted;
 
-// The line that replies to a move.
+/// The line that replies to a move.
 #[tactic(auto, unfolding(crate::specs::Script::reply_to))]
-fn put_reply(line: &mut Line, fault: Option<MoveFault>)
+pub(crate) fn put_reply(line: &mut Line, fault: Option<MoveFault>)
     ensures { line.new ≡ reply_to fault }
 {
     line.clear();
@@ -36,9 +36,9 @@ pub(crate) fn put_answer<K: Sink>(fault: Option<MoveFault>, out: &mut K) -> Resu
     put_all(out, line.as_slice())
 }
 
-// The line that replies to a view.
+/// The line that replies to a view.
 #[tactic(auto, unfolding(crate::specs::Script::view_reply))]
-fn put_view_reply(line: &mut Line, adapted: Adapted)
+pub(crate) fn put_view_reply(line: &mut Line, adapted: Adapted)
     ensures { line.new ≡ view_reply adapted }
 {
     line.clear();

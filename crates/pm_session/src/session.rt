@@ -80,23 +80,23 @@ impl Session {
         write_frame(&self.front, out)
     }
 
-    // What a line asks for.
-    fn command(&self, text: &[u8]) -> Command
+    /// What a line asks for.
+    pub(crate) fn command(&self, text: &[u8]) -> Command
         ensures { result ≡ command_of self.now.grammar text.now }
     {
         command_of(self.grammar, text)
     }
 
-    // How many records there are.
-    fn records(&self) -> u32
+    /// How many records there are.
+    pub(crate) fn records(&self) -> u32
         ensures { result ≡ record_count self.now.h }
     {
         self.front.hierarchy().records()
     }
 
-    // Splits a record where that is legal, and answers what forbids it where it isn't.
+    /// Splits a record where that is legal, and answers what forbids it where it isn't.
     #[tactic(auto, using(crate::proofs::Deeds::split_made, crate::proofs::Deeds::split_refused))]
-    fn split(&mut self, k: u32) -> Option<MoveFault>
+    pub(crate) fn split(&mut self, k: u32) -> Option<MoveFault>
         requires { k < record_count self.old.h }
         ensures answer { result ≡ split_fault self.old.h (set_of self.old.flags) k }
         ensures after { set_of self.new.flags ≡ after_split self.old.h (set_of self.old.flags) k }
@@ -109,9 +109,9 @@ impl Session {
         }
     }
 
-    // Collapses a record where that is legal, and answers what forbids it where it isn't.
+    /// Collapses a record where that is legal, and answers what forbids it where it isn't.
     #[tactic(auto, using(crate::proofs::Deeds::collapse_made, crate::proofs::Deeds::collapse_refused))]
-    fn collapse(&mut self, k: u32) -> Option<MoveFault>
+    pub(crate) fn collapse(&mut self, k: u32) -> Option<MoveFault>
         requires { k < record_count self.old.h }
         ensures answer { result ≡ collapse_fault self.old.h (set_of self.old.flags) k }
         ensures after { set_of self.new.flags ≡ after_collapse self.old.h (set_of self.old.flags)
@@ -125,9 +125,9 @@ impl Session {
         }
     }
 
-    // Adapts the front to a view by a measure that the script may have.
+    /// Adapts the front to a view by a measure that the script may have.
     #[tactic(auto, using(crate::proofs::MeasureLaws::has_enough))]
-    fn look(&mut self, view: &View) -> Adapted
+    pub(crate) fn look(&mut self, view: &View) -> Adapted
         requires { has_measure self.old.grammar view.now.measure ≡ true }
         ensures answer { result ≡ adapted_to self.old.h self.old.budget (set_of self.old.flags)
             view.now }
@@ -180,8 +180,8 @@ impl Session {
         self.tools.write_strips(&self.front, out)
     }
 
-    // Marks the split records.
-    fn mark(&mut self)
+    /// Marks the split records.
+    pub(crate) fn mark(&mut self)
         ensures marked { set_of self.new.marks ≡ set_of self.old.flags }
         ensures same { (self.new.h ≡ self.old.h) × (self.new.grammar ≡ self.old.grammar)
             × (self.new.flags ≡ self.old.flags) × (self.new.budget ≡ self.old.budget) }
@@ -205,8 +205,8 @@ impl Session {
         told
     }
 
-    // Sets the budget of moves a view.
-    fn set_budget(&mut self, moves: u32)
+    /// Sets the budget of moves a view.
+    pub(crate) fn set_budget(&mut self, moves: u32)
         ensures budget { self.new.budget ≡ moves }
         ensures same { (self.new.h ≡ self.old.h) × (self.new.grammar ≡ self.old.grammar)
             × (self.new.flags ≡ self.old.flags) × (self.new.marks ≡ self.old.marks) }
