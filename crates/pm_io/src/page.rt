@@ -11,6 +11,8 @@ use std::marker::Model;
 /// busy with one page while the next is made.
 pub const PAGE_BYTES: usize = 32_768;
 
+const _: () = prove!(PAGE_BYTES == 32_768);
+
 /// A page of at most 32,768 bytes on their way to a sink, within the value itself. Contracts see
 /// the bytes that it holds. It takes no memory.
 #[derive(Drop)]
