@@ -110,7 +110,7 @@ impl Changer {
     /// the changer's hierarchy. It takes no memory. After a fault the sink has gained a part of
     /// the text from its front, and not the whole. A later call starts anew.
     ///
-    /// The text is put in pages of 4,096 bytes, of which the last may be shorter: when the call
+    /// The text is put in pages of 32,768 bytes, of which the last may be shorter: when the call
     /// returns, nothing is held back. What it costs is said at `write_counted`.
     pub fn write<K: Sink>(
         &mut self,

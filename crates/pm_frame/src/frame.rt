@@ -90,7 +90,7 @@ pub fn put_last<K: Sink>(page: &mut Page, out: &mut K) -> Result<(), WriteFault>
 /// O(1) time for each of these, and for each 4,096 nodes and faces of the hierarchy. It takes no
 /// memory. After a fault the sink has gained a part of the text from its front, and not the whole.
 ///
-/// The text is put in pages of 4,096 bytes, of which the last may be shorter: when the call
+/// The text is put in pages of 32,768 bytes, of which the last may be shorter: when the call
 /// returns, nothing is held back.
 #[tactic(auto, unfolding(crate::specs::Frame::frame_text))]
 pub fn write_frame<K: Sink>(front: &Front, out: &mut K) -> Result<(), WriteFault>
