@@ -9,6 +9,10 @@
 # other sources. Else programs.py reads all the sources, builds where it has to, and says which
 # program to take. So a program that was built before never stands in for newer sources.
 top=$(cd "$(dirname "${BASH_SOURCE[0]}")/../.." && pwd) || exit 70
+. "$top/tools/quick_start/hints.sh" || exit 70
+answer_help "$@"
+refuse_files "$@"
+tell_kind "${1-}"
 
 is_fresh() {
     local key rest sum='' places=()
