@@ -9,6 +9,7 @@ pub mod Longest
 pub mod Firsts
 pub mod Different
 pub mod Prepared
+pub mod Became
 pub mod Pieces
 pub mod PrepareFails
 pub mod Back

@@ -1,5 +1,6 @@
 use Rattle.obj_prepare.proofs.AccountLaws.{accounts_close}
 use Rattle.obj_prepare.proofs.AgainLaws.{prepared_again}
+use Rattle.obj_prepare.proofs.BecameLaws.{triangles_are_told}
 use Rattle.obj_prepare.proofs.BackLaws.{places_lead_back}
 use Rattle.obj_prepare.proofs.WithinLaws.{places_are_within}
 use Rattle.obj_prepare.proofs.FitMeshes.{fit_meshes_stay}
@@ -15,6 +16,7 @@ returns c = record {
   one = prepared_are_one;
   notes = notes_are_one;
   accounts = accounts_close;
+  triangles = triangles_are_told;
   fit = fit_meshes_stay;
   again = prepared_again;
 }
