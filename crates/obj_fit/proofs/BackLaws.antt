@@ -14,6 +14,7 @@ use Rattle.obj_prepare.specs.Placing.{IsSize}
 use Rattle.obj_prepare.specs.Back.{way_back_of, LeadsBack}
 use Rattle.obj_prepare.proofs.AgainLaws.{place_from}
 use Rattle.obj_prepare.proofs.BackLaws.{places_lead_back}
+use Rattle.obj_prepare.proofs.BecameLaws.{triangles_are_told}
 use Rattle.obj_prepare.proofs.PlacingLaws.{length-places_of}
 use Rattle.obj_prepare.proofs.ThreeLaws.{three_all}
 use Rattle.obj_fit.specs.declared.fault.Fault.{Fault}
@@ -57,6 +58,7 @@ made_leads_back size bytes s done is means k =
           (place_in_list s.points v) measured (places_lead_back size s.points three v is l named);
       from = λ w l. let (v, low, named, same) = place_from places cut k.mesh own k.prepared.0 w
           l in (v, subst (λ (n : ℕ). v < n) long low, cut_named size s v named, same);
+      triangles = triangles_are_told places cut k.mesh own k.prepared.0;
     }
 
 outcome_leads_back : (size : Option ℕ) (bytes : List ℕ) (r : Result Done Fault) (place : Option ℕ)

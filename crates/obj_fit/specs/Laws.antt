@@ -8,6 +8,7 @@ use Rattle.pm_base.specs.Fans.{IsOrientedManifold}
 use Rattle.pm_base.specs.Canonical.{canonical_text}
 use Rattle.obj_lines.specs.Text.{until}
 use Rattle.pm_fans.specs.Splits.{AllStand}
+use Rattle.pm_ears.specs.Recutting.{recut}
 use Rattle.pm_turn.specs.Told.{AreInsideOut}
 use Rattle.obj_read.specs.Coordinates.{is_negative, without_sign, decimals, is_number, are_zeros}
 use Rattle.obj_read.specs.Coordinates.{magnitude, with_sign}
@@ -20,6 +21,7 @@ use Rattle.obj_prepare.specs.declared.placing.Fit.TheVariants as fits
 use Rattle.obj_prepare.specs.Named.{is_some_corner, of_three}
 use Rattle.obj_prepare.specs.Placing.{IsSize}
 use Rattle.obj_prepare.specs.Joining.{place_in_list}
+use Rattle.obj_prepare.specs.Became.{AllBecame}
 use Rattle.obj_prepare.specs.Back.{WayBack, LeadsNear, StandsAt}
 use Rattle.obj_prepare.specs.Prepared.{IsPreparedWith}
 use Rattle.obj_prepare.specs.Laws.{AreFit}
@@ -83,7 +85,9 @@ pub data LineLeadsBack (line : List ℕ) (place p : Place) : Type 0 where
 
 -- The text is a first line and the canonical text of a mesh. The line leads back from the place of
 -- each vertex that a triangle of three different vertices names to the point that was read, and
--- each vertex of the mesh stands at the place of one of them.
+-- each vertex of the mesh stands at the place of one of them. Each triangle, once polygons were cut
+-- anew, came out over the places of its corners, or is gone for a reason that is told; and no other
+-- came out.
 pub record TextLeadsBack (s : Scanned) (places : List Place) (text : List ℕ)
     (m : Mesh) : Type 0 where
   pub line : List ℕ
@@ -93,6 +97,7 @@ pub record TextLeadsBack (s : Scanned) (places : List Place) (text : List ℕ)
   pub from : (w : ℕ) → w < length m.points
       → (v : ℕ) × (v < length s.points) × (is_some_corner (of_three s.faces) v ≡ true)
       × (place_in_list m.points w ≡ place_in_list places v)
+  pub triangles : AllBecame places (of_three (recut places s.polygons s.faces)) m
 
 -- What is written, where it has faces, leads back to the points of the text.
 abbrev pub TextsLeadBack : Type 0

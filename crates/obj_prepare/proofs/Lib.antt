@@ -26,4 +26,4 @@ pub mod WholeLaws
 pub mod ThreeLaws
 pub mod LongestLaws
 pub mod WithinLaws
-mod BecameLaws
+pub mod BecameLaws
