@@ -1,3 +1,4 @@
+pub mod Axes
 pub mod Spreads
 pub mod Normals
 pub mod Borders

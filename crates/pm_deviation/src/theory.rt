@@ -1,4 +1,5 @@
 //! The laws of deviations.
+ghost use Rattle.pm_deviation.specs.Axes.{AxesAreTold};
 ghost use Rattle.pm_deviation.specs.Laws.{
   DeviationsAreBelowErrors,
   DeviationsGrow,
@@ -12,6 +13,7 @@ ghost use Rattle.pm_deviation.specs.Laws.{
 /// from the leaves up and stay below errors, and how near to the faces under a node they say that
 /// its place is. It does nothing, and callers cite its clauses.
 pub fn deviations_are_sound()
+    ensures axes { AxesAreTold }
     ensures below { DeviationsAreBelowErrors }
     ensures grow { DeviationsGrow }
     ensures planes { PlanesAreNear }

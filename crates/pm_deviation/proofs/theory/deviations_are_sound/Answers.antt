@@ -1,3 +1,4 @@
+use Rattle.std.proofs.Common.{refl}
 use Rattle.pm_deviation.proofs.GrowingLaws.{below_errors, grow, border_errors}
 use Rattle.pm_deviation.proofs.NearLaws.{planes_near, triangle_near}
 use Rattle.pm_deviation.proofs.LineLaws.{lines_near}
@@ -5,6 +6,7 @@ use Rattle.pm_deviation.proofs.theory.deviations_are_sound.Goals as goal
 
 pub returns : goal.returns
 returns c = record {
+  axes = refl;
   below = below_errors;
   grow = grow;
   planes = λ h shape v e l side held. planes_near h shape e side v l held;
