@@ -39,10 +39,10 @@ module _ (p : Piece) (piece : IsPiece p) where
   abbrev IsNumberedBy : (ℕ → ℕ) → (ℕ → ℕ) → (ℕ → ℕ) → Type 0
   IsNumberedBy node leaf face = IsNumbered (run_of p.mesh p.log) (hierarchy_in p) node leaf face
 
-  told : IsMerging (run_of p.mesh p.log)
+  pub told : IsMerging (run_of p.mesh p.log)
   told = merging p.mesh p.log piece.start piece.run
 
-  num : IsNumberedBy (node_number r) (leaf_number r) (face_number r)
+  pub num : IsNumberedBy (node_number r) (leaf_number r) (face_number r)
   unfolding hierarchy_of_run
   num = numbered (run_of p.mesh p.log) told
 
@@ -193,7 +193,7 @@ cut_alike (p ∷ ps) cut =
     (beside_first (cut_mesh ps) (piece_mesh p) (leaf_tile (tile_of p)) here)
     (beside (leaf_tile (tile_of p)) (cut_mesh ps) (leaf_world (map tile_of ps)) rest)
 
-cut_becomes :
+pub cut_becomes :
     (ps : List Piece) → AreCut ps → (T : ℕ → ℕ → Bool) → AreClosed (map tile_of ps) T →
     Becomes (cut_mesh ps) (shown_world (map tile_of ps) T)
 cut_becomes ps cut T closed manifold =

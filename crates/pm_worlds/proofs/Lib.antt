@@ -3,3 +3,4 @@ pub mod Worlds
 pub mod RunMeshes
 pub mod Cuts
 pub mod Names
+pub mod Parts

@@ -23,7 +23,7 @@ use Rattle.pm_worlds.specs.Laws as law
 
 module _ (p : Piece) where
   -- Whether a node is that of a corner.
-  corner? : (v : ℕ) → Decided (IsCornerNode p v)
+  pub corner? : (v : ℕ) → Decided (IsCornerNode p v)
   corner? v =
       let net = net_of p.mesh.faces in
       elim (search_below (λ e. Stands net e × (node_in p (net.from e) ≡ v)) (λ e.
@@ -42,7 +42,7 @@ module _ (p : Piece) where
       ]
 
 -- One of two numbers.
-pick : {P : Type 0} → Decided P → ℕ → ℕ → ℕ
+pub pick : {P : Type 0} → Decided P → ℕ → ℕ → ℕ
 pick (inl h) a b = a
 pick (inr never) a b = b
 
@@ -57,7 +57,7 @@ passed (inl h) a b none = absurd (none h)
 passed (inr never) a b none = refl
 
 -- The piece whose other nodes have the numbers from `from` on.
-abbrev named : ℕ → Piece → Piece
+abbrev pub named : ℕ → Piece → Piece
 named from p = record {
   mesh = p.mesh;
   log = p.log;
@@ -65,7 +65,7 @@ named from p = record {
 }
 
 module _ (most from : ℕ) (p : Piece) (piece : IsPieceAtCorners most p) (high : most ≤ from) where
-  at_corner : (v : ℕ) → IsCornerNode p v → (named from p).vertex v ≡ p.vertex v
+  pub at_corner : (v : ℕ) → IsCornerNode p v → (named from p).vertex v ≡ p.vertex v
   at_corner v c = picked (corner? p v) (p.vertex v) (from + v) c
 
   elsewhere : (v : ℕ) → (IsCornerNode p v → ⊥) → (named from p).vertex v ≡ from + v
@@ -98,7 +98,7 @@ module _ (most from : ℕ) (p : Piece) (piece : IsPieceAtCorners most p) (high :
             ]
       ]
 
-  named_piece : IsPiece (named from p)
+  pub named_piece : IsPiece (named from p)
   named_piece = grind (arith, common_steps, distinct)
 
   same_corners : HasSameCorners p (named from p)
@@ -157,7 +157,7 @@ module _
               ]
         ]
 
-all_named : ℕ → List Piece → List Piece
+unfoldable pub all_named : ℕ → List Piece → List Piece
 all_named from [] = []
 all_named from (p ∷ ps) = named from p ∷ all_named (from + node_count (hierarchy_in p)) ps
 
@@ -176,7 +176,7 @@ module _ (most : ℕ) where
       (shared most from after p q piece second high later)
       (shares from more p piece high (omega arith) qs rest)
 
-  are_cut :
+  pub are_cut :
       (from : ℕ) → most ≤ from → (ps : List Piece) → All (IsPieceAtCorners most) ps →
       AreCut (all_named from ps)
   unfolding all_named
@@ -206,7 +206,7 @@ module _ (most : ℕ) where
       let after = from + node_count (hierarchy_in p) in
       (same_corners most from p piece high, all_same after (omega arith) ps others)
 
-  all_alike :
+  pub all_alike :
       (from : ℕ) → most ≤ from → (ps : List Piece) → All (IsPieceAtCorners most) ps →
       AreAlike (cut_mesh ps) (cut_mesh (all_named from ps))
   unfolding all_named

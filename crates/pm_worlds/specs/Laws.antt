@@ -5,6 +5,7 @@ use Rattle.pm_base.specs.Fans.{IsOrientedManifold}
 use Rattle.pm_seams.specs.Joined.{HaveSameBorder}
 use Rattle.pm_worlds.specs.Cuts.{Piece, tile_of, cut_mesh, AreCut}
 use Rattle.pm_worlds.specs.Names.{IsPieceAtCorners, HasSameCorners}
+use Rattle.pm_worlds.specs.Parts.{Part, IsPart, IsTileOfPart, whole_mesh, ShowWholeAlways}
 use Rattle.pm_worlds.specs.Worlds.{Tile, IsWorld, leaf_world, shown_world, AreClosed}
 
 -- Where the leaf meshes of a world are together an oriented manifold, so is what its tiles show,
@@ -49,3 +50,11 @@ NodesCanBeNamed =
     (most : ℕ) (ps : List Piece) → All (IsPieceAtCorners most) ps →
     (qs : List Piece) × AreCut qs × AllZip HasSameCorners ps qs ×
     (IsOrientedManifold (cut_mesh ps) → IsOrientedManifold (cut_mesh qs))
+
+-- Where meshes that were simplified apart are an oriented manifold together, the nodes of their
+-- hierarchies can be named so that the tiles always show such a one, with the border of the whole,
+-- and each corner of a mesh keeps its number and its place.
+abbrev pub PartsShowTheWhole : Type 0
+PartsShowTheWhole =
+    (most : ℕ) (ps : List Part) → All (IsPart most) ps → IsOrientedManifold (whole_mesh ps) →
+    (ts : List Tile) × AllZip IsTileOfPart ps ts × ShowWholeAlways (whole_mesh ps) ts

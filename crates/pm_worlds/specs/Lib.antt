@@ -1,4 +1,5 @@
 pub mod Worlds
 pub mod Cuts
 pub mod Names
+pub mod Parts
 pub mod Laws

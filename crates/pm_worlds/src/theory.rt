@@ -6,6 +6,7 @@ ghost use Rattle.pm_worlds.specs.Laws.{
   CutMeshesAreShown,
   CutMeshesKeepBorders,
   NodesCanBeNamed,
+  PartsShowTheWhole,
 };
 
 /// States the laws of worlds. It does nothing, and callers cite its clauses.
@@ -21,4 +22,5 @@ pub fn cut_meshes_are_sound()
     ensures surfaces { CutMeshesAreShown }
     ensures borders { CutMeshesKeepBorders }
     ensures names { NodesCanBeNamed }
+    ensures parts { PartsShowTheWhole }
 {}
