@@ -12,16 +12,17 @@ use Rattle.pm_turn.specs.declared.choice.Sums.{Sums}
 use Rattle.pm_turn.specs.Turning.{flag_of, clash, flipped_if, Way, stay, over, AgreeOnceTurned}
 use Rattle.pm_turn.specs.Turning.{AreTraced}
 use Rattle.pm_turn.specs.Unions.{AreMated}
-use Rattle.pm_turn.specs.Choice.{AreLeast, IsOpen, IsClosed, Agrees, HasClash, turned_in}
-use Rattle.pm_turn.specs.Choice.{staying_in, IsFewest, volume_at, volume_in, IsOutward}
-use Rattle.pm_turn.specs.Choice.{AreChosenTurns}
+use Rattle.pm_turn.specs.Choice.{AreLeast, IsOpen, IsClosed, Agrees, HasClash, area_at}
+use Rattle.pm_turn.specs.Choice.{area_turned_in, area_staying_in, IsSmaller, volume_at, volume_in}
+use Rattle.pm_turn.specs.Choice.{IsOutward, AreChosenTurns}
 use Rattle.pm_turn.specs.Sums.{root_at, parity_at, is_bare, no_sums, AreSums, is_reversed}
 use Rattle.pm_turn.specs.Sums.{chosen_flag}
 use Rattle.pm_turn.proofs.Traced.{one_in, other_in, roots_same, root_in, root_root, odd_way}
-use Rattle.pm_turn.proofs.Reversing.{flip_past, stays_without_odd, by_count, at_least_own}
+use Rattle.pm_turn.proofs.Reversing.{flip_past, stays_without_odd, by_area, at_least_own}
 use Rattle.pm_turn.proofs.Reversing.{by_volumes}
-use Rattle.pm_turn.proofs.Totals.{patch_same, patch_none, patch_some, patch_total, patch_opposite}
+use Rattle.pm_turn.proofs.Totals.{patch_none, patch_some, patch_total, patch_opposite}
 use Rattle.pm_turn.proofs.Totals.{determinant_turned}
+use Rattle.pm_turn.proofs.Weights.{patch_weight, no_weight}
 use Rattle.pm_turn.proofs.BareSides.{bare_side, side_bare, no_mate, none_beside}
 
 -- A turned face's volume is the opposite.
@@ -88,6 +89,11 @@ module _ (m : Net) (places : List Place) (mates : List (Option ℕ)) (roots : Li
     none_odd all =
         (s.each r low).odd ∙ patch_none root r m.faces parity (λ f l at. all_even r all f l at)
 
+    no_area : Agrees m root r → (sum_of r).odd_area ≡ 0
+    no_area all =
+        (s.each r low).odd_area
+        ∙ no_weight (area_at m places) root r m.faces parity (λ f l at. all_even r all f l at)
+
     pub none_bare : IsClosed m root r → (sum_of r).bare ≡ 0
     none_bare closed =
         (s.each r low).bare ∙ patch_none root r m.faces (is_bare mates) (λ f l at.
@@ -152,14 +158,15 @@ module _ (m : Net) (places : List Place) (mates : List (Option ℕ)) (roots : Li
 
     same : (f : ℕ) → f < m.faces → Agrees m root (root f) → flag_of flags f ≡ false
     same f l all =
-        let none = none_odd (root f) (root_in m root parity odd t f l)
-        (root_root m root parity odd t f l) all in
-        let stays = stays_without_odd (sum_of (root f)) none in
+        let low = root_in m root parity odd t f l in
+        let own = root_root m root parity odd t f l in
+        let stays = stays_without_odd (sum_of (root f)) (none_odd (root f) low own all)
+        (no_area (root f) low own all) in
         let even = all_even (root f) all f l refl in
         grind (arith, flag_odd f l, flag_straight f (root f) l refl)
 
     module _ (r : ℕ) (low : r < m.faces) (own : root r ≡ r) where
-      -- The flags of a patch that isn't twisted, and how many are turned in it.
+      -- The flags of a patch that isn't twisted, and how much of it is turned.
       flag_on : odd r ≡ false → back r ≡ true → (f : ℕ) → f < m.faces → root f ≡ r
           → flag_of flags f ≡ not (parity f)
       flag_on un b f l at = grind (arith, flag_straight f r l at un)
@@ -168,44 +175,48 @@ module _ (m : Net) (places : List Place) (mates : List (Option ℕ)) (roots : Li
           → flag_of flags f ≡ parity f
       flag_off un b f l at = grind (arith, flag_straight f r l at un)
 
-      counts_on : odd r ≡ false → back r ≡ true
-          → (turned_in m root (flag_of flags) r ≡ (sum_of r).even)
-          × (staying_in m root (flag_of flags) r ≡ (sum_of r).odd)
-      counts_on un b = (
-        patch_same root r m.faces (flag_of flags) (λ f. not (parity f)) (flag_on un b)
-            ∙ sym (s.each r low).even,
-        patch_same root r m.faces (λ f. not (flag_of flags f)) parity
-            (λ f l at. ap not (flag_on un b f l at) ∙ not-not (parity f)) ∙ sym (s.each r low).odd,
+      areas_on : odd r ≡ false → back r ≡ true
+          → (area_turned_in m places root (flag_of flags) r ≡ (sum_of r).even_area)
+          × (area_staying_in m places root (flag_of flags) r ≡ (sum_of r).odd_area)
+      areas_on un b = (
+        patch_weight (area_at m places) root r m.faces (flag_of flags) (λ f. not (parity f))
+            (flag_on un b) ∙ sym (s.each r low).even_area,
+        patch_weight (area_at m places) root r m.faces (λ f. not (flag_of flags f)) parity
+            (λ f l at. ap not (flag_on un b f l at) ∙ not-not (parity f))
+            ∙ sym (s.each r low).odd_area,
       )
 
-      counts_off : odd r ≡ false → back r ≡ false
-          → (turned_in m root (flag_of flags) r ≡ (sum_of r).odd)
-          × (staying_in m root (flag_of flags) r ≡ (sum_of r).even)
-      counts_off un b = (
-        patch_same root r m.faces (flag_of flags) parity (flag_off un b) ∙ sym (s.each r low).odd,
-        patch_same root r m.faces (λ f. not (flag_of flags f)) (λ f. not (parity f))
-            (λ f l at. ap not (flag_off un b f l at)) ∙ sym (s.each r low).even,
+      areas_off : odd r ≡ false → back r ≡ false
+          → (area_turned_in m places root (flag_of flags) r ≡ (sum_of r).odd_area)
+          × (area_staying_in m places root (flag_of flags) r ≡ (sum_of r).even_area)
+      areas_off un b = (
+        patch_weight (area_at m places) root r m.faces (flag_of flags) parity (flag_off un b)
+            ∙ sym (s.each r low).odd_area,
+        patch_weight (area_at m places) root r m.faces (λ f. not (flag_of flags f))
+            (λ f. not (parity f)) (λ f l at. ap not (flag_off un b f l at))
+            ∙ sym (s.each r low).even_area,
       )
 
-      few_straight : odd r ≡ false → back r ≡ nat_lt (sum_of r).even (sum_of r).odd
-          → IsFewest m root (flag_of flags) r
-      few_straight un told =
+      small_straight : odd r ≡ false → back r ≡ nat_lt (sum_of r).even_area (sum_of r).odd_area
+          → IsSmaller m places root (flag_of flags) r
+      small_straight un told =
           grind (
             arith,
             common_steps,
             ltb-false,
             ltb-true,
-            counts_off un,
-            counts_on un,
+            areas_off un,
+            areas_on un,
             flag_straight r r low own un,
             own_even r low own,
           )
 
-      few_twisted : odd r ≡ true → IsFewest m root (flag_of flags) r
-      few_twisted set = grind (arith, common_steps, flag_odd, patch_none)
+      small_twisted : odd r ≡ true → IsSmaller m places root (flag_of flags) r
+      small_twisted set = grind (arith, common_steps, flag_odd, no_weight)
 
-      fewest_here : IsOpen m root r → IsFewest m root (flag_of flags) r
-      fewest_here o = grind (arith, common_steps, by_count, few_straight, few_twisted, some_bare)
+      smaller_here : IsOpen m root r → IsSmaller m places root (flag_of flags) r
+      smaller_here o =
+          grind (arith, common_steps, by_area, small_straight, small_twisted, some_bare)
 
       volume_off : odd r ≡ false → back r ≡ false → volume_in m places root (flag_of flags) r
           ≡ (sum_of r).volume
@@ -236,7 +247,7 @@ module _ (m : Net) (places : List Place) (mates : List (Option ℕ)) (roots : Li
             | inl (zero, told) ↦ record {
               volume = subst (λ (z : ℤ). pos 0 ≤ℤ z) (sym (no_volume un zero))
                   (at_least_own (pos 0));
-              flat = λ _. few_straight un told;
+              flat = λ _. small_straight un told;
             }
             | inr two ↦
                 elim two [
@@ -258,9 +269,9 @@ module _ (m : Net) (places : List Place) (mates : List (Option ℕ)) (roots : Li
       least = root;
       patches = patches;
       same = same;
-      fewest = λ r o. let l : face_of o.side < m.faces =
+      smaller = λ r o. let l : face_of o.side < m.faces =
           omega (arith, o.in_range) in
-          fewest_here r (root_low (face_of o.side) r l o.here)
+          smaller_here r (root_low (face_of o.side) r l o.here)
           (root_own (face_of o.side) r l o.here) o;
       outward = λ r closed h un.
           let l = one_in m h.side h.mate h.mates in

@@ -16,7 +16,7 @@ use Rattle.pm_turn.specs.declared.patches.Root.{Root}
 use Rattle.pm_turn.specs.declared.choice.Sums.{Sums}
 use Rattle.pm_turn.specs.Turning.{AreTraced}
 use Rattle.pm_turn.specs.Unions.{Elders, Up, AreElders, AreMated}
-use Rattle.pm_turn.specs.Choice.{total, volume_at, AreChosenTurns}
+use Rattle.pm_turn.specs.Choice.{weight, total, area_at, volume_at, AreChosenTurns}
 use Rattle.pm_turn.specs.Sums.{no_root, root_at, parity_at, is_bare, no_sums, AreSums, is_reversed}
 use Rattle.pm_turn.specs.Sums.{chosen_flag}
 use Rattle.pm_turn.specs.ChoiceLaws.{ChosenTurnsAreThere}
@@ -89,7 +89,10 @@ module _ (m : Net) (places : List Place) where
     -- The sums over the patch for which face r stands.
     abbrev pub sums_of : ℕ → Sums
     sums_of r = record {
-      even = count (λ f. (root_at roots f == r) && not (parity_at roots f)) m.faces;
+      even_area = weight (area_at m places)
+          (λ f. (root_at roots f == r) && not (parity_at roots f)) m.faces;
+      odd_area = weight (area_at m places) (λ f. (root_at roots f == r) && parity_at roots f)
+          m.faces;
       odd = count (λ f. (root_at roots f == r) && parity_at roots f) m.faces;
       bare = count (λ f. (root_at roots f == r) && is_bare mates f) m.faces;
       volume = total

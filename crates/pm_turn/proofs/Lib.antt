@@ -14,6 +14,7 @@ pub mod Flags
 pub mod TurnMore
 pub mod TurnsThere
 pub mod Totals
+pub mod Weights
 pub mod Reversing
 pub mod BareSides
 pub mod Choosing

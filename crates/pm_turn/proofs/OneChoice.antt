@@ -1,4 +1,4 @@
--- One list of flags is chosen, and no other turns fewer faces of an open patch.
+-- One list of flags is chosen, and no other turns less area of an open patch.
 use Rattle.std.proofs.Common.{◌≡◌, ℕ, ◌<◌, ◌≤◌, ◌⊎◌, inl, inr, refl, sym, ap, ◌∙◌, subst, Bool}
 use Rattle.std.proofs.Common.{true, false, not, ◌&&◌, List, arith}
 use Rattle.std.proofs.lemmas.Grind.{common_steps}
@@ -7,16 +7,15 @@ use Rattle.std.proofs.lemmas.Bool.{cases_Bool}
 use Rattle.std.proofs.Math.Bool.{not-not}
 use borrow.Author.Differences.{ints}
 use Rattle.pm_base.specs.Place.{Place}
-use Rattle.pm_base.specs.Counts.{count}
 use Rattle.pm_base.specs.Sides.{Net, face_of}
-use Rattle.pm_base.proofs.Counts.{count_same}
 use Rattle.pm_turn.specs.Turning.{flag_of, clash, flipped_if, Way, stay, AgreeOnceTurned}
-use Rattle.pm_turn.specs.Choice.{AreLeast, IsOpen, IsClosed, Agrees, HasClash, turned_in}
-use Rattle.pm_turn.specs.Choice.{staying_in, IsFewest, volume_at, volume_in, IsOutward}
-use Rattle.pm_turn.specs.Choice.{AreChosenTurns}
+use Rattle.pm_turn.specs.Choice.{AreLeast, IsOpen, IsClosed, Agrees, HasClash, area_at, weight}
+use Rattle.pm_turn.specs.Choice.{area_turned_in, area_staying_in, IsSmaller, volume_at, volume_in}
+use Rattle.pm_turn.specs.Choice.{IsOutward, AreChosenTurns}
 use Rattle.pm_turn.proofs.TurnedFaces.{along, not_both, same_flags, own_not}
 use Rattle.pm_turn.proofs.Traced.{way_back, one_in}
-use Rattle.pm_turn.proofs.Totals.{total_same, patch_same, patch_none, patch_opposite}
+use Rattle.pm_turn.proofs.Totals.{total_same, patch_opposite}
+use Rattle.pm_turn.proofs.Weights.{weight_same, patch_weight, no_weight}
 use Rattle.pm_turn.proofs.Choosing.{volume_turned}
 
 -- The same by another table of least faces.
@@ -37,17 +36,19 @@ module _ (m : Net) (places : List Place) (a b : ℕ → ℕ)
   pub agrees_by : (r : ℕ) → Agrees m a r → Agrees m b r
   agrees_by r all e k w at = all e k w (same (face_of e) (one_in m e k w) ∙ at)
 
-  count_by : (p : ℕ → Bool) (r : ℕ)
-      → count (λ f. (a f == r) && p f) m.faces ≡ count (λ f. (b f == r) && p f) m.faces
-  count_by p r = count_same (λ f. (a f == r) && p f) (λ f. (b f == r) && p f) m.faces
-      (λ f l. ap (λ i. (i == r) && p f) (same f l))
+  area_by : (p : ℕ → Bool) (r : ℕ) → weight (area_at m places) (λ f. (a f == r) && p f) m.faces
+      ≡ weight (area_at m places) (λ f. (b f == r) && p f) m.faces
+  area_by p r =
+      weight_same (area_at m places) (area_at m places) (λ f. (a f == r) && p f)
+      (λ f. (b f == r) && p f) m.faces (λ f l. refl) (λ f l. ap (λ i. (i == r) && p f) (same f l))
 
-  fewest_by : (turned : ℕ → Bool) (r : ℕ) → IsFewest m a turned r → IsFewest m b turned r
-  fewest_by turned r h =
-      let t = count_by turned r in
-      let s = count_by (λ f. not (turned f)) r in
-      let few = h.few in
-      record { few = omega (arith, t, s, few); first = λ e. h.first (t ∙ e ∙ sym s) }
+  smaller_by : (turned : ℕ → Bool) (r : ℕ) → IsSmaller m places a turned r
+      → IsSmaller m places b turned r
+  smaller_by turned r h =
+      let t = area_by turned r in
+      let s = area_by (λ f. not (turned f)) r in
+      let small = h.small in
+      record { small = omega (arith, t, s, small); first = λ e. h.first (t ∙ e ∙ sym s) }
 
   pub volume_by : (turned : ℕ → Bool) (r : ℕ)
       → volume_in m places a turned r ≡ volume_in m places b turned r
@@ -55,7 +56,7 @@ module _ (m : Net) (places : List Place) (a b : ℕ → ℕ)
 
   outward_by : (turned : ℕ → Bool) (r : ℕ) → IsOutward m places a turned r
       → IsOutward m places b turned r
-  outward_by turned r h = grind (arith, common_steps, fewest_by, volume_by)
+  outward_by turned r h = grind (arith, common_steps, smaller_by, volume_by)
 
 same_or_not : (a b : Bool) → (a ≡ b) ⊎ (b ≡ not a)
 same_or_not a b = grind (arith, common_steps)
@@ -101,30 +102,34 @@ module _ (m : Net) (least : ℕ → ℕ) (one other : List Bool) (h : AreLeast m
   reversed e g l at = let (p, a, b) = told g l at in
       b ∙ ap (flipped_if p) e ∙ flip_not p (flag_of one r) ∙ ap not (sym a)
 
-  module _ (e : flag_of other r ≡ not (flag_of one r)) where
-    turned_other : turned_in m least (flag_of other) r ≡ staying_in m least (flag_of one) r
-    turned_other = patch_same least r m.faces (flag_of other) (λ f. not (flag_of one f))
-        (reversed e)
+  module _ (e : flag_of other r ≡ not (flag_of one r)) (places : List Place) where
+    turned_other : area_turned_in m places least (flag_of other) r
+        ≡ area_staying_in m places least (flag_of one) r
+    turned_other =
+        patch_weight (area_at m places) least r m.faces (flag_of other)
+        (λ f. not (flag_of one f)) (reversed e)
 
-    staying_other : staying_in m least (flag_of other) r ≡ turned_in m least (flag_of one) r
-    staying_other = patch_same least r m.faces (λ f. not (flag_of other f)) (flag_of one)
+    staying_other : area_staying_in m places least (flag_of other) r
+        ≡ area_turned_in m places least (flag_of one) r
+    staying_other =
+        patch_weight (area_at m places) least r m.faces (λ f. not (flag_of other f)) (flag_of one)
         (λ f l at. ap not (reversed e f l at) ∙ not-not (flag_of one f))
 
-    both_fewest : IsFewest m least (flag_of one) r → IsFewest m least (flag_of other) r → ⊥
-    both_fewest a b = grind (arith, common_steps, own_not, staying_other, turned_other)
+    both_smaller : IsSmaller m places least (flag_of one) r
+        → IsSmaller m places least (flag_of other) r → ⊥
+    both_smaller a b = grind (arith, common_steps, own_not, staying_other, turned_other)
 
-    volume_other : (places : List Place)
-        → volume_in m places least (flag_of other) r ≡ neg_ℤ
-        (volume_in m places least (flag_of one) r)
-    volume_other places =
+    volume_other : volume_in m places least (flag_of other) r
+        ≡ neg_ℤ (volume_in m places least (flag_of one) r)
+    volume_other =
         patch_opposite least r m.faces (λ f. volume_at m places (flag_of one f) f)
         (λ f. volume_at m places (flag_of other f) f)
         (λ f l at. ap (λ (b : Bool). volume_at m places b f) (reversed e f l at)
         ∙ volume_turned m places (flag_of one f) f)
 
-    both_outward : (places : List Place) → IsOutward m places least (flag_of one) r
+    both_outward : IsOutward m places least (flag_of one) r
         → IsOutward m places least (flag_of other) r → ⊥
-    both_outward places a b = grind (arith, common_steps, both_fewest, flat_volumes, volume_other)
+    both_outward a b = grind (arith, common_steps, both_smaller, flat_volumes, volume_other)
 
 module _ (m : Net) (places : List Place) (one other : List Bool) (s : AreChosenTurns m places one)
     (t : AreChosenTurns m places other) where
@@ -148,9 +153,9 @@ module _ (m : Net) (places : List Place) (one other : List Bool) (s : AreChosenT
     never : flag_of other r ≡ not (flag_of one r) → ⊥
     never e =
         let closed : IsClosed m s.least r = λ o.
-        both_fewest m s.least one other s.patches s.agreeing t.agreeing r us_r ut_r e (s.fewest r o)
-        (fewest_by m places t.least s.least same (flag_of other) r
-        (t.fewest r (open_by m places s.least t.least back r o))) in
+        both_smaller m s.least one other s.patches s.agreeing t.agreeing r us_r ut_r e places
+        (s.smaller r o) (smaller_by m places t.least s.least same (flag_of other) r
+        (t.smaller r (open_by m places s.least t.least back r o))) in
         let closed_t : IsClosed m t.least r =
         λ o. closed (open_by m places t.least s.least same r o) in
         let no_clash : HasClash m s.least r → ⊥ = λ h.
@@ -200,16 +205,17 @@ patch_twisted : (m : Net) (flags : List Bool) (t : AgreeOnceTurned m flags) (f g
     → Way m f g p → t.twisted g ≡ true → t.twisted f ≡ true
 patch_twisted m flags t f g p w set = grind (arith, common_steps, along m flags t f g p w)
 
-pub fewest_are_turned : (m : Net) (places : List Place) (flags other : List Bool)
+pub least_area_is_turned : (m : Net) (places : List Place) (flags other : List Bool)
     (t : AreChosenTurns m places flags) → AgreeOnceTurned m other → (r : ℕ) → IsOpen m t.least r
-    → turned_in m t.least (flag_of flags) r ≤ turned_in m t.least (flag_of other) r
-fewest_are_turned m places flags other t s r o =
+    → area_turned_in m places t.least (flag_of flags) r
+    ≤ area_turned_in m places t.least (flag_of other) r
+least_area_is_turned m places flags other t s r o =
     let fl : face_of o.side < m.faces = omega (arith, o.in_range) in
     let rl : r < m.faces = subst (λ i. i < m.faces) o.here
     (least_in m t.least t.patches (face_of o.side) fl) in
     elim (cases_Bool (t.agreeing.twisted r)) [
       | inl set ↦
-          let none = patch_none t.least r m.faces (flag_of flags) (λ f l at.
+          let none = no_weight (area_at m places) t.least r m.faces (flag_of flags) (λ f l at.
           let (p, w) = t.patches.way f l in
           (t.agreeing.odd f l (patch_twisted m flags t.agreeing f r p
           (subst (λ i. Way m f i p) at w) set)).1) in
@@ -220,14 +226,15 @@ fewest_are_turned m places flags other t s r o =
             | inr us ↦
                 elim (same_or_not (flag_of flags r) (flag_of other r)) [
                   | inl e ↦
-                      let same = patch_same t.least r m.faces (flag_of flags) (flag_of other)
-                      (alike m t.least flags other t.patches t.agreeing s r un us e) in
+                      let same =
+                      patch_weight (area_at m places) t.least r m.faces (flag_of flags)
+                      (flag_of other) (alike m t.least flags other t.patches t.agreeing s r un us e) in
                       omega (arith, same)
                   | inr e ↦
                       let more = turned_other m t.least flags other t.patches t.agreeing s r un us e
-                      in
-                      let few = (t.fewest r o).few in
-                      omega (arith, more, few)
+                      places in
+                      let small = (t.smaller r o).small in
+                      omega (arith, more, small)
                 ]
           ]
     ]

@@ -1,8 +1,8 @@
 -- Which faces are turned doesn't depend on the vertices' numbers.
 use Rattle.std.proofs.Common.{◌≡◌, ℕ, ◌+◌, ◌*◌, ◌<◌, inl, inr, refl, sym, ap, ◌∙◌, subst, Bool}
 use Rattle.std.proofs.lemmas.Grind.{common_steps}
-use Rattle.std.proofs.Common.{true, false, List, arith}
-use Rattle.std.specs.Prelude.{ℤ}
+use Rattle.std.proofs.Common.{true, false, not, List, arith}
+use Rattle.std.specs.Prelude.{ℤ, ◌==◌, ◌&&◌}
 use Rattle.std.proofs.lemmas.Bool.{cases_Bool, eqb-true, eqb-false, eq-eqb, ne_eqb}
 use Rattle.pm_base.specs.Place.{Place}
 use Rattle.pm_base.specs.Sides.{Net, face_of, side_count, next, Stands}
@@ -10,10 +10,11 @@ use Rattle.pm_base.proofs.Sides.{next-lt}
 use Rattle.pm_turn.specs.Turning.{flag_of, JoinsSame, AreMates, clash, flipped_if, Way, stay, over}
 use Rattle.pm_turn.specs.Turning.{AgreeOnceTurned, AreTurns}
 use Rattle.pm_turn.specs.Choice.{AreLeast, IsOpen, Agrees, HasClash}
-use Rattle.pm_turn.specs.Choice.{IsFewest, place_at, determinant_of, volume_at, volume_in}
-use Rattle.pm_turn.specs.Choice.{IsOutward, AreChosenTurns}
+use Rattle.pm_turn.specs.Choice.{place_at, area_of, area_at, weight, IsSmaller}
+use Rattle.pm_turn.specs.Choice.{determinant_of, volume_at, volume_in, IsOutward, AreChosenTurns}
 use Rattle.pm_turn.specs.ChoiceLaws.{IsRenumbered}
 use Rattle.pm_turn.proofs.Totals.{total_same}
+use Rattle.pm_turn.proofs.Weights.{weight_same}
 
 pub renumbered_back : (m n : Net) → IsRenumbered m n → IsRenumbered n m
 renumbered_back m n h =
@@ -130,10 +131,6 @@ module _ (m n : Net) (h : IsRenumbered m n) where
   agrees_off : (least : ℕ → ℕ) (r : ℕ) → Agrees n least r → Agrees m least r
   agrees_off least r all e k a at = clash_on m n h e k a ∙ all e k (mates_on m n h e k a) at
 
-  fewest_like : (least : ℕ → ℕ) (turned : ℕ → Bool) (r : ℕ) → IsFewest m least turned r
-      → IsFewest n least turned r
-  fewest_like least turned r s = grind (arith, common_steps)
-
   module _ (old new : List Place)
       (places : (e : ℕ) → e < side_count m → place_at new (n.from e) ≡ place_at old (m.from e))
     where
@@ -148,13 +145,36 @@ module _ (m n : Net) (h : IsRenumbered m n) where
           (place_at old (m.from (3 * f + 1))) p) (places (3 * f + 2) (omega (arith, l)))
           ∙ sym (by_flag m old b f)
 
+      area_like : (f : ℕ) → f < m.faces → area_at n new f ≡ area_at m old f
+      area_like f l =
+          ap (λ (p : Place). area_of p (place_at new (n.from (3 * f + 1)))
+          (place_at new (n.from (3 * f + 2)))) (places (3 * f) (omega (arith, l)))
+          ∙ ap (λ (p : Place). area_of (place_at old (m.from (3 * f))) p
+          (place_at new (n.from (3 * f + 2)))) (places (3 * f + 1) (omega (arith, l)))
+          ∙ ap (λ (p : Place). area_of (place_at old (m.from (3 * f)))
+          (place_at old (m.from (3 * f + 1))) p) (places (3 * f + 2) (omega (arith, l)))
+
+      weight_like : (p : ℕ → Bool) → weight (area_at n new) p n.faces
+          ≡ weight (area_at m old) p m.faces
+      weight_like p =
+          ap (weight (area_at n new) p) h.faces
+          ∙ weight_same (area_at n new) (area_at m old) p p m.faces area_like (λ i l. refl)
+
+      smaller_like : (least : ℕ → ℕ) (turned : ℕ → Bool) (r : ℕ) → IsSmaller m old least turned r
+          → IsSmaller n new least turned r
+      smaller_like least turned r s =
+          let t = weight_like (λ f. (least f == r) && turned f) in
+          let u = weight_like (λ f. (least f == r) && not (turned f)) in
+          let small = s.small in
+          record { small = omega (arith, t, u, small); first = λ e. s.first (sym t ∙ e ∙ u) }
+
       total_like : (least : ℕ → ℕ) (turned : ℕ → Bool) (r : ℕ)
           → volume_in n new least turned r ≡ volume_in m old least turned r
       total_like least turned r = grind (arith, common_steps, total_same, volume_like)
 
       outward_like : (least : ℕ → ℕ) (turned : ℕ → Bool) (r : ℕ) → IsOutward m old least turned r
           → IsOutward n new least turned r
-      outward_like least turned r s = grind (arith, common_steps, fewest_like, total_like)
+      outward_like least turned r s = grind (arith, common_steps, smaller_like, total_like)
 
       chosen_like : (flags : List Bool) → AreChosenTurns m old flags → AreChosenTurns n new flags
       unfolding agree_like
@@ -163,7 +183,8 @@ module _ (m n : Net) (h : IsRenumbered m n) where
         least = t.least;
         patches = least_like t.least t.patches;
         same = λ f l all. t.same f (in_m f l) (agrees_off t.least (t.least f) all);
-        fewest = λ r o. fewest_like t.least (flag_of flags) r (t.fewest r (open_off t.least r o));
+        smaller = λ r o. smaller_like t.least (flag_of flags) r
+            (t.smaller r (open_off t.least r o));
         outward = λ r closed c un. outward_like t.least (flag_of flags) r
             (t.outward r (λ o. closed (open_on t.least r o)) (clash_off t.least r c) un);
       }

@@ -28,12 +28,12 @@ both_true : (a b c x y : Bool) → a ≡ true → b ≡ true
 both_true a b c x y e f = grind (arith, common_steps)
 
 -- The choice by sums: no face with odd parity, a side without a mate, and neither.
-pub stays_without_odd : (s : Sums) → s.odd ≡ 0 → is_reversed s ≡ false
-stays_without_odd s none = grind (arith, common_steps, eq-eqb, le-ltb, second_false)
+pub stays_without_odd : (s : Sums) → s.odd ≡ 0 → s.odd_area ≡ 0 → is_reversed s ≡ false
+stays_without_odd s none no_area = grind (arith, common_steps, eq-eqb, le-ltb, second_false)
 
-pub by_count : (s : Sums) → s.bare ≢ 0 → is_reversed s ≡ nat_lt s.even s.odd
-by_count s bare = first_false (s.bare == 0) (not (s.odd == 0)) (not (int_eq s.volume (pos 0)))
-    (int_lt s.volume (pos 0)) (nat_lt s.even s.odd) (ne_eqb s.bare 0 bare)
+pub by_area : (s : Sums) → s.bare ≢ 0 → is_reversed s ≡ nat_lt s.even_area s.odd_area
+by_area s bare = first_false (s.bare == 0) (not (s.odd == 0)) (not (int_eq s.volume (pos 0)))
+    (int_lt s.volume (pos 0)) (nat_lt s.even_area s.odd_area) (ne_eqb s.bare 0 bare)
 
 abbrev pub IsTold : ℤ → Bool → Bool → Type 0
 IsTold z y r = ((z ≡ pos 0) × (r ≡ y)) ⊎
@@ -62,5 +62,5 @@ by_volume z y r e =
     ]
 
 pub by_volumes : (s : Sums) → s.bare ≡ 0 → s.odd ≢ 0
-    → IsTold s.volume (nat_lt s.even s.odd) (is_reversed s)
+    → IsTold s.volume (nat_lt s.even_area s.odd_area) (is_reversed s)
 by_volumes s bare odd = grind (arith, common_steps, both_true, by_volume, eq-eqb, ne_eqb)

@@ -10,7 +10,6 @@ use borrow.Author.Differences.{ints}
 use Rattle.pm_base.specs.Place.{Place}
 use Rattle.pm_base.specs.Geometry.{Direction, IsNormal, dot_of, cross_of}
 use Rattle.pm_base.specs.Counts.{count}
-use Rattle.pm_base.proofs.Counts.{count_same}
 use Rattle.pm_base.proofs.Counted.{count_none, count_some}
 use Rattle.pm_base.proofs.Squares.{abs_plus}
 use Rattle.pm_base.proofs.Range.{abs_product}
@@ -52,11 +51,6 @@ in_patch root r f b is = ap (λ (t : Bool). t && b) (eq-eqb (root f) r is)
 
 pub out_of_patch : (root : ℕ → ℕ) (r f : ℕ) (b : Bool) → root f ≢ r → ((root f == r) && b) ≡ false
 out_of_patch root r f b ne = ap (λ (t : Bool). t && b) (ne_eqb (root f) r ne)
-
-pub patch_same : (root : ℕ → ℕ) (r n : ℕ) (p q : ℕ → Bool)
-    → ((f : ℕ) → f < n → root f ≡ r → p f ≡ q f)
-    → count (λ f. (root f == r) && p f) n ≡ count (λ f. (root f == r) && q f) n
-patch_same root r n p q h = grind (arith, common_steps, count_same, in_patch, out_of_patch)
 
 pub patch_none : (root : ℕ → ℕ) (r n : ℕ) (p : ℕ → Bool)
     → ((f : ℕ) → f < n → root f ≡ r → p f ≡ false) → count (λ f. (root f == r) && p f) n ≡ 0

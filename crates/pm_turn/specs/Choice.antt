@@ -2,9 +2,9 @@
 -- ways, each the reverse of the other.
 use Rattle.std.specs.Prelude.{◌≡◌, ℕ, ℤ, zero, suc, pos, ◌+◌, ◌*◌, ◌<◌, ◌≤◌, ◌+ℤ◌, ◌≤ℤ◌, ◌==◌, Bool}
 use Rattle.std.specs.Prelude.{true, false, not, ◌&&◌, List, length, slice_index_or, if◌then◌else◌}
+use Rattle.std.specs.Prelude.{unsigned_abs}
 use Rattle.pm_base.specs.Place.{Place, origin}
-use Rattle.pm_base.specs.Geometry.{dot_of, cross_of}
-use Rattle.pm_base.specs.Counts.{count}
+use Rattle.pm_base.specs.Geometry.{Direction, dot_of, cross_of}
 use Rattle.pm_base.specs.Sides.{Net, face_of, side_count}
 use Rattle.pm_turn.specs.Turning.{flag_of, AreMates, clash, Way, AgreeOnceTurned}
 
@@ -38,22 +38,42 @@ pub record HasClash (m : Net) (least : ℕ → ℕ) (r : ℕ) : Type 0 where
   pub here : least (face_of side) ≡ r
   pub clashes : clash m side mate ≡ true
 
--- How many faces of the patch are turned, and how many stay.
-abbrev pub turned_in : Net → (ℕ → ℕ) → (ℕ → Bool) → ℕ → ℕ
-turned_in m least turned r = count (λ f. (least f == r) && turned f) m.faces
-
-abbrev pub staying_in : Net → (ℕ → ℕ) → (ℕ → Bool) → ℕ → ℕ
-staying_in m least turned r = count (λ f. (least f == r) && not (turned f)) m.faces
-
--- No more faces of the patch are turned than stay; where as many are, the face of least number
--- stays.
-pub record IsFewest (m : Net) (least : ℕ → ℕ) (turned : ℕ → Bool) (r : ℕ) : Type 0 where
-  pub few : turned_in m least turned r ≤ staying_in m least turned r
-  pub first : turned_in m least turned r ≡ staying_in m least turned r → turned r ≡ false
-
 -- A vertex past the list stands in the middle of space.
 abbrev pub place_at : List Place → ℕ → Place
 place_at places v = slice_index_or places v origin
+
+-- Twice the areas of what three places show along the three axes, added up: the numbers of
+-- (b - a) x (c - a) without their signs. It is 0 where the places are on a line, and below 2^35.
+unfoldable pub area_of : Place → Place → Place → ℕ
+area_of a b c =
+    let n : Direction = cross_of a b c in unsigned_abs n.x + unsigned_abs n.y + unsigned_abs n.z
+
+-- That of face f, whichever way round it is.
+abbrev pub area_at : Net → List Place → ℕ → ℕ
+area_at m places f =
+    area_of (place_at places (m.from (3 * f))) (place_at places (m.from (3 * f + 1)))
+    (place_at places (m.from (3 * f + 2)))
+
+-- What those of the first n that pass weigh together.
+unfoldable pub weight : (ℕ → ℕ) → (ℕ → Bool) → ℕ → ℕ
+weight w p zero = 0
+weight w p (suc n) = (if p n then w n else 0) + weight w p n
+
+-- How much area of the patch is turned, and how much stays.
+abbrev pub area_turned_in : Net → List Place → (ℕ → ℕ) → (ℕ → Bool) → ℕ → ℕ
+area_turned_in m places least turned r =
+    weight (area_at m places) (λ f. (least f == r) && turned f) m.faces
+
+abbrev pub area_staying_in : Net → List Place → (ℕ → ℕ) → (ℕ → Bool) → ℕ → ℕ
+area_staying_in m places least turned r =
+    weight (area_at m places) (λ f. (least f == r) && not (turned f)) m.faces
+
+-- No more area of the patch is turned than stays; where as much is, the face of least number stays.
+pub record IsSmaller (m : Net) (places : List Place) (least : ℕ → ℕ) (turned : ℕ → Bool)
+    (r : ℕ) : Type 0 where
+  pub small : area_turned_in m places least turned r ≤ area_staying_in m places least turned r
+  pub first : area_turned_in m places least turned r ≡ area_staying_in m places least turned r
+      → turned r ≡ false
 
 -- Each vertex that a face names has a place.
 abbrev pub ArePlaced : Net → List Place → Type 0
@@ -83,22 +103,23 @@ abbrev pub volume_in : Net → List Place → (ℕ → ℕ) → (ℕ → Bool) �
 volume_in m places least turned r =
     total (λ f. if least f == r then volume_at m places (turned f) f else pos 0) m.faces
 
--- The patch isn't inside out; where it has no volume, the fewest of its faces are turned.
+-- The patch isn't inside out; where it has no volume, the least of its area is turned.
 pub record IsOutward (m : Net) (places : List Place) (least : ℕ → ℕ) (turned : ℕ → Bool)
     (r : ℕ) : Type 0 where
   pub volume : pos 0 ≤ℤ volume_in m places least turned r
-  pub flat : volume_in m places least turned r ≡ pos 0 → IsFewest m least turned r
+  pub flat : volume_in m places least turned r ≡ pos 0
+      → IsSmaller m places least turned r
 
 -- The flags by which neighbours agree once the flagged faces are turned, and by which, in each
 -- patch,
 -- * no face is turned where neighbours agree already;
--- * the fewest are, where the patch is open;
+-- * the least area is, where the patch is open;
 -- * the way round is outward, where it is closed, has a clash, and can be turned at all.
 pub record AreChosenTurns (m : Net) (places : List Place) (flags : List Bool) : Type 0 where
   pub agreeing : AgreeOnceTurned m flags
   pub least : ℕ → ℕ
   pub patches : AreLeast m least
   pub same : (f : ℕ) → f < m.faces → Agrees m least (least f) → flag_of flags f ≡ false
-  pub fewest : (r : ℕ) → IsOpen m least r → IsFewest m least (flag_of flags) r
+  pub smaller : (r : ℕ) → IsOpen m least r → IsSmaller m places least (flag_of flags) r
   pub outward : (r : ℕ) → IsClosed m least r → HasClash m least r → agreeing.twisted r ≡ false
       → IsOutward m places least (flag_of flags) r

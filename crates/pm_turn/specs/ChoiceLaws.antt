@@ -7,7 +7,8 @@ use Rattle.pm_base.specs.Fans.{IsOrientedManifold}
 use Rattle.pm_fans.specs.Splits.{AllStand}
 use Rattle.pm_fans.specs.Kept.{kept_of}
 use Rattle.pm_turn.specs.Turning.{turned_by, flag_of, AgreeOnceTurned, AreTurns, AllAgree}
-use Rattle.pm_turn.specs.Choice.{IsOpen, turned_in, place_at, volume_in, AreChosenTurns}
+use Rattle.pm_turn.specs.Choice.{IsOpen, area_turned_in, place_at, volume_in}
+use Rattle.pm_turn.specs.Choice.{AreChosenTurns}
 
 -- For any mesh and places flags are chosen.
 abbrev pub ChosenTurnsAreThere : Type 0
@@ -36,11 +37,12 @@ ChosenFacesAreTurnedOnce = (fs : List Corners) (places : List Place) (flags agai
     → AreChosenTurns (net_of (turned_by flags (kept_of fs))) places again
     → turned_by again (turned_by flags (kept_of fs)) ≡ turned_by flags (kept_of fs)
 
--- Whatever other flags make neighbours agree, they turn no fewer faces of an open patch.
-abbrev pub FewestAreTurned : Type 0
-FewestAreTurned = (m : Net) (places : List Place) (flags other : List Bool)
+-- Whatever other flags make neighbours agree, they turn no less area of an open patch.
+abbrev pub LeastAreaIsTurned : Type 0
+LeastAreaIsTurned = (m : Net) (places : List Place) (flags other : List Bool)
     (t : AreChosenTurns m places flags) → AgreeOnceTurned m other → (r : ℕ) → IsOpen m t.least r
-    → turned_in m t.least (flag_of flags) r ≤ turned_in m t.least (flag_of other) r
+    → area_turned_in m places t.least (flag_of flags) r
+    ≤ area_turned_in m places t.least (flag_of other) r
 
 -- Net n is net m with other numbers for the vertices: two sides begin at one vertex of n exactly
 -- where they do in m.

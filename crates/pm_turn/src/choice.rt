@@ -6,7 +6,7 @@ ghost use Rattle.pm_base.specs.Sides.{net_of, side_count};
 ghost use Rattle.pm_fans.specs.Splits.{IsCuttable};
 ghost use Rattle.pm_turn.specs.Turning.{flag_of, AreTraced};
 ghost use Rattle.pm_turn.specs.Unions.{AreElders, AreTables, AreMated, elders_of};
-ghost use Rattle.pm_turn.specs.Choice.{ArePlaced, volume_at, AreChosenTurns};
+ghost use Rattle.pm_turn.specs.Choice.{ArePlaced, area_at, volume_at, AreChosenTurns};
 ghost use Rattle.pm_turn.specs.Told.{AreTurnCounts};
 ghost use Rattle.pm_turn.specs.Sums.{
   root_at,
@@ -14,12 +14,14 @@ ghost use Rattle.pm_turn.specs.Sums.{
   is_bare as is_bare_of,
   no_sums as no_sums_of,
   with_face as with_face_of,
+  IsSmall,
   AreSums,
   is_reversed as is_reversed_of,
   chosen_flag as chosen_flag_of,
 };
 
 use crate::OutOfMemory;
+use crate::areas::area_of;
 use crate::counts::{TurnCounts, count_set, inside_out, twisted_faces};
 use crate::edges::{edge_mates, note_edges};
 use crate::patches::{Patches, Root, flipped_if, join_all, root_of};
@@ -28,12 +30,13 @@ use crate::volumes::volume_of;
 use pm_base::{Corners, Point, Side, SideMap};
 use std::alloc::Global;
 
-/// What is added up over the faces of a patch: how many have an even way to the face that stands
-/// for it, how many an odd one, how many have a side without a mate, and six times the volume,
-/// where faces with an odd way are turned.
+/// What is added up over the faces of a patch: the area of those with an even way to the face that
+/// stands for it, that of those with an odd one, how many have an odd one, how many have a side
+/// without a mate, and six times the volume, where faces with an odd way are turned.
 #[derive(Clone, Copy)]
 pub(crate) struct Sums {
-    pub(crate) even: u32,
+    pub(crate) even_area: u64,
+    pub(crate) odd_area: u64,
     pub(crate) odd: u32,
     pub(crate) bare: u32,
     pub(crate) volume: i128,
@@ -49,9 +52,10 @@ pub struct Turned {
 
 /// For each face whether it is turned round, as `turns` tells, but each patch the better way round,
 /// and what can be told of that. No face is turned where neighbours agree already. Of a patch with
-/// a side that has no mate the fewest faces are turned; of two equal choices the face of least
-/// number stays. A closed patch has a volume that isn't below 0; without volume it is turned as an
-/// open one. Sums are exact. There is one such list of flags. O(F log F) for F faces.
+/// a side that has no mate the least area is turned, and faces without area follow the others; of
+/// two equal choices the face of least number stays. A closed patch has a volume that isn't below
+/// 0; without volume it is turned as an open one. Sums are exact. There is one such list of flags.
+/// O(F log F) for F faces.
 pub fn chosen_turns(
     alloc: Global,
     faces: &[Corners],
@@ -135,7 +139,8 @@ fn no_sums(alloc: Global, patches: usize) -> Result<Vec<Sums>, OutOfMemory>
     ensures { IfOk result (λ sums. sums.items ≡ replicate patches no_sums_of) }
 {
     let none = Sums {
-        even: 0,
+        even_area: 0,
+        odd_area: 0,
         odd: 0,
         bare: 0,
         volume: 0,
@@ -167,33 +172,31 @@ fn add_face(
     requires face { face < length faces.now }
     requires placed { ArePlaced (net_of faces.now) places.now }
     requires root { root.face < length sums.old.items }
-    requires even { (slice_index_or sums.old.items root.face no_sums_of).even < MOST_FACES }
-    requires odd { (slice_index_or sums.old.items root.face no_sums_of).odd < MOST_FACES }
-    requires bare { (slice_index_or sums.old.items root.face no_sums_of).bare < MOST_FACES }
-    requires volume { unsigned_abs (slice_index_or sums.old.items root.face no_sums_of).volume ≤ 2 ^
-        71 }
+    requires small { IsSmall 1048575 (slice_index_or sums.old.items root.face no_sums_of) }
     ensures items { sums.new.items ≡ slice_set sums.old.items root.face
         (with_face_of (slice_index_or sums.old.items root.face no_sums_of) root.parity bare
+        (area_at (net_of faces.now) places.now face)
         (volume_at (net_of faces.now) places.now root.parity face)) }
-    ensures small { unsigned_abs (volume_at (net_of faces.now) places.now root.parity face) ≤ 2 ^
+    ensures small_area { area_at (net_of faces.now) places.now face < 2 ^ 35 }
+    ensures small_volume { unsigned_abs (volume_at (net_of faces.now) places.now root.parity face) ≤ 2 ^
         51 }
 {
     let old = sums[root.face as usize];
+    let area = area_of(faces, places, face);
     let volume = volume_of(faces, places, face, root.parity);
-    sums[root.face as usize] = with_face(old, root.parity, bare, volume);
+    sums[root.face as usize] = with_face(old, root.parity, bare, area, volume);
 }
 
 // The sums with one more face.
-fn with_face(s: Sums, parity: bool, bare: bool, volume: i128) -> Sums
-    requires even { s.even < MOST_FACES }
-    requires odd { s.odd < MOST_FACES }
-    requires bare { s.bare < MOST_FACES }
-    requires volume { unsigned_abs s.volume ≤ 2 ^ 71 }
-    requires small { unsigned_abs volume ≤ 2 ^ 51 }
-    ensures { result ≡ with_face_of s parity bare volume }
+fn with_face(s: Sums, parity: bool, bare: bool, area: u64, volume: i128) -> Sums
+    requires small { IsSmall 1048575 s }
+    requires small_area { area < 2 ^ 35 }
+    requires small_volume { unsigned_abs volume ≤ 2 ^ 51 }
+    ensures { result ≡ with_face_of s parity bare area volume }
 {
     Sums {
-        even: s.even + u32::from(!parity),
+        even_area: s.even_area + if parity { 0 } else { area },
+        odd_area: s.odd_area + if parity { area } else { 0 },
         odd: s.odd + u32::from(parity),
         bare: s.bare + u32::from(bare),
         volume: s.volume + volume,
@@ -242,14 +245,14 @@ fn flag_at(odd: &[bool], roots: &[Root], sums: &[Sums], face: usize) -> bool
 }
 
 // Whether the way round by parities is to be reversed: of a closed patch that has a clash if its
-// volume is below 0, and of another, or without volume, if more faces would be turned than stay.
+// volume is below 0, and of another, or without volume, if more area would be turned than stays.
 fn is_reversed(s: Sums) -> bool
     ensures { result ≡ is_reversed_of s }
 {
     if s.bare == 0 && s.odd != 0 && s.volume != 0 {
         s.volume < 0
     } else {
-        s.even < s.odd
+        s.even_area < s.odd_area
     }
 }
 

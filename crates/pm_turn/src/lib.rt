@@ -2,6 +2,7 @@
 //! of them share, and of each patch the faces that are turned.
 #![tactic(auto)]
 
+mod areas;
 mod choice;
 mod counts;
 mod edges;

@@ -18,7 +18,7 @@ ghost use Rattle.pm_turn.specs.ChoiceLaws.{
   AgreeingFacesAreKept,
   ManifoldsAreKept,
   ChosenFacesAreTurnedOnce,
-  FewestAreTurned,
+  LeastAreaIsTurned,
   ChosenTurnsAreRenumbered,
   TurnsAreRenumbered,
   UnitTetrahedronFacesOut,
@@ -54,7 +54,7 @@ pub fn chosen_turns_are_sound()
     ensures agreeing { AgreeingFacesAreKept }
     ensures untouched { ManifoldsAreKept }
     ensures once { ChosenFacesAreTurnedOnce }
-    ensures fewest { FewestAreTurned }
+    ensures least { LeastAreaIsTurned }
     ensures renumbered { ChosenTurnsAreRenumbered }
     ensures turns_renumbered { TurnsAreRenumbered }
     ensures unit { UnitTetrahedronFacesOut }

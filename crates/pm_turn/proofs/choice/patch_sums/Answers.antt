@@ -1,12 +1,12 @@
-use Rattle.std.proofs.Common.{◌≡◌, ℕ, ◌<◌, Bool, List, length, slice_index_or, refl, sym, subst}
+use Rattle.std.proofs.Common.{◌≡◌, ℕ, ◌<◌, ◌≤◌, Bool, List, length, slice_index_or, refl, sym, subst}
 use Rattle.std.proofs.Common.{arith}
 use Rattle.std.specs.Prelude.{ℤ}
 use Rattle.pm_base.specs.Sides.{Net, net_of}
 use Rattle.pm_turn.specs.declared.patches.Root.{Root}
 use Rattle.pm_turn.specs.declared.choice.Sums.{Sums}
-use Rattle.pm_turn.specs.Choice.{volume_at}
+use Rattle.pm_turn.specs.Choice.{area_at, volume_at}
 use Rattle.pm_turn.specs.Sums.{root_at, parity_at, no_sums, with_face, AreSums}
-use Rattle.pm_turn.proofs.Summing.{none_summed, none_small, summed_more, small_more, sums_low}
+use Rattle.pm_turn.proofs.Summing.{none_summed, none_small, summed_more, small_more, small_by}
 use Rattle.pm_turn.proofs.choice.patch_sums.Goals as goal
 
 pub loop-face-init : goal.loop-face-init
@@ -16,44 +16,14 @@ loop-face-init c = record {
   small = none_small (length c.args.faces.now) c.in_ok-sums.sums.items c.in_ok-sums.ensures;
 }
 
-pub add_face-requires-clause-even : goal.add_face-requires-clause-even
-add_face-requires-clause-even c =
-    let m : Net = net_of c.args.faces.now in
+pub add_face-requires-clause-small : goal.add_face-requires-clause-small
+add_face-requires-clause-small c =
     let face : ℕ = c.loop-face.face in
     let r : ℕ = root_at c.args.roots.now face in
-    let l : face < m.faces = omega (arith, c.loop-face-test.true, c.loop-face.auto.face-end) in
-    let below = c.requires.below face in
-    let low = sums_low m c.args.places.now c.args.mates.now c.args.roots.now face r
-    (slice_index_or c.loop-face.sums.items r no_sums)
-    (c.loop-face.invariant.sums.each r (omega (arith, below, l))) in
-    let most = low.0 in
-    omega (arith, most, l, c.requires.short)
-
-pub add_face-requires-clause-odd : goal.add_face-requires-clause-odd
-add_face-requires-clause-odd c =
-    let m : Net = net_of c.args.faces.now in
-    let face : ℕ = c.loop-face.face in
-    let r : ℕ = root_at c.args.roots.now face in
-    let l : face < m.faces = omega (arith, c.loop-face-test.true, c.loop-face.auto.face-end) in
-    let below = c.requires.below face in
-    let low = sums_low m c.args.places.now c.args.mates.now c.args.roots.now face r
-    (slice_index_or c.loop-face.sums.items r no_sums)
-    (c.loop-face.invariant.sums.each r (omega (arith, below, l))) in
-    let most = low.1 in
-    omega (arith, most, l, c.requires.short)
-
-pub add_face-requires-clause-bare : goal.add_face-requires-clause-bare
-add_face-requires-clause-bare c =
-    let m : Net = net_of c.args.faces.now in
-    let face : ℕ = c.loop-face.face in
-    let r : ℕ = root_at c.args.roots.now face in
-    let l : face < m.faces = omega (arith, c.loop-face-test.true, c.loop-face.auto.face-end) in
-    let below = c.requires.below face in
-    let low = sums_low m c.args.places.now c.args.mates.now c.args.roots.now face r
-    (slice_index_or c.loop-face.sums.items r no_sums)
-    (c.loop-face.invariant.sums.each r (omega (arith, below, l))) in
-    let most = low.2 in
-    omega (arith, most, l, c.requires.short)
+    let most : face ≤ 1048575 =
+    omega (arith, c.loop-face-test.true, c.loop-face.auto.face-end, c.requires.short) in
+    small_by face 1048575 (slice_index_or c.loop-face.sums.items r no_sums) most
+    (c.loop-face.invariant.small r)
 
 pub loop-face-preserved : goal.loop-face-preserved
 loop-face-preserved c =
@@ -70,14 +40,15 @@ loop-face-preserved c =
     let low : r < length xs = omega (arith, below, l, long) in
     let parity : Bool = parity_at roots face in
     let bare : Bool = c.is_bare-bare.result in
+    let area : ℕ = area_at m c.args.places.now face in
     let volume : ℤ = volume_at m c.args.places.now parity face in
-    let new : Sums = with_face (slice_index_or xs r no_sums) parity bare volume in
+    let new : Sums = with_face (slice_index_or xs r no_sums) parity bare area volume in
     record {
       sums = summed_more xs ys r new low c.add_face.ensures.items m c.args.places.now
           c.args.mates.now roots face parity bare volume refl refl (sym c.is_bare-bare.ensures) refl
           refl inv.sums;
-      small = small_more xs ys r new low c.add_face.ensures.items face parity bare volume refl
-          c.add_face.ensures.small inv.small;
+      small = small_more xs ys r new low c.add_face.ensures.items face parity bare area volume
+          refl c.add_face.ensures.small_area c.add_face.ensures.small_volume inv.small;
     }
 
 pub returns : goal.returns

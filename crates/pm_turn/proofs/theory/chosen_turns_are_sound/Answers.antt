@@ -1,5 +1,5 @@
 use Rattle.pm_turn.proofs.ChosenThere.{chosen_turns_are_there}
-use Rattle.pm_turn.proofs.OneChoice.{chosen_turns_are_one, fewest_are_turned}
+use Rattle.pm_turn.proofs.OneChoice.{chosen_turns_are_one, least_area_is_turned}
 use Rattle.pm_turn.proofs.ChosenAgain.{agreeing_faces_are_kept, manifolds_are_kept}
 use Rattle.pm_turn.proofs.ChosenAgain.{chosen_faces_are_turned_once}
 use Rattle.pm_turn.proofs.Renumbered.{turns_are_renumbered, chosen_turns_are_renumbered}
@@ -13,7 +13,7 @@ returns c = record {
   agreeing = agreeing_faces_are_kept;
   untouched = manifolds_are_kept;
   once = chosen_faces_are_turned_once;
-  fewest = fewest_are_turned;
+  least = least_area_is_turned;
   renumbered = chosen_turns_are_renumbered;
   turns_renumbered = turns_are_renumbered;
   unit = unit_tetrahedron_faces_out;
