@@ -31,17 +31,31 @@ def normal(places: List[Point]) -> Point:
     return x, y, z
 
 
-def seen(places: List[Point]) -> List[Spot]:
-    """Along the axis of the normal's greatest component, the first of equal ones, from its side."""
-    n = normal(places)
-    axis = max(range(3), key=lambda k: abs(n[k]))
-    spots = [(p[(axis + 1) % 3], p[(axis + 2) % 3]) for p in places]
-    return [(y, x) for x, y in spots] if n[axis] < 0 else spots
-
-
 def area(a: Spot, b: Spot, c: Spot) -> int:
     """Twice the signed area."""
     return (b[0] - a[0]) * (c[1] - a[1]) - (b[1] - a[1]) * (c[0] - a[0])
+
+
+def along(axis: int, places: List[Point]) -> List[Spot]:
+    """The places as they are seen along an axis."""
+    return [(p[(axis + 1) % 3], p[(axis + 2) % 3]) for p in places]
+
+
+def fan_has_area(spots: List[Spot]) -> bool:
+    """Whether a triangle of the fan has an area."""
+    return any(area(spots[0], p, q) for p, q in zip(spots[1:], spots[2:]))
+
+
+def seen(places: List[Point]) -> List[Spot]:
+    """Along the axis of the normal's greatest component, the first of equal ones, from its side;
+    without a normal along the first axis on which a triangle of the fan has an area, else x."""
+    n = normal(places)
+    if n == (0, 0, 0):
+        views = [along(axis, places) for axis in range(3)]
+        return next(filter(fan_has_area, views), views[0])
+    axis = max(range(3), key=lambda k: abs(n[k]))
+    spots = along(axis, places)
+    return [(y, x) for x, y in spots] if n[axis] < 0 else spots
 
 
 def lies_in(p: Spot, t: Tuple[Spot, Spot, Spot]) -> bool:

@@ -17,10 +17,10 @@ use Rattle.pm_ears.specs.Areas.{cross_of, twice_area_of, along, last_from, twice
 use Rattle.pm_ears.specs.Areas.{triangle_at}
 use Rattle.pm_ears.specs.Planes.{across, mirrored_if, spot_of, spots_on}
 use Rattle.pm_ears.specs.Ears.{without}
-use Rattle.pm_ears.specs.Cutting.{fan}
+use Rattle.pm_ears.specs.Fans.{fan}
 use Rattle.pm_ears.specs.Laws.{TakesOff, here, later, IsCut, done, next, total, IsInOrder}
 
-cross_back : (p q : Spot) → cross_of q p +ℤ cross_of p q ≡ pos 0
+pub cross_back : (p q : Spot) → cross_of q p +ℤ cross_of p q ≡ pos 0
 unfolding cross_of
 cross_back p q = omega (arith, ints, *ℤ_comm p.x q.y, *ℤ_comm p.y q.x)
 

@@ -13,7 +13,8 @@ use Rattle.pm_ears.specs.declared.cut.CutKind.TheVariants as kinds
 use Rattle.pm_ears.specs.declared.spots.Spot.{Spot}
 use Rattle.pm_ears.specs.declared.spots.Triangle.{Triangle}
 use Rattle.pm_ears.specs.Planes.{spots_of}
-use Rattle.pm_ears.specs.Cutting.{fan, is_turned_over, pieces_by, few_ears, pieces_of}
+use Rattle.pm_ears.specs.Fans.{fan}
+use Rattle.pm_ears.specs.Cutting.{is_turned_over, pieces_by, few_ears, pieces_of}
 use Rattle.pm_ears.specs.Cutting.{named, Pieces, IsCutOf}
 use Rattle.pm_ears.specs.declared.cut.Cut.{Cut}
 use Rattle.pm_ears.proofs.Taking.{some_same}

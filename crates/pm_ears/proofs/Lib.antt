@@ -7,6 +7,7 @@ pub mod CutLaws
 pub mod PieceLaws
 pub mod Worked
 pub mod Shown
+pub mod SeenLaws
 pub mod Putting
 pub mod RecutLaws
 pub mod Recuts

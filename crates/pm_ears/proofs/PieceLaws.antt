@@ -21,7 +21,8 @@ use Rattle.pm_ears.specs.declared.spots.Triangle.{Triangle}
 use Rattle.pm_ears.specs.Areas.{twice_area_of, triangle_at}
 use Rattle.pm_ears.specs.Planes.{plane_of, spots_of}
 use Rattle.pm_ears.specs.Ears.{is_ear, is_flat, next_ear, without, ears}
-use Rattle.pm_ears.specs.Cutting.{fan, is_turned_over, Pieces, pieces_by, few_ears, pieces_of}
+use Rattle.pm_ears.specs.Fans.{fan}
+use Rattle.pm_ears.specs.Cutting.{is_turned_over, Pieces, pieces_by, few_ears, pieces_of}
 use Rattle.pm_ears.specs.Laws.{IsCut, done, next, IsInOrder}
 use Rattle.pm_ears.proofs.Rows.{as_many_spots}
 use Rattle.pm_ears.proofs.Taking.{some_same, next_found}

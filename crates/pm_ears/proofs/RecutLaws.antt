@@ -1,26 +1,23 @@
 -- Polygons cut anew: as many triangles, of the same corners.
-use Rattle.std.proofs.Common.{◌≡◌, ℕ, zero, suc, ◌+◌, ◌-◌, ◌<◌, ◌≤◌, Bool, true, false, not, ◌&&◌}
-use Rattle.std.proofs.Common.{List, [], ◌∷◌, ◌++◌, length, map, take, drop, get_or, refl, sym, ap}
-use Rattle.std.proofs.Common.{◌∙◌, subst, inl, inr, arith, length-append, if◌then◌else◌}
-use Rattle.std.specs.List.{All, list_all, filter}
-use Rattle.std.proofs.lemmas.Bool.{cases_Bool, and_parts, true≢false, cond-true, cond-false}
+use Rattle.std.proofs.Common.{◌≡◌, ℕ, ◌+◌, ◌<◌, ◌≤◌, true, false}
+use Rattle.std.proofs.Common.{List, [], ◌∷◌, length, map, drop, get_or, refl, sym, ap}
+use Rattle.std.proofs.Common.{◌∙◌, subst, arith}
+use Rattle.std.specs.List.{All}
+use Rattle.std.proofs.lemmas.Bool.{true≢false}
 use Rattle.std.proofs.lemmas.List.{length-map, length-take, length-drop}
-use Rattle.std.proofs.lemmas.List.Elements.{All-nil, All-cons, All-head, All-tail, All-append}
-use Rattle.std.proofs.lemmas.List.Elements.{All-take, All-drop, filter-append}
+use Rattle.std.proofs.lemmas.List.Elements.{All-nil, All-cons, All-head, All-tail}
 use Rattle.pm_base.specs.declared.mesh.Corners.{Corners}
 use Rattle.pm_base.specs.Place.{Place, origin}
 use Rattle.pm_ears.specs.declared.cut.CutKind.TheVariants as kinds
 use Rattle.pm_ears.specs.declared.recut.Polygon.{Polygon}
-use Rattle.pm_ears.specs.declared.spots.Spot.{Spot}
 use Rattle.pm_ears.specs.declared.spots.Triangle.{Triangle}
 use Rattle.pm_ears.specs.Planes.{plane_of, spots_of}
 use Rattle.pm_ears.specs.Cutting.{pieces_of, named}
-use Rattle.pm_ears.specs.Laws.{IsInOrder, RecutsAreAsMany, UprightFansStay}
-use Rattle.pm_ears.specs.Recutting.{fan_at, first_two, corners_of, places_of, pieces_over}
-use Rattle.pm_ears.specs.Recutting.{names_three, are_ears, is_fan, gives_way, stays_overlapping}
-use Rattle.pm_ears.specs.Recutting.{by_corners, ears_over, put_at, with_recut, recut_after}
-use Rattle.pm_ears.specs.Recutting.{overlapping_count, AreBelow, IsPolygonWithin}
-use Rattle.pm_ears.proofs.Putting.{put_long}
+use Rattle.pm_ears.specs.Laws.{IsInOrder}
+use Rattle.pm_ears.specs.Recutting.{fan_at, corners_of, places_of, pieces_over}
+use Rattle.pm_ears.specs.Recutting.{names_three, gives_way, stays_overlapping}
+use Rattle.pm_ears.specs.Recutting.{by_corners, ears_over}
+use Rattle.pm_ears.specs.Recutting.{AreBelow}
 use Rattle.pm_ears.proofs.Rows.{as_many_spots}
 use Rattle.pm_ears.proofs.CutLaws.{two_fewer}
 use Rattle.pm_ears.proofs.PieceLaws.{pieces_are_cuts}

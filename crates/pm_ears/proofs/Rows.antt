@@ -2,7 +2,7 @@
 use Rattle.std.proofs.Common.{◌≡◌, ℕ, zero, suc, ◌+◌, ◌-◌, ◌^◌, ◌<◌, ◌≤◌, w64, to_z, of_z, Bool}
 use Rattle.std.proofs.lemmas.Grind.{common_steps}
 use Rattle.std.proofs.Common.{true, false, ◌||◌, Some, None, List, [], ◌∷◌, ◌++◌, length, drop}
-use Rattle.std.proofs.Common.{slice_index_or, refl, ap, ◌∙◌, arith}
+use Rattle.std.proofs.Common.{slice_index_or, refl, sym, ap, ◌∙◌, arith}
 use Rattle.std.specs.Prelude.{ℤ, ◌==◌, ◌+ℤ◌, pos, unsigned_abs, map}
 use Rattle.std.specs.List.{list_any}
 use Rattle.std.proofs.lemmas.Bool.{cond-true, cond-false, false≢true}
@@ -19,7 +19,8 @@ use Rattle.pm_ears.specs.Areas.{cross_of, along, last_from, twice_area_within, l
 use Rattle.pm_ears.specs.Areas.{nowhere}
 use Rattle.pm_ears.specs.Planes.{spot_of, spots_on}
 use Rattle.pm_ears.specs.Ears.{first_from}
-use Rattle.pm_ears.specs.Cutting.{fan, fan_from, is_turned_over, named}
+use Rattle.pm_ears.specs.Fans.{fan, fan_from, has_area}
+use Rattle.pm_ears.specs.Cutting.{is_turned_over, named}
 use Rattle.pm_ears.specs.Counted.{fan_triangle}
 
 pub inside_next : (t : Triangle) (spots : List Spot) (i : ℕ) → i < length spots
@@ -69,6 +70,13 @@ pub turned_next : (spots : List Spot) (i : ℕ) (b : Bool) → i + 1 < length sp
     (fan_from (slice_index_or spots 0 nowhere) (drop (i + 1) spots)))
 turned_next spots i b l e = grind (arith, common_steps, fan_next, slice_index_or)
 
+pub area_next : (spots : List Spot) (i : ℕ) (b : Bool) → i + 1 < length spots
+    → has_area (fan_triangle spots i) ≡ b
+    → list_any has_area (fan_from (slice_index_or spots 0 nowhere) (drop i spots))
+    ≡ (b || list_any has_area
+    (fan_from (slice_index_or spots 0 nowhere) (drop (i + 1) spots)))
+area_next spots i b l e = grind (arith, common_steps, fan_next, slice_index_or)
+
 pub fan_more : (spots : List Spot) (i : ℕ) (done more : List Corners) (t : Corners)
     → i + 1 < length spots → t ≡ named (fan_triangle spots i) → more ≡ done ++ t ∷ []
     → more ++ map named (fan_from (slice_index_or spots 0 nowhere) (drop (i + 1) spots))
@@ -110,6 +118,22 @@ pub spot_on_plane : (plane : Plane) (places : List Place) (k : ℕ) (e : Place) 
     ≡ spot_of plane k (slice_index_or places k e)
 spot_on_plane plane places k e l =
     grind (arith, common_steps, slice_index_or places k e, spot_on plane 0 places k nowhere e l)
+
+-- A triangle of the fan there.
+pub seen_fan : (plane : Plane) (places : List Place) (i : ℕ) (p q r : Place)
+    → i + 1 < length places
+    → p ≡ slice_index_or places 0 p → q ≡ slice_index_or places i q
+    → r ≡ slice_index_or places (i + 1) r → (t : Triangle) → t.a ≡ spot_of plane 0 p
+    → t.b ≡ spot_of plane i q → t.c ≡ spot_of plane (i + 1) r
+    → t ≡ fan_triangle (spots_on plane 0 places) i
+seen_fan plane places i p q r l first second third t a b c =
+    let at_a = a ∙ ap (spot_of plane 0) first
+    ∙ sym (spot_on_plane plane places 0 p (omega (arith, l))) in
+    let at_b = b ∙ ap (spot_of plane i) second
+    ∙ sym (spot_on_plane plane places i q (omega (arith, l))) in
+    let at_c = c ∙ ap (spot_of plane (i + 1)) third
+    ∙ sym (spot_on_plane plane places (i + 1) r l) in
+    rw (sym at_a, sym at_b, sym at_c) refl
 
 -- An area stands in 64 bits.
 pub area_kept : (x : ℤ) → unsigned_abs x ≤ 2 ^ 53 → to_z w64 (of_z w64 x) ≡ x

@@ -1,10 +1,12 @@
 -- The plane on which a polygon is cut shows it largest.
 use Rattle.std.proofs.Common.{◌≡◌, ℕ, ◌+◌, ◌<◌, ◌≤◌, Bool, true, false, inl, inr, List, [], ◌∷◌}
 use Rattle.std.proofs.lemmas.Grind.{common_steps}
-use Rattle.std.proofs.Common.{refl, sym, ap, subst, arith}
+use Rattle.std.proofs.Common.{refl, sym, ap, ◌∙◌, subst, arith}
 use Rattle.std.specs.Prelude.{ℤ, pos, ◌+ℤ◌, ◌≤ℤ◌, nat_le, ◌&&◌, ◌⊎◌, int_lt, unsigned_abs}
 use Rattle.std.proofs.lemmas.Bool.{cases_Bool, cond-true, cond-false, and_parts, and_cases}
 use Rattle.std.proofs.lemmas.Bool.{leb-true, leb-false}
+use Rattle.std.proofs.lemmas.Bool.Decides.{Decides-int_eq}
+use Rattle.std.specs.Ordering.{int_eq}
 use Rattle.std.proofs.lemmas.Int.{ints}
 use Rattle.pm_base.specs.Place.{Place}
 use Rattle.pm_ears.specs.declared.plane.Axis.{Axis}
@@ -12,7 +14,7 @@ use Rattle.pm_ears.specs.declared.plane.Axis.TheVariants as axes
 use Rattle.pm_ears.specs.declared.spots.Spot.{Spot}
 use Rattle.pm_ears.specs.Areas.{cross_of, along, last_from, twice_area_within}
 use Rattle.pm_ears.specs.Planes.{across, mirrored_if, spot_of, spots_on, newell, facing, largest_of}
-use Rattle.pm_ears.specs.Planes.{plane_of}
+use Rattle.pm_ears.specs.Planes.{first_seen, plane_by, plane_of}
 use Rattle.pm_ears.specs.Laws.{IsShownLargest}
 
 -- Where the corners stand on a plane, and in its mirror.
@@ -115,17 +117,78 @@ unfolding Picks largest_of
 picks x y z =
     grind (arith, common_steps, and_parts, cond-false, cond-true, leb-false, leb-true, lower)
 
-pub shown_largest : (places : List Place) → IsShownLargest places
+-- Whether a polygon has no area along any axis.
+abbrev pub are_zero : ℤ → ℤ → ℤ → Bool
+are_zero x y z = int_eq x (pos 0) && int_eq y (pos 0) && int_eq z (pos 0)
+
+zero_parts : (x y z : ℤ) → are_zero x y z ≡ true → (x ≡ pos 0) × (y ≡ pos 0) × (z ≡ pos 0)
+zero_parts x y z e = grind (arith, common_steps, and_parts, Decides-int_eq)
+
+all_zero : (places : List Place) → newell axes.X places ≡ pos 0 → newell axes.Y places ≡ pos 0
+    → newell axes.Z places ≡ pos 0 → (axis : Axis) → newell axis places ≡ pos 0
+all_zero places x y z axes.X = x
+all_zero places x y z axes.Y = y
+all_zero places x y z axes.Z = z
+
+abbrev pub has_none : List Place → Bool
+has_none places = are_zero (newell axes.X places) (newell axes.Y places) (newell axes.Z places)
+
+none_along : (places : List Place) → has_none places ≡ true
+    → (axis : Axis) → newell axis places ≡ pos 0
+none_along places e =
+    let zero = zero_parts (newell axes.X places) (newell axes.Y places) (newell axes.Z places) e in
+    all_zero places zero.0 zero.1 zero.2
+
+pub plane_without : (places : List Place) → has_none places ≡ true
+    → plane_of places ≡ record { across = first_seen places; mirrored = false }
+unfolding plane_by
+plane_without places e = cond-true _ _ _ e
+
+plane_with : (places : List Place) → has_none places ≡ false
+    → plane_of places
+    ≡ largest_of (newell axes.X places) (newell axes.Y places) (newell axes.Z places)
+unfolding plane_by
+plane_with places e = cond-false _ _ _ e
+
+shown_without : (places : List Place) → has_none places ≡ true → IsShownLargest places
+shown_without places e =
+    let zero = none_along places e in
+    let axis = first_seen places in
+    shown_by axis places
+    (plane_without places e ∙ ap (facing axis) (sym (zero axis)))
+    (λ other. let here = zero axis in let there = zero other in omega (arith, ints, here, there))
+
+shown_with : (places : List Place) → has_none places ≡ false → IsShownLargest places
 unfolding Picks
-shown_largest places =
+shown_with places e =
+    let plane = plane_with places e in
     elim (picks (newell axes.X places) (newell axes.Y places) (newell axes.Z places)) [
-      | inl h ↦ shown_by axes.X places h.0 (most_of places (unsigned_abs (newell axes.X places)) h.1
-          h.2 h.3)
+      | inl h ↦ shown_by axes.X places (plane ∙ h.0)
+          (most_of places (unsigned_abs (newell axes.X places)) h.1 h.2 h.3)
       | inr rest ↦
           elim rest [
-            | inl h ↦ shown_by axes.Y places h.0 (most_of places
-                (unsigned_abs (newell axes.Y places)) h.1 h.2 h.3)
-            | inr h ↦ shown_by axes.Z places h.0 (most_of places
-                (unsigned_abs (newell axes.Z places)) h.1 h.2 h.3)
+            | inl h ↦ shown_by axes.Y places (plane ∙ h.0)
+                (most_of places (unsigned_abs (newell axes.Y places)) h.1 h.2 h.3)
+            | inr h ↦ shown_by axes.Z places (plane ∙ h.0)
+                (most_of places (unsigned_abs (newell axes.Z places)) h.1 h.2 h.3)
           ]
     ]
+
+pub shown_largest : (places : List Place) → IsShownLargest places
+shown_largest places =
+    elim (cases_Bool (has_none places)) [
+      | inl e ↦ shown_without places e
+      | inr e ↦ shown_with places e
+    ]
+
+-- What is shown with an area of 0 has none along any axis.
+pub none_shown : (places : List Place) → twice_area_within (spots_on (plane_of places) 0 places)
+    ≡ pos 0 → has_none places ≡ true
+none_shown places e =
+    let most = (shown_largest places).largest in
+    let at : (axis : Axis) → newell axis places ≡ pos 0 =
+    λ axis. (let m = most axis in omega (arith, ints, m, e)) in
+    let x = (Decides-int_eq (newell axes.X places) (pos 0)).1 (at axes.X) in
+    let y = (Decides-int_eq (newell axes.Y places) (pos 0)).1 (at axes.Y) in
+    let z = (Decides-int_eq (newell axes.Z places) (pos 0)).1 (at axes.Z) in
+    grind (arith, common_steps, x, y, z)

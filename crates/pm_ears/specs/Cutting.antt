@@ -1,5 +1,5 @@
 -- How a polygon is cut into triangles: a fan from its first corner, or ears where that overlaps.
-use Rattle.std.specs.Prelude.{◌≡◌, ◌-◌, nat_lt, pos, int_lt, Bool, List, [], ◌∷◌, Option, None}
+use Rattle.std.specs.Prelude.{◌≡◌, ◌-◌, nat_lt, pos, int_lt, Bool, List, Option, None}
 use Rattle.std.specs.Prelude.{Some, length, map, if◌then◌else◌}
 use Rattle.std.specs.List.{list_any}
 use Rattle.pm_base.specs.declared.mesh.Corners.{Corners}
@@ -12,16 +12,8 @@ use Rattle.pm_ears.specs.declared.spots.Spot.{Spot}
 use Rattle.pm_ears.specs.declared.spots.Triangle.{Triangle}
 use Rattle.pm_ears.specs.Areas.{twice_area_of}
 use Rattle.pm_ears.specs.Ears.{ears}
+use Rattle.pm_ears.specs.Fans.{fan}
 use Rattle.pm_ears.specs.Planes.{spots_of}
-
--- The triangles of the first corner and each two that follow one another after it.
-abbrev pub fan_from : Spot → List Spot → List Triangle
-fan_from a (b ∷ c ∷ more) = record { a = a; b = b; c = c } ∷ fan_from a (c ∷ more)
-fan_from a _ = []
-
-abbrev pub fan : List Spot → List Triangle
-fan [] = []
-fan (a ∷ more) = fan_from a more
 
 -- A triangle has a signed area below 0.
 abbrev pub is_turned_over : Triangle → Bool

@@ -10,9 +10,10 @@ use Rattle.pm_ears.specs.declared.recut.Polygon.{Polygon}
 use Rattle.pm_ears.specs.declared.spots.Spot.{Spot}
 use Rattle.pm_ears.specs.declared.spots.Triangle.{Triangle}
 use Rattle.pm_ears.specs.Areas.{twice_area_of, twice_area_within}
-use Rattle.pm_ears.specs.Planes.{newell, spots_of}
+use Rattle.pm_ears.specs.Planes.{newell, spots_along, spots_of}
 use Rattle.pm_ears.specs.Ears.{ears}
-use Rattle.pm_ears.specs.Cutting.{fan, is_turned_over, pieces_of, named}
+use Rattle.pm_ears.specs.Fans.{fan, has_area}
+use Rattle.pm_ears.specs.Cutting.{is_turned_over, pieces_of, named}
 use Rattle.pm_ears.specs.Recutting.{IsPolygonWithin, fan_at, overlapping_count, pieces_over, recut}
 
 -- A triangle of three corners in a row comes off, and its second corner goes.
@@ -88,6 +89,17 @@ pub record IsShownLargest (places : List Place) : Type 0 where
 abbrev pub PolygonsAreShownLargest : Type 0
 PolygonsAreShownLargest = (places : List Place) → IsShownLargest places
 
+-- That plane shows a triangle of the fan with an area wherever one of the three does. So what isn't
+-- told has none turned over where that can be seen.
+pub record IsJudgedWhereSeen (places : List Place) : Type 0 where
+  pub upright : ((pieces_of (spots_of places)).kind ≡ kinds.OverlappingFan → ⊥)
+      → All (λ t. is_turned_over t ≡ false) (pieces_of (spots_of places)).triangles
+  pub seen : (axis : Axis) → Any (λ t. has_area t ≡ true) (fan (spots_along axis places))
+      → Any (λ t. has_area t ≡ true) (fan (spots_of places))
+
+abbrev pub PolygonsAreJudgedWhereSeen : Type 0
+PolygonsAreJudgedWhereSeen = (places : List Place) → IsJudgedWhereSeen places
+
 -- Polygons cut anew are as many triangles;
 abbrev pub RecutsAreAsMany : Type 0
 RecutsAreAsMany =
@@ -104,7 +116,8 @@ UprightFansStay =
 
 -- Worked examples, on a plane z = 5. Of the dart (0, 0), (2, 1), (4, 0), (2, 4) the fan overlaps,
 -- and the triangle of the later three corners comes off first. The quadrilateral (0, 0), (4, 4),
--- (4, 0), (0, 2) crosses itself.
+-- (4, 0), (0, 2) crosses itself; so does the rectangle (0, 0), (4, 0), (4, 2), (0, 2) whose later
+-- two corners are listed crosswise, which has no area along any axis.
 abbrev pub at : ℕ → ℕ → Place
 at x y = record { x = pos x; y = pos y; z = pos 5 }
 
@@ -117,10 +130,16 @@ dart = at 0 0 ∷ at 2 1 ∷ at 4 0 ∷ at 2 4 ∷ []
 abbrev pub crossed : List Place
 crossed = at 0 0 ∷ at 4 4 ∷ at 4 0 ∷ at 0 2 ∷ []
 
+abbrev pub crosswise : List Place
+crosswise = at 0 0 ∷ at 4 0 ∷ at 0 2 ∷ at 4 2 ∷ []
+
 pub record AreWorked : Type 0 where
   pub ears : (pieces_of (spots_of dart)).kind ≡ kinds.Ears
   pub triangles : map named (pieces_of (spots_of dart)).triangles
       ≡ corners 1 2 3 ∷ corners 0 1 3 ∷ []
   pub overlaps : (pieces_of (spots_of crossed)).kind ≡ kinds.OverlappingFan
   pub fan : map named (pieces_of (spots_of crossed)).triangles
+      ≡ corners 0 1 2 ∷ corners 0 2 3 ∷ []
+  pub crosswise_overlaps : (pieces_of (spots_of crosswise)).kind ≡ kinds.OverlappingFan
+  pub crosswise_fan : map named (pieces_of (spots_of crosswise)).triangles
       ≡ corners 0 1 2 ∷ corners 0 2 3 ∷ []

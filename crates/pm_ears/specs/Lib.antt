@@ -1,4 +1,5 @@
 pub mod Areas
+pub mod Fans
 pub mod Planes
 pub mod Ears
 pub mod Cutting

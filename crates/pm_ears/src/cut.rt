@@ -6,7 +6,7 @@ ghost use Rattle.pm_ears.specs.Cutting.{IsCutOf, named, pieces_of};
 use crate::OutOfMemory;
 use crate::ears::few_ears;
 use crate::fan::{fan, overlaps};
-use crate::plane::{largest_plane, spots};
+use crate::plane::{cutting_plane, spots};
 use crate::spots::Spot;
 use pm_base::{Point, Triples};
 use std::alloc::Global;
@@ -65,7 +65,9 @@ fn cut_spots(alloc: Global, spots: &[Spot]) -> Result<Cut, OutOfMemory>
 
 /// Cuts a polygon with corners at these places into triangles, two fewer than corners, each of
 /// which keeps the polygon's order. The polygon is looked at along the axis on which its area is
-/// greatest, the first of equal ones, and from the side on which the area isn't below 0.
+/// greatest, the first of equal ones, and from the side on which the area isn't below 0. Where it
+/// has no area along any axis, it is looked at along the first on which a triangle of its fan has
+/// one.
 ///
 /// Where no triangle of the fan from the first corner is turned over, the fan stays. Else triangles
 /// of three corners in a row come off: each time the first that has an area above 0 and in which no
@@ -78,6 +80,6 @@ pub fn cut_polygon(alloc: Global, places: &[Point]) -> Result<Cut, OutOfMemory>
     requires few { length places.now ≤ MOST_FACES + 2 }
     ensures { IfOk result (IsCutOf places.now) }
 {
-    let spots = spots(alloc, largest_plane(places), places)?;
+    let spots = spots(alloc, cutting_plane(places), places)?;
     cut_spots(alloc, &spots)
 }

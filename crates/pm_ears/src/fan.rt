@@ -2,7 +2,8 @@
 ghost use Rattle.std.specs.Prelude.{◌≡◌, ◌+◌, ◌<◌, length, map, IfOk};
 ghost use Rattle.std.specs.List.{list_any};
 ghost use Rattle.pm_ears.specs.Counted.{fan_triangle as fan_triangle_of};
-ghost use Rattle.pm_ears.specs.Cutting.{fan as fan_of, is_turned_over as is_turned_over_of};
+ghost use Rattle.pm_ears.specs.Fans.{fan as fan_of};
+ghost use Rattle.pm_ears.specs.Cutting.{is_turned_over as is_turned_over_of};
 ghost use Rattle.pm_ears.specs.Cutting.{named as named_of};
 
 use crate::OutOfMemory;

@@ -7,6 +7,7 @@ mod ears;
 mod fan;
 mod plane;
 mod recut;
+mod seen;
 mod spots;
 mod theory;
 

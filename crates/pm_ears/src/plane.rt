@@ -1,12 +1,13 @@
-//! The plane of two axes on which a polygon shows its largest area.
+//! The plane of two axes on which a polygon is cut: the one that shows its largest area.
 ghost use Rattle.std.specs.Prelude.{◌≡◌, ◌+◌, ◌<◌, ◌≤◌, ◌^◌, ◌+ℤ◌, length, slice_index_or};
 ghost use Rattle.std.specs.Prelude.{unsigned_abs, IfOk};
 ghost use Rattle.pm_base.specs.declared.limits.TheConstants.{MOST_FACES};
 ghost use Rattle.pm_ears.specs.Areas.{nowhere, cross_of, along};
 ghost use Rattle.pm_ears.specs.Planes.{across as across_of, spot_of, spots_on, newell};
-ghost use Rattle.pm_ears.specs.Planes.{facing as facing_of, largest_of, plane_of};
+ghost use Rattle.pm_ears.specs.Planes.{facing as facing_of, largest_of, plane_by, plane_of};
 
 use crate::OutOfMemory;
+use crate::seen::first_seen;
 use crate::spots::{Spot, cross};
 use pm_base::Point;
 use std::alloc::Global;
@@ -59,7 +60,7 @@ fn across(axis: Axis, position: u32, point: Point) -> Spot
 
 // Where it stands on a plane.
 #[tactic(auto, unfolding(crate::specs::Planes::spot_of))]
-fn spot_at(plane: Plane, position: u32, point: Point) -> Spot
+pub(crate) fn spot_at(plane: Plane, position: u32, point: Point) -> Spot
     ensures { result ≡ spot_of plane position point }
 {
     let seen = across(plane.across, position, point);
@@ -164,13 +165,28 @@ fn largest(x: i64, y: i64, z: i64) -> Plane
     }
 }
 
+// The plane of a polygon's three areas, and where all are 0 the first that shows a triangle.
+#[tactic(auto, unfolding(crate::specs::Planes::plane_by))]
+fn plane_by_areas(x: i64, y: i64, z: i64, points: &[Point]) -> Plane
+    requires { length points.now ≤ MOST_FACES + 2 }
+    ensures { result ≡ plane_by x y z points.now }
+{
+    if x == 0 && y == 0 && z == 0 {
+        return Plane {
+            across: first_seen(points),
+            mirrored: false,
+        };
+    }
+    largest(x, y, z)
+}
+
 // The plane on which a polygon is cut.
-pub(crate) fn largest_plane(points: &[Point]) -> Plane
+pub(crate) fn cutting_plane(points: &[Point]) -> Plane
     requires { length points.now ≤ MOST_FACES + 2 }
     ensures { result ≡ plane_of points.now }
 {
     let x = area_within(Axis::X, points);
     let y = area_within(Axis::Y, points);
     let z = area_within(Axis::Z, points);
-    largest(x, y, z)
+    plane_by_areas(x, y, z, points)
 }

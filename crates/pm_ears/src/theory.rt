@@ -8,6 +8,7 @@ ghost use Rattle.pm_ears.specs.Laws.{
   UprightUnlessTold,
   OverlapsAreTold,
   PolygonsAreShownLargest,
+  PolygonsAreJudgedWhereSeen,
   RecutsAreAsMany,
   UprightFansStay,
   AreWorked,
@@ -24,6 +25,7 @@ pub fn ears_are_sound()
     ensures upright { UprightUnlessTold }
     ensures told { OverlapsAreTold }
     ensures shown { PolygonsAreShownLargest }
+    ensures seen { PolygonsAreJudgedWhereSeen }
     ensures as_many { RecutsAreAsMany }
     ensures stay { UprightFansStay }
     ensures worked { AreWorked }

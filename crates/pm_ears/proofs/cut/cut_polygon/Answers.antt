@@ -8,5 +8,5 @@ returns c =
     let places = c.args.places.now in
     cut_seen places c.deref.result.now c.cut_spots.result
     (c.deref.ensures.value ∙ c.in_ok-spots.ensures
-    ∙ ap (λ plane. spots_on plane 0 places) c.largest_plane.ensures)
+    ∙ ap (λ plane. spots_on plane 0 places) c.cutting_plane.ensures)
     c.cut_spots.ensures.kind c.cut_spots.ensures.triangles

@@ -2,7 +2,8 @@ use Rattle.std.proofs.Common.{◌≡◌, true, false, Some, None, sym, ap, ◌�
 use Rattle.std.specs.Prelude.{map}
 use Rattle.std.specs.List.{list_any}
 use Rattle.std.specs.Option.{option_map}
-use Rattle.pm_ears.specs.Cutting.{fan, few_ears, is_turned_over, named}
+use Rattle.pm_ears.specs.Fans.{fan}
+use Rattle.pm_ears.specs.Cutting.{few_ears, is_turned_over, named}
 use Rattle.pm_ears.proofs.Cuts.{cut_by_fan, cut_by_ears, cut_by_none}
 use Rattle.pm_ears.proofs.cut.cut_spots.Goals as goal
 

@@ -4,7 +4,8 @@ use Rattle.std.proofs.lemmas.List.{append-nil}
 use Rattle.pm_base.specs.declared.mesh.Corners.{Corners}
 use Rattle.pm_ears.specs.declared.spots.Triangle.{Triangle}
 use Rattle.pm_ears.specs.Areas.{nowhere}
-use Rattle.pm_ears.specs.Cutting.{fan_from, named}
+use Rattle.pm_ears.specs.Fans.{fan_from}
+use Rattle.pm_ears.specs.Cutting.{named}
 use Rattle.pm_ears.proofs.Rows.{fan_begins, fan_more, fan_ends}
 use Rattle.pm_ears.proofs.fan.fan.Goals as goal
 

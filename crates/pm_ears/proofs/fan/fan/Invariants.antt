@@ -1,6 +1,7 @@
 use Rattle.std.proofs.Common.{◌≡◌, ◌++◌, drop, slice_index_or, map}
 use Rattle.pm_ears.specs.Areas.{nowhere}
-use Rattle.pm_ears.specs.Cutting.{fan, fan_from, named}
+use Rattle.pm_ears.specs.Fans.{fan, fan_from}
+use Rattle.pm_ears.specs.Cutting.{named}
 use Rattle.pm_ears.proofs.fan.fan.Given as goal
 
 abbrev pub invariant-loop-i : goal.invariant-loop-i

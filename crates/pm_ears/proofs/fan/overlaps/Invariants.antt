@@ -1,7 +1,8 @@
 use Rattle.std.proofs.Common.{◌≡◌, drop, slice_index_or}
 use Rattle.std.specs.List.{list_any}
 use Rattle.pm_ears.specs.Areas.{nowhere}
-use Rattle.pm_ears.specs.Cutting.{fan, fan_from, is_turned_over}
+use Rattle.pm_ears.specs.Fans.{fan, fan_from}
+use Rattle.pm_ears.specs.Cutting.{is_turned_over}
 use Rattle.pm_ears.proofs.fan.overlaps.Given as goal
 
 abbrev pub invariant-loop-i : goal.invariant-loop-i
