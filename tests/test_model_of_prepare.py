@@ -46,11 +46,17 @@ class Preparing(unittest.TestCase):
         done = answer("prepare", ["10"], (points + "f 1 2 3\nf 1 4 3\nf 1 5 3\n").encode())
         self.assertIn("prepare: vertices joined 2, 1 of them by rounding\n", done.error)
 
-    def test_of_a_strip_the_fewer_faces_are_turned(self) -> None:
+    def test_of_a_strip_the_lesser_area_is_turned(self) -> None:
         points = "v 0 0 0\nv 0 9 0\nv 9 0 0\nv 9 9 0\nv 18 0 0\n"
         done = answer("prepare", [], (points + "f 1 2 3\nf 2 3 4\nf 3 5 4\n").encode())
         self.assertIn(b"f 1 3 2\nf 2 3 4\nf 3 5 4\n", done.output)
         self.assertEqual(done.error, "prepare: faces turned 1\n")
+
+    def test_faces_without_area_follow_the_others(self) -> None:
+        points = "v 0 0 0\nv 10 0 0\nv 0 10 0\nv 5 0 0\nv 7 0 0\n"
+        done = answer("prepare", [], (points + "f 1 2 4\nf 4 2 5\nf 1 2 3\n").encode())
+        self.assertIn(b"f 1 4 2\nf 4 5 2\nf 1 2 3\n", done.output)
+        self.assertEqual(done.error, "prepare: faces turned 2\nprepare: faces without area 2\n")
 
     def test_a_closed_surface_of_which_a_face_is_turned_looks_outward(self) -> None:
         points = "v 0 0 0\nv 10 0 0\nv 0 10 0\nv 0 0 10\n"

@@ -15,6 +15,7 @@ from .mesh import (
     coordinate_text,
     ends,
     following,
+    normal,
     numbered,
     sides,
 )
@@ -148,6 +149,12 @@ def volume(faces: List[Corners], places: Dict[int, Point]) -> int:
     return sum
 
 
+def area(face: Corners, places: Dict[int, Point]) -> int:
+    """Twice the areas of what a face shows along the three axes, added up."""
+    a, b, c = [places[v] for v in face]
+    return sum(map(abs, normal(a, b, c)))
+
+
 class Turning(NamedTuple):
     """Which faces are turned round; how many lie in patches of which no way round agrees; and how
     many closed patches that agree as they are look inward."""
@@ -159,7 +166,7 @@ class Turning(NamedTuple):
 
 def turning(faces: List[Corners], places: Dict[int, Point]) -> Turning:
     """Faces are turned round so that neighbours agree. Of the two ways round of a patch the one
-    that turns fewer faces is taken, of two equal ones that by which the least face stays; of a
+    that turns less area is taken, of two equal ones that by which the least face stays; of a
     closed patch in which neighbours clash, and that has a volume, the one that looks outward.
     Where neighbours can't be made to agree no face is turned."""
     beside = neighbours(faces)
@@ -179,7 +186,9 @@ def turning(faces: List[Corners], places: Dict[int, Point]) -> Turning:
         if not any(odd.values()):
             inside_out += closed and within < 0
             continue
-        back = within < 0 if closed and within else 2 * sum(odd.values()) > len(odd)
+        areas = {f: area(faces[f], places) for f in odd}
+        wrong = sum(areas[f] for f in odd if odd[f])
+        back = within < 0 if closed and within else 2 * wrong > sum(areas.values())
         for f in odd:
             flags[f] = odd[f] != back
     return Turning(flags, twisted, inside_out)
