@@ -1,5 +1,5 @@
 //! The active nodes and their places.
-ghost use Rattle.std.specs.Prelude.{◌≡◌, ◌+◌, ◌*◌, ◌≤◌, ◌<◌, ◌∷◌, [], ◌++◌, length, take};
+ghost use Rattle.std.specs.Prelude.{◌≡◌, ◌+◌, ◌*◌, ◌≤◌, ◌<◌, ◌∷◌, [], ◌++◌, length, take, drop};
 ghost use Rattle.pm_base.specs.Counts.{set_of};
 ghost use Rattle.pm_forest.specs.Forest.{node_count};
 ghost use Rattle.pm_front.specs.Shown.{active_nodes};
@@ -17,6 +17,9 @@ fn store_node(front: &Front, node: u32, count: usize, nodes: &mut [u32], places:
     ensures node { take (count + 1) nodes.new ≡ take count nodes.old ++ node ∷ [] }
     ensures place { take (3 * (count + 1)) places.new
         ≡ take (3 * count) places.old ++ coordinates_of front.now.h node }
+    ensures nodes_behind { drop (count + 1) nodes.new ≡ drop (count + 1) nodes.old }
+    ensures places_behind { drop (3 * (count + 1)) places.new
+        ≡ drop (3 * (count + 1)) places.old }
     ensures nodes_len { length nodes.new ≡ length nodes.old }
     ensures places_len { length places.new ≡ length places.old }
 {
