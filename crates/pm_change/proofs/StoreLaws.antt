@@ -1,6 +1,7 @@
 -- The numbers of a set, stored one after the other, and a change from the sets of its numbers.
 use Rattle.std.proofs.Common.{◌≡◌, ℕ, ℤ, ◌+◌, ◌*◌, ◌<◌, ◌≤◌, Bool, true, List, [], ◌∷◌, ◌++◌}
-use Rattle.std.proofs.Common.{length, take, filter, map, refl, sym, ap, ◌∙◌, arith}
+use Rattle.std.proofs.Common.{length, take, drop, filter, map, refl, sym, ap, ◌∙◌, subst}
+use Rattle.std.proofs.Common.{arith}
 use Rattle.std.specs.List.{flat_map}
 use Rattle.pm_base.specs.Counts.{set_of, numbers_below}
 use Rattle.pm_base.proofs.Counts.{count_le}
@@ -16,7 +17,7 @@ use Rattle.pm_morph.specs.Laws.{shown_face_at}
 use Rattle.pm_change.specs.declared.sets.ChangeSets.{ChangeSets}
 use Rattle.pm_change.specs.Shown.{shown_node_at, node_number, face_number}
 use Rattle.pm_change.specs.Changes.{is_gone_face, is_gone_node, is_new_node, is_put, change_of}
-use Rattle.pm_change.specs.Arrays.{coordinates, corner_nodes, BeginWith}
+use Rattle.pm_change.specs.Arrays.{coordinates, corner_nodes, BeginWith, LeavesBehind}
 use Rattle.pm_change.specs.Gathering.{numbers_in, size_of, AreSetsOf}
 use Rattle.pm_change.specs.Storing.{change_in}
 use Rattle.pm_change.proofs.Counting.{length-map}
@@ -109,6 +110,35 @@ module _ (h : Hierarchy) (G : ℕ → Bool) (sets : ChangeSets) where
             ∙ sym (map-map_back face_number (shown_face_at h G) (λ v. refl) p);
         put_corners_are = ap (λ k. take (3 * k) put_corners) put ∙ f
             ∙ sym (flat_map-map corner_nodes (shown_face_at h G) p);
+      }
+
+  -- What stays behind them stays behind the change.
+  pub leaves : (gone_faces gone_nodes new_nodes : List ℕ) (new_places : List ℤ)
+      (put_faces put_corners : List ℕ) (gone_faces_now gone_nodes_now new_nodes_now : List ℕ)
+      (new_places_now : List ℤ) (put_faces_now put_corners_now : List ℕ)
+      → drop (size_of sets.gone_faces) gone_faces_now ≡ drop (size_of sets.gone_faces) gone_faces
+      → drop (size_of sets.gone_nodes) gone_nodes_now ≡ drop (size_of sets.gone_nodes) gone_nodes
+      → drop (size_of sets.new_nodes) new_nodes_now ≡ drop (size_of sets.new_nodes) new_nodes
+      → drop (3 * size_of sets.new_nodes) new_places_now
+      ≡ drop (3 * size_of sets.new_nodes) new_places
+      → drop (size_of sets.put_faces) put_faces_now ≡ drop (size_of sets.put_faces) put_faces
+      → drop (3 * size_of sets.put_faces) put_corners_now
+      ≡ drop (3 * size_of sets.put_faces) put_corners
+      → LeavesBehind (change_in h G sets) gone_faces gone_nodes new_nodes new_places put_faces
+      put_corners gone_faces_now gone_nodes_now new_nodes_now new_places_now put_faces_now
+      put_corners_now
+  leaves gone_faces gone_nodes new_nodes new_places put_faces put_corners gone_faces_now
+      gone_nodes_now new_nodes_now new_places_now put_faces_now put_corners_now a b c d e f =
+      let new = sym (length-map (shown_node_at h) (numbers_in sets.new_nodes)) in
+      let put = sym (length-map (shown_face_at h G) (numbers_in sets.put_faces)) in
+      record {
+        gone_faces_stay = a;
+        gone_nodes_stay = b;
+        new_nodes_stay = subst (λ k. drop k new_nodes_now ≡ drop k new_nodes) new c;
+        new_places_stay = subst (λ k. drop (3 * k) new_places_now ≡ drop (3 * k) new_places) new d;
+        put_faces_stay = subst (λ k. drop k put_faces_now ≡ drop k put_faces) put e;
+        put_corners_stay = subst (λ k. drop (3 * k) put_corners_now ≡ drop (3 * k) put_corners)
+            put f;
       }
 
   -- Sets that have the numbers of a change have that change.

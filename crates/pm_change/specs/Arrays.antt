@@ -1,5 +1,5 @@
 -- A change as arrays of numbers.
-use Rattle.std.specs.Prelude.{◌≡◌, ℕ, ℤ, ◌*◌, ◌≤◌, List, [], ◌∷◌, length, map, take}
+use Rattle.std.specs.Prelude.{◌≡◌, ℕ, ℤ, ◌*◌, ◌≤◌, List, [], ◌∷◌, length, map, take, drop}
 use Rattle.std.specs.List.{flat_map}
 use Rattle.pm_morph.specs.Laws.{ShownFace}
 use Rattle.pm_change.specs.Shown.{ShownNode, node_number, face_number}
@@ -43,3 +43,19 @@ pub record BeginWith (c : Change) (gone_faces gone_nodes new_nodes : List ℕ)
   pub put_faces_are : take (length c.put_faces) put_faces ≡ map face_number c.put_faces
   pub put_corners_are : take (3 * length c.put_faces) put_corners ≡ flat_map corner_nodes
       c.put_faces
+
+-- Behind a change, arrays are as they were.
+pub record LeavesBehind (c : Change) (gone_faces gone_nodes new_nodes : List ℕ)
+    (new_places : List ℤ) (put_faces put_corners : List ℕ)
+    (gone_faces_now gone_nodes_now new_nodes_now : List ℕ)
+    (new_places_now : List ℤ) (put_faces_now put_corners_now : List ℕ) : Type 0 where
+  pub gone_faces_stay : drop (length c.gone_faces) gone_faces_now
+      ≡ drop (length c.gone_faces) gone_faces
+  pub gone_nodes_stay : drop (length c.gone_nodes) gone_nodes_now
+      ≡ drop (length c.gone_nodes) gone_nodes
+  pub new_nodes_stay : drop (length c.new_nodes) new_nodes_now ≡ drop (length c.new_nodes) new_nodes
+  pub new_places_stay : drop (3 * length c.new_nodes) new_places_now
+      ≡ drop (3 * length c.new_nodes) new_places
+  pub put_faces_stay : drop (length c.put_faces) put_faces_now ≡ drop (length c.put_faces) put_faces
+  pub put_corners_stay : drop (3 * length c.put_faces) put_corners_now
+      ≡ drop (3 * length c.put_faces) put_corners

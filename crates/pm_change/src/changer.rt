@@ -8,7 +8,7 @@ ghost use Rattle.pm_change.specs.Room.{room_of};
 ghost use Rattle.pm_change.specs.Texts.{change_text};
 ghost use Rattle.pm_change.specs.Costs.{most_steps};
 ghost use Rattle.pm_change.specs.Changes.{change_of};
-ghost use Rattle.pm_change.specs.Arrays.{sizes_of_change, ChangeFits, BeginWith};
+ghost use Rattle.pm_change.specs.Arrays.{sizes_of_change, ChangeFits, BeginWith, LeavesBehind};
 ghost use Rattle.pm_change.specs.Gathering.{AreEmptySets, AreSetsOf, HaveRoomFor};
 
 use crate::OutOfMemory;
@@ -190,6 +190,11 @@ impl Changer {
             (set_of front.now.flags) in
             OnOk result (BeginWith c gone_faces.new gone_nodes.new new_nodes.new new_places.new
             put_faces.new put_corners.new) }
+        ensures behind { let c = change_of front.now.h (set_of marks.now)
+            (set_of front.now.flags) in
+            OnOk result (LeavesBehind c gone_faces.old gone_nodes.old new_nodes.old new_places.old
+            put_faces.old put_corners.old gone_faces.new gone_nodes.new new_nodes.new
+            new_places.new put_faces.new put_corners.new) }
         ensures unwritten { OnErr result ((gone_faces.new ≡ gone_faces.old)
             × (gone_nodes.new ≡ gone_nodes.old) × (new_nodes.new ≡ new_nodes.old)
             × (new_places.new ≡ new_places.old) × (put_faces.new ≡ put_faces.old)

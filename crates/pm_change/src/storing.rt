@@ -1,5 +1,6 @@
 //! Stores a change in arrays, from the sets of its numbers.
-ghost use Rattle.std.specs.Prelude.{◌≡◌, ◌≤◌, ◌*◌, ℕ, true, length, take, IfOk, IfErr, OnOk, OnErr};
+ghost use Rattle.std.specs.Prelude.{◌≡◌, ◌≤◌, ◌*◌, ℕ, true, length, take, drop};
+ghost use Rattle.std.specs.Prelude.{IfOk, IfErr, OnOk, OnErr};
 ghost use Rattle.std.specs.List.{flat_map};
 ghost use Rattle.pm_base.specs.declared.limits.TheConstants.{MOST_NODES};
 ghost use Rattle.pm_base.specs.Counts.{set_of};
@@ -7,7 +8,7 @@ ghost use Rattle.pm_forest.specs.Forest.{node_count};
 ghost use Rattle.pm_forest.specs.Faces.{face_count};
 ghost use Rattle.pm_forest.specs.Kept.{is_kept};
 ghost use Rattle.pm_arrays.specs.Arrays.{coordinates_of, face_nodes};
-ghost use Rattle.pm_change.specs.Arrays.{sizes_of_change, ChangeFits, BeginWith};
+ghost use Rattle.pm_change.specs.Arrays.{sizes_of_change, ChangeFits, BeginWith, LeavesBehind};
 ghost use Rattle.pm_change.specs.Gathering.{numbers_in, size_of, HaveRoomFor};
 ghost use Rattle.pm_change.specs.Storing.{change_in};
 
@@ -22,7 +23,8 @@ use pm_sets::NumberSet;
 fn store_numbers(numbers: &NumberSet, to: &mut [u32])
     requires few { length numbers.now ≤ MOST_NODES }
     requires room { size_of numbers.now ≤ length to.old }
-    ensures { take (size_of numbers.now) to.new ≡ numbers_in numbers.now }
+    ensures stored { take (size_of numbers.now) to.new ≡ numbers_in numbers.now }
+    ensures behind { drop (size_of numbers.now) to.new ≡ drop (size_of numbers.now) to.old }
 {
     let mut count = 0;
     let mut from = 0;
@@ -37,8 +39,9 @@ fn store_numbers(numbers: &NumberSet, to: &mut [u32])
 fn store_places(front: &Front, nodes: &NumberSet, to: &mut [i32])
     requires there { length nodes.now ≡ node_count front.now.h }
     requires room { 3 * size_of nodes.now ≤ length to.old }
-    ensures { take (3 * size_of nodes.now) to.new
+    ensures stored { take (3 * size_of nodes.now) to.new
         ≡ flat_map (coordinates_of front.now.h) (numbers_in nodes.now) }
+    ensures behind { drop (3 * size_of nodes.now) to.new ≡ drop (3 * size_of nodes.now) to.old }
 {
     front.invariant();
     let mut count = 0;
@@ -56,8 +59,9 @@ fn store_corners(front: &Front, faces: &NumberSet, to: &mut [u32])
     requires kept { (f : ℕ) → set_of faces.now f ≡ true
         → is_kept front.now.h (set_of front.now.flags) f ≡ true }
     requires room { 3 * size_of faces.now ≤ length to.old }
-    ensures { take (3 * size_of faces.now) to.new
+    ensures stored { take (3 * size_of faces.now) to.new
         ≡ flat_map (face_nodes front.now.h (set_of front.now.flags)) (numbers_in faces.now) }
+    ensures behind { drop (3 * size_of faces.now) to.new ≡ drop (3 * size_of faces.now) to.old }
 {
     front.invariant();
     let mut count = 0;
@@ -98,6 +102,10 @@ pub(crate) fn store_sets(
         IfErr result (λ s. s ≡ sizes_of_change c) }
     ensures arrays { let c = change_in front.now.h (set_of front.now.flags) sets.now in
         OnOk result (BeginWith c gone_faces.new gone_nodes.new new_nodes.new new_places.new
+        put_faces.new put_corners.new) }
+    ensures behind { let c = change_in front.now.h (set_of front.now.flags) sets.now in
+        OnOk result (LeavesBehind c gone_faces.old gone_nodes.old new_nodes.old new_places.old
+        put_faces.old put_corners.old gone_faces.new gone_nodes.new new_nodes.new new_places.new
         put_faces.new put_corners.new) }
     ensures unwritten { OnErr result ((gone_faces.new ≡ gone_faces.old)
         × (gone_nodes.new ≡ gone_nodes.old) × (new_nodes.new ≡ new_nodes.old)

@@ -1,4 +1,4 @@
-use Rattle.std.proofs.Common.{◌≡◌, ◌≤◌, ◌-◌, ◌*◌, filter, length, take}
+use Rattle.std.proofs.Common.{◌≡◌, ◌≤◌, ◌-◌, ◌*◌, filter, length, take, drop}
 use Rattle.std.specs.List.{flat_map}
 use Rattle.pm_base.specs.Counts.{set_of, numbers_below}
 use Rattle.pm_arrays.specs.Arrays.{face_nodes}
@@ -11,6 +11,7 @@ invariant-loop-face l = record {
   stored : take (3 * l.count) l.to
       ≡ flat_map (face_nodes l.front.h (set_of l.front.flags))
       (filter (set_of l.faces) (numbers_below l.from));
+  behind : drop (3 * l.count) l.to ≡ drop (3 * l.count) l.fn.to;
   len : length l.to ≡ length l.fn.to;
 }
 

@@ -1,4 +1,5 @@
-use Rattle.std.proofs.Common.{List, ℕ, [], ◌∷◌, ◌+◌, ◌*◌, length, take, ap, sym, ◌∙◌, arith}
+use Rattle.std.proofs.Common.{◌≡◌, List, ℕ, [], ◌∷◌, ◌+◌, ◌*◌, length, take, drop, ap, sym, ◌∙◌}
+use Rattle.std.proofs.Common.{subst, arith}
 use Rattle.std.specs.List.{flat_map}
 use Rattle.pm_sets.proofs.FlagLaws.{in_below}
 use Rattle.pm_base.specs.Place.{Place}
@@ -6,6 +7,7 @@ use Rattle.pm_forest.specs.Forest.{Hierarchy, node_count}
 use Rattle.pm_forest.specs.Places.{place_of_node}
 use Rattle.pm_arrays.specs.Arrays.{coordinates_of}
 use Rattle.pm_change.proofs.PartLaws.{nodes_most}
+use Rattle.pm_arrays.proofs.StoreLaws.{further_behind}
 use Rattle.pm_change.proofs.StoreLaws.{one_more, has_room, threes_more, all_numbers}
 use Rattle.pm_change.proofs.storing.store_places.Goals as goal
 
@@ -42,13 +44,24 @@ loop-node-preserved c =
       stored = threes_more flags c.loop-node.from node first (coordinates_of c.args.front.now.h)
           c.loop-node.count c.loop-node.to c.store_place.new.to _
           (ap (λ (p : Place). p.x ∷ p.y ∷ p.z ∷ []) place) i.stored c.store_place.ensures.stored;
+      behind = c.store_place.ensures.behind
+          ∙ further_behind (3 * c.loop-node.count) (3 * (c.loop-node.count + 1)) c.loop-node.to
+          c.args.to.now (omega arith) i.behind;
       len = c.store_place.ensures.len ∙ i.len;
     }
 
-pub returns : goal.returns
-returns c =
+pub returns-clause-stored : goal.returns-clause-stored
+returns-clause-stored c =
     let i = c.loop-node.invariant in
     let all = all_numbers c.args.nodes.now c.loop-node.from i.within
     c.in_default.ensures.none in
     ap (λ n. take (3 * n) c.loop-node.to) (ap (λ (l : List ℕ). length l) all ∙ sym i.counted)
     ∙ i.stored ∙ sym (ap (λ (l : List ℕ). flat_map (coordinates_of c.args.front.now.h) l) all)
+
+pub returns-clause-behind : goal.returns-clause-behind
+returns-clause-behind c =
+    let i = c.loop-node.invariant in
+    let all = all_numbers c.args.nodes.now c.loop-node.from i.within
+    c.in_default.ensures.none in
+    subst (λ n. drop (3 * n) c.loop-node.to ≡ drop (3 * n) c.args.to.now)
+    (i.counted ∙ sym (ap (λ (l : List ℕ). length l) all)) i.behind

@@ -1,4 +1,4 @@
-use Rattle.std.proofs.Common.{◌≡◌, ◌≤◌, ◌-◌, ◌*◌, filter, length, take}
+use Rattle.std.proofs.Common.{◌≡◌, ◌≤◌, ◌-◌, ◌*◌, filter, length, take, drop}
 use Rattle.std.specs.List.{flat_map}
 use Rattle.pm_base.specs.Counts.{set_of, numbers_below}
 use Rattle.pm_arrays.specs.Arrays.{coordinates_of}
@@ -10,6 +10,7 @@ invariant-loop-node l = record {
   counted : l.count ≡ length (filter (set_of l.nodes) (numbers_below l.from));
   stored : take (3 * l.count) l.to
       ≡ flat_map (coordinates_of l.front.h) (filter (set_of l.nodes) (numbers_below l.from));
+  behind : drop (3 * l.count) l.to ≡ drop (3 * l.count) l.fn.to;
   len : length l.to ≡ length l.fn.to;
 }
 

@@ -2,7 +2,7 @@ use Rattle.std.proofs.Common.{◌≡◌, length, IfOk, IfErr, OnOk, OnErr, subst
 use Rattle.pm_base.specs.Counts.{set_of}
 use Rattle.pm_change.specs.declared.fitting.ChangeSizes.{ChangeSizes}
 use Rattle.pm_change.specs.Changes.{Change}
-use Rattle.pm_change.specs.Arrays.{sizes_of_change, ChangeFits, BeginWith}
+use Rattle.pm_change.specs.Arrays.{sizes_of_change, ChangeFits, BeginWith, LeavesBehind}
 use Rattle.pm_change.proofs.StoreLaws.{change_in-is, puts_kept}
 use Rattle.pm_change.proofs.changer.Changer.store.Goals as goal
 
@@ -53,3 +53,13 @@ returns-clause-arrays c =
     n.new_nodes n.new_places n.put_faces n.put_corners))
     (change_in-is a.front.now.h (set_of a.front.now.flags) c.gather_uncounted.new.sets
     (set_of a.marks.now) c.gather_uncounted.ensures) c.store_sets-told.ensures.arrays
+
+pub returns-clause-behind : goal.returns-clause-behind
+returns-clause-behind c =
+    let a = c.args in
+    let n = c.store_sets-told.new in
+    subst (λ (d : Change). OnOk c.store_sets-told.result (LeavesBehind d a.gone_faces.now
+    a.gone_nodes.now a.new_nodes.now a.new_places.now a.put_faces.now a.put_corners.now
+    n.gone_faces n.gone_nodes n.new_nodes n.new_places n.put_faces n.put_corners))
+    (change_in-is a.front.now.h (set_of a.front.now.flags) c.gather_uncounted.new.sets
+    (set_of a.marks.now) c.gather_uncounted.ensures) c.store_sets-told.ensures.behind
