@@ -85,7 +85,7 @@ border_made m start target h is firm T closed =
     (spared_shown m start is.log known.run spares shape T same)
 
 -- A hierarchy that is made of a text is made of its mesh.
-made_of :
+pub made_of :
     (Makes : Mesh → Hierarchy → Type 0) (digits : ℕ) (bytes : List ℕ) (h : Hierarchy)
     (r : Result Hierarchy Fault) (place : Option ℕ) → r ≡ Ok h → place ≡ None →
     IsMadeOf Makes digits bytes r place → (m : Mesh) × IsSurfaceRead digits bytes (Ok m) None
@@ -114,6 +114,7 @@ border_shown target digits bytes old new h is firm shown =
     let start : IsStartOfRun m = surface_starts digits bytes (Ok m) None read in
     record {
       shown = shown;
+      firm = whole;
       m = m;
       read = read;
       frames = λ grammar budget front.
