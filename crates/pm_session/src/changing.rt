@@ -1,6 +1,6 @@
 //! Hands out what changed since the marked front as arrays.
 ghost use Rattle.std.specs.Prelude.{◌≡◌, length, IfOk, IfErr, OnOk, OnErr};
-ghost use Rattle.pm_change.specs.Arrays.{sizes_of_change, ChangeFits, BeginWith};
+ghost use Rattle.pm_change.specs.Arrays.{sizes_of_change, ChangeFits, BeginWith, LeavesBehind};
 ghost use Rattle.pm_session.specs.Script.{now_marked};
 ghost use Rattle.pm_session.specs.Session.{state_of, change_since};
 
@@ -30,6 +30,9 @@ impl Session {
         ensures sizes { IfOk result (λ s. s ≡ sizes_of_change (change_since self.old)) }
         ensures wanted { IfErr result (λ s. s ≡ sizes_of_change (change_since self.old)) }
         ensures arrays { OnOk result (BeginWith (change_since self.old) gone_faces.new
+            gone_nodes.new new_nodes.new new_places.new put_faces.new put_corners.new) }
+        ensures behind { OnOk result (LeavesBehind (change_since self.old) gone_faces.old
+            gone_nodes.old new_nodes.old new_places.old put_faces.old put_corners.old gone_faces.new
             gone_nodes.new new_nodes.new new_places.new put_faces.new put_corners.new) }
         ensures marked { OnOk result (state_of self.new ≡ now_marked (state_of self.old)) }
         ensures same { (self.new.h ≡ self.old.h) × (self.new.grammar ≡ self.old.grammar) }

@@ -19,7 +19,7 @@ ghost use Rattle.pm_morph.specs.Marks.{AreMarksOf};
 ghost use Rattle.pm_change.specs.Texts.{change_text};
 ghost use Rattle.pm_change.specs.Changes.{change_of};
 ghost use Rattle.pm_change.specs.Room.{room_of};
-ghost use Rattle.pm_change.specs.Arrays.{sizes_of_change, ChangeFits, BeginWith};
+ghost use Rattle.pm_change.specs.Arrays.{sizes_of_change, ChangeFits, BeginWith, LeavesBehind};
 ghost use Rattle.pm_session.specs.Script.{adapted_to, after_view};
 ghost use Rattle.pm_session.specs.Level.{split_count, greatest_error, greatest_deviation};
 ghost use Rattle.pm_session.specs.Session.{AreToolsOf, HasItsMeasures};
@@ -41,9 +41,8 @@ use std::alloc::{AllocError, Global};
 use std::marker::{Brand, Model};
 use std::sync::ledger::{Blank, Ledger};
 
-/// The tools of a session: the measures of the nodes, and what adapts fronts to views, measures the
-/// mesh that a front shows, picks faces, and writes strips and changes. `new` takes all the memory
-/// that they want.
+/// The tools of a session: the measures of the nodes, what adapts fronts to views, and what reads
+/// fronts. `new` takes all the memory that they want.
 #[derive(Drop)]
 pub(crate) struct Tools {
     measures: Measures,
@@ -66,8 +65,7 @@ impl Model for Tools {
     } };
 }
 
-// What reads the mesh that a front shows: measures it, picks its faces, writes its strips and what
-// changed of it.
+// What reads the mesh that a front shows.
 #[derive(Drop)]
 struct Readers {
     tracer: Tracer,
@@ -277,6 +275,10 @@ impl Tools {
             (set_of front.now.flags) in
             OnOk result (BeginWith c gone_faces.new gone_nodes.new new_nodes.new new_places.new
             put_faces.new put_corners.new) }
+        ensures behind { OnOk result (LeavesBehind
+            (change_of front.now.h (set_of marks.now) (set_of front.now.flags)) gone_faces.old
+            gone_nodes.old new_nodes.old new_places.old put_faces.old put_corners.old gone_faces.new
+            gone_nodes.new new_nodes.new new_places.new put_faces.new put_corners.new) }
         ensures unwritten { OnErr result ((gone_faces.new ≡ gone_faces.old)
             × (gone_nodes.new ≡ gone_nodes.old) × (new_nodes.new ≡ new_nodes.old)
             × (new_places.new ≡ new_places.old) × (put_faces.new ≡ put_faces.old)
