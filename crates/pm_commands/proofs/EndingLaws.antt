@@ -1,6 +1,7 @@
 -- What a status says of how a command ended.
-use Rattle.std.proofs.Common.{◌≡◌, ◌⊎◌, inl, inr, ℕ, ◌-◌, ◌^◌, ◌<◌, List, ◌++◌, Option, Some, None}
-use Rattle.std.proofs.Common.{Err, IfSome, refl, sym, ◌∙◌, ap, subst, arith}
+use Rattle.std.proofs.Common.{◌≡◌, ◌≢◌, ◌⊎◌, inl, inr, ℕ, ◌-◌, ◌^◌, ◌<◌, List, ◌++◌, Option}
+use Rattle.std.proofs.Common.{Some, None, Err, IfSome, refl, sym, ◌∙◌, ap, subst, arith}
+use Rattle.std.proofs.Common.{append_assoc}
 use Rattle.std.specs.Prelude.{codes}
 use Rattle.pm_io.specs.Causes.{Rose}
 use Rattle.pm_commands.specs.declared.fault.Fault.{Fault}
@@ -12,6 +13,10 @@ use Rattle.pm_commands.specs.FaultText.{fail_text, fault_text}
 use Rattle.pm_commands.specs.Outcome.{IsOutcome, OneOutcome, Replied, CutShort}
 use Rattle.pm_commands.specs.Ending.{ReadFails, Ends, Counts, Answers, status_of}
 use Rattle.pm_io.specs.Puts.{Said}
+use Rattle.pm_io.specs.Devices.{Tells}
+use Rattle.pm_io.specs.Endings.{CountsFaults, SaysEnding, Says}
+use Rattle.pm_io.specs.declared.device.Source as source
+use Rattle.pm_io.specs.declared.device.Sink as sink
 
 -- The words ask for one thing.
 pub one_asked : (asks : Option Asked) (a b : Asked) → asks ≡ Some a → asks ≡ Some b → a ≡ b
@@ -96,9 +101,11 @@ completes one asks (fails.Faulty f) status in_old in_new out_old out_new bytes a
     inl (subst (λ (o : Option Fault). Answers o status)
     (same_fault one asks bytes all (Some f) left old new is outcome ends) given)
 completes one asks fails.Read status in_old in_new out_old out_new bytes all left now old new is
-    outcome ends counts given in_same out_same in_few out_few = absurd (omega arith)
+    outcome ends counts given in_same out_same in_few out_few =
+    let rose : Rose in_old in_new = counts.0 in absurd (omega (arith, rose))
 completes one asks fails.Write status in_old in_new out_old out_new bytes all left now old new is
-    outcome ends counts given in_same out_same in_few out_few = absurd (omega arith)
+    outcome ends counts given in_same out_same in_few out_few =
+    let rose : Rose out_old out_new = counts.1 in absurd (omega (arith, rose))
 completes one asks fails.OutOfMemory status in_old in_new out_old out_new bytes all left now old new
     is outcome ends counts given in_same out_same in_few out_few = inr given
 
@@ -118,7 +125,7 @@ cut_of asks (fails.Faulty f) in_old in_new out_old out_new left now old new is e
 cut_of asks fails.Read in_old in_new out_old out_new left now old new is ends counts =
     absurd (omega arith)
 cut_of asks fails.Write in_old in_new out_old out_new left now old new is ends counts =
-    (counts, ends)
+    (counts.1, ends)
 cut_of asks fails.OutOfMemory in_old in_new out_old out_new left now old new is ends counts =
     absurd (omega arith)
 
@@ -127,3 +134,114 @@ write_of (fails.Faulty f) is = absurd (omega arith)
 write_of fails.Read is = absurd (omega arith)
 write_of fails.Write is = refl
 write_of fails.OutOfMemory is = absurd (omega arith)
+
+-- What became of the devices where a command ended early.
+
+pub fail_counts : {S K : Type 0} (s : source.Ghosts S) (k : sink.Ghosts K) (fail : CommandFail)
+    (status : ℕ) (input input_now : S) (out out_now : K) → status ≡ status_of fail
+    → Counts (Err fail) (s.faults input) (s.faults input_now) (k.faults out) (k.faults out_now)
+    → CountsFaults s k status input input_now out out_now
+fail_counts s k (fails.Faulty f) status input input_now out out_now given counts = record {
+  whole = λ is. counts;
+  faulty = λ is. counts;
+  words = λ is. counts;
+  read = λ is. absurd (omega (arith, given, is));
+  write = λ is. absurd (omega (arith, given, is));
+  memory = λ is. counts;
+}
+fail_counts s k fails.Read status input input_now out out_now given counts = record {
+  whole = λ is. absurd (omega (arith, given, is));
+  faulty = λ is. absurd (omega (arith, given, is));
+  words = λ is. absurd (omega (arith, given, is));
+  read = λ is. counts;
+  write = λ is. absurd (omega (arith, given, is));
+  memory = λ is. absurd (omega (arith, given, is));
+}
+fail_counts s k fails.Write status input input_now out out_now given counts = record {
+  whole = λ is. absurd (omega (arith, given, is));
+  faulty = λ is. absurd (omega (arith, given, is));
+  words = λ is. absurd (omega (arith, given, is));
+  read = λ is. absurd (omega (arith, given, is));
+  write = λ is. counts;
+  memory = λ is. absurd (omega (arith, given, is));
+}
+fail_counts s k fails.OutOfMemory status input input_now out out_now given counts = record {
+  whole = λ is. counts;
+  faulty = λ is. counts;
+  words = λ is. counts;
+  read = λ is. absurd (omega (arith, given, is));
+  write = λ is. absurd (omega (arith, given, is));
+  memory = λ is. counts;
+}
+
+-- What ends a command early has neither the status of what was done nor that of other words.
+ended : (fail : CommandFail) → (status_of fail ≢ 0) × (status_of fail ≢ 2)
+ended (fails.Faulty f) = (λ is. absurd (omega arith), λ is. absurd (omega arith))
+ended fails.Read = (λ is. absurd (omega arith), λ is. absurd (omega arith))
+ended fails.Write = (λ is. absurd (omega arith), λ is. absurd (omega arith))
+ended fails.OutOfMemory = (λ is. absurd (omega arith), λ is. absurd (omega arith))
+
+-- The line of a program is its name, and what comes after it.
+pub told_line : {E : Type 0} (e : sink.Ghosts E) (program text line : List ℕ) (err err_now : E)
+    → codes ": " ++ text ≡ line → Tells e err err_now (program ++ codes ": " ++ text)
+    → Tells e err err_now (program ++ line)
+told_line e program text line err err_now is told =
+    subst (λ (l : List ℕ). Tells e err err_now l)
+    (append_assoc program (codes ": ") text ∙ ap (λ (l : List ℕ). program ++ l) is) told
+
+pub fail_says : {E : Type 0} (e : sink.Ghosts E) (program : List ℕ) (fail : CommandFail)
+    (status : ℕ) (err err_now : E) → status ≡ status_of fail
+    → Tells e err err_now (program ++ codes ": " ++ fail_text fail)
+    → Says e program status err err_now
+fail_says e program fail status err err_now given told = record {
+  ending = record {
+    silent = λ is. absurd ((ended fail).0 (sym given ∙ is));
+    words = λ is. absurd ((ended fail).1 (sym given ∙ is));
+    read = λ is. told_line e program (fail_text fail) (codes ": read fault\n") err err_now
+        (ap (λ (l : List ℕ). codes ": " ++ l) (text_of_read fail (sym given ∙ is))) told;
+    write = λ is. told_line e program (fail_text fail) (codes ": write fault\n") err err_now
+        (ap (λ (l : List ℕ). codes ": " ++ l) (text_of_write fail (sym given ∙ is))) told;
+  };
+  memory = λ is. told_line e program (fail_text fail) (codes ": out of memory\n") err err_now
+      (ap (λ (l : List ℕ). codes ": " ++ l) (text_of_memory fail (sym given ∙ is))) told;
+}
+
+-- Where words can't be gathered no device is asked, and one line is said or none.
+
+pub ungathered_counts : {S K : Type 0} (s : source.Ghosts S) (k : sink.Ghosts K) (status : ℕ)
+    (input : S) (out : K) → (status ≡ 2) ⊎ (status ≡ 5)
+    → CountsFaults s k status input input out out
+ungathered_counts s k status input out either = record {
+  whole = λ is. (refl, refl);
+  faulty = λ is. (refl, refl);
+  words = λ is. (refl, refl);
+  read = λ is. elim either [
+    | inl two ↦ absurd (omega (arith, two, is))
+    | inr five ↦ absurd (omega (arith, five, is))
+  ];
+  write = λ is. elim either [
+    | inl two ↦ absurd (omega (arith, two, is))
+    | inr five ↦ absurd (omega (arith, five, is))
+  ];
+  memory = λ is. (refl, refl);
+}
+
+pub ungathered_says : {E : Type 0} (e : sink.Ghosts E) (program : List ℕ) (status : ℕ)
+    (err err_now : E) → (status ≡ 2) ⊎ (status ≡ 5)
+    → (status ≡ 2 → Tells e err err_now (program ++ codes ": words not understood\n"))
+    → SaysEnding e program status err err_now
+ungathered_says e program status err err_now either said = record {
+  silent = λ is. elim either [
+    | inl two ↦ absurd (omega (arith, two, is))
+    | inr five ↦ absurd (omega (arith, five, is))
+  ];
+  words = said;
+  read = λ is. elim either [
+    | inl two ↦ absurd (omega (arith, two, is))
+    | inr five ↦ absurd (omega (arith, five, is))
+  ];
+  write = λ is. elim either [
+    | inl two ↦ absurd (omega (arith, two, is))
+    | inr five ↦ absurd (omega (arith, five, is))
+  ];
+}

@@ -182,7 +182,7 @@ pub counts_stopped : {X : Type 0} (IsRead : List ℕ → Result X Fault → Opti
     → Type 0) (e : InputFail) (left now : Option (List ℕ)) (in_old in_new out : ℕ)
     → Stops IsRead e left now in_old in_new → Counts (Err (fail_of e)) in_old in_new out out
 counts_stopped IsRead (input.Faulty f) left now in_old in_new out stops = (stops.1, refl)
-counts_stopped IsRead input.Read left now in_old in_new out stops = stops.1
+counts_stopped IsRead input.Read left now in_old in_new out stops = (stops.1, refl)
 counts_stopped IsRead input.OutOfMemory left now in_old in_new out stops = (stops, refl)
 
 pub to_end : (asks : Asked) (left now : Option (List ℕ)) → AtEnd now → ReadToEnd asks left now

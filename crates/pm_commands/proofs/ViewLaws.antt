@@ -242,5 +242,6 @@ view_counts (serve_fails.NoRecord n) in_old in_mid in_new out_old out_new same c
 view_counts serve_fails.ScriptTooLong in_old in_mid in_new out_old out_new same counts =
     (counts.0 ∙ same, counts.1)
 view_counts serve_fails.Read in_old in_mid in_new out_old out_new same counts =
-    subst (λ (n : ℕ). Rose n in_new) same counts.0
-view_counts serve_fails.Write in_old in_mid in_new out_old out_new same counts = counts.1
+    (subst (λ (n : ℕ). Rose n in_new) same counts.0, counts.1)
+view_counts serve_fails.Write in_old in_mid in_new out_old out_new same counts =
+    (counts.0 ∙ same, counts.1)

@@ -113,13 +113,14 @@ Ends asks (Err fails.Write) left now old new = IfSome left (λ bytes. CutShort a
 Ends asks (Err fails.Read) left now old new = ReadFails asks left now old new
 Ends asks (Err fails.OutOfMemory) left now old new = new ≡ old
 
--- What the counts of the source and of the sink did then.
+-- What the counts of the source and of the sink did then: that of a device that failed rose, and no
+-- other did.
 abbrev pub Counts : Result (Unit {0}) CommandFail → ℕ → ℕ → ℕ → ℕ → Type 0
 Counts (Ok done) in_old in_new out_old out_new = (in_new ≡ in_old) × (out_new ≡ out_old)
 Counts (Err (fails.Faulty f)) in_old in_new out_old out_new = (in_new ≡ in_old)
     × (out_new ≡ out_old)
-Counts (Err fails.Write) in_old in_new out_old out_new = Rose out_old out_new
-Counts (Err fails.Read) in_old in_new out_old out_new = Rose in_old in_new
+Counts (Err fails.Write) in_old in_new out_old out_new = (in_new ≡ in_old) × Rose out_old out_new
+Counts (Err fails.Read) in_old in_new out_old out_new = Rose in_old in_new × (out_new ≡ out_old)
 Counts (Err fails.OutOfMemory) in_old in_new out_old out_new = (in_new ≡ in_old)
     × (out_new ≡ out_old)
 

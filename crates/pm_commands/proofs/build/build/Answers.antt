@@ -55,3 +55,9 @@ returns-in_err-put_stream-clause-ends g c =
     (follows_done (IsBuilt c.args.target c.args.digits)
     (λ h. whole_output (stream c.args.digits h)) _ c.in_ok-h.h None c.in_ok-h.ensures.built)
     c.in_err-put_stream.ensures.err)
+
+pub returns-in_err-put_stream-clause-counts : goal.returns-in_err-put_stream-clause-counts
+returns-in_err-put_stream-clause-counts g c =
+    let p = err_from_is_err_and c.from_residual-in_err-put_stream.result
+    c.from_residual-in_err-put_stream.ensures.1 in
+    rw (p.1, p.2) (c.in_ok-h.ensures.count, c.in_err-put_stream.ensures.cause.failed)

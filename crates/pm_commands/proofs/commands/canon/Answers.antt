@@ -42,3 +42,9 @@ returns-in_err-put_surface-clause-ends g c =
     (λ m. whole_output (canonical_text c.args.digits m)) _ c.in_ok-surface.surface None
     c.in_ok-surface.ensures.surface)
     c.in_err-put_surface.ensures.err)
+
+pub returns-in_err-put_surface-clause-counts : goal.returns-in_err-put_surface-clause-counts
+returns-in_err-put_surface-clause-counts g c =
+    let p = err_from_is_err_and c.from_residual-in_err-put_surface.result
+    c.from_residual-in_err-put_surface.ensures.1 in
+    rw (p.1, p.2) (c.in_ok-surface.ensures.count, c.in_err-put_surface.ensures.cause.failed)

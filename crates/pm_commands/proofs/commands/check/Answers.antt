@@ -48,4 +48,4 @@ pub returns-in_err-put_all-clause-counts : goal.returns-in_err-put_all-clause-co
 returns-in_err-put_all-clause-counts g c =
     let p = err_from_is_err_and c.from_residual-in_err-put_all.result
     c.from_residual-in_err-put_all.ensures.1 in
-    rw (p.1, p.2) c.in_err-put_all.ensures.cause.failed
+    rw (p.1, p.2) (c.in_ok-stream.ensures.count, c.in_err-put_all.ensures.cause.failed)

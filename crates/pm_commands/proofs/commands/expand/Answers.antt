@@ -72,4 +72,4 @@ pub returns-in_err-put_mesh-clause-counts : goal.returns-in_err-put_mesh-clause-
 returns-in_err-put_mesh-clause-counts g c =
     let p = err_from_is_err_and c.from_residual-in_err-put_mesh.result
     c.from_residual-in_err-put_mesh.ensures.1 in
-    rw (p.1, p.2) c.in_err-put_mesh.ensures.cause.failed
+    rw (p.1, p.2) (c.in_ok-stream.ensures.count, c.in_err-put_mesh.ensures.cause.failed)

@@ -67,3 +67,9 @@ returns-clause-meets g c = λ kept.
     (λ bytes. IsSimplifiedText b c.args.target c.args.digits bytes (Ok c.in_ok-h.h) None)) kept
     c.in_ok-h.ensures.made)
     c.requires.few c.in_ok-h.ensures.firm c.in_ok-put_stream.ensures.ok
+
+pub returns-in_err-put_stream-clause-counts : goal.returns-in_err-put_stream-clause-counts
+returns-in_err-put_stream-clause-counts g c =
+    let p = err_from_is_err_and c.from_residual-in_err-put_stream.result
+    c.from_residual-in_err-put_stream.ensures.1 in
+    rw (p.1, p.2) (c.in_ok-h.ensures.count, c.in_err-put_stream.ensures.cause.failed)
