@@ -15,8 +15,8 @@ CASES = Path(__file__).resolve().parent / "cases"
 ONCE = ("run", "status", "pieces", "memory", "seconds", "rows", "live")
 STEPS = ("in", "out", "through")
 DEVICES = {
-    "stdin": ("closed", "folder", "file", "open", "reset", "terminal"),
-    "stdout": ("closed", "full", "gone", "leaves", "room"),
+    "stdin": ("closed", "folder", "file", "open", "reset", "terminal", "interrupted"),
+    "stdout": ("closed", "full", "gone", "leaves", "room", "interrupted"),
     "stderr": ("closed", "full"),
 }
 SUM = re.compile(r"sum ([0-9a-f]{64}) (\d+)")

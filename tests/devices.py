@@ -6,11 +6,14 @@ then. tests/README.md tells what each device is.
 import fcntl
 import os
 import pty
+import signal
 import socket
 import struct
 import subprocess
 import tempfile
 import termios
+import time
+from pathlib import Path
 from typing import IO, Dict, List, Optional, Tuple, Union
 
 import builders
@@ -74,6 +77,10 @@ class Streams:
         # The file that the output goes to, and from which byte on, where it is no pipe.
         self.output: Optional[IO[bytes]] = None
         self.start = 0
+        # The other end of an output that has no room, and whether a call is still to be
+        # interrupted.
+        self.crowded: Optional[socket.socket] = None
+        self.interrupts = "interrupted" in (kind_of(case, "stdin"), kind_of(case, "stdout"))
 
     def open_input(self, whole: builders.Data) -> None:
         kind = kind_of(self.case, "stdin")
@@ -86,6 +93,10 @@ class Streams:
         elif kind == "terminal":
             self.writing, self.given["stdin"] = quiet_terminal()
             self.farewell = END_OF_TERMINAL
+        elif kind == "interrupted":
+            ours, theirs = interruptible()
+            self.given["stdin"], self.writing = theirs.detach(), ours.detach()
+            self.farewell = b""
         else:
             self.given["stdin"], self.writing = os.pipe()
             self.farewell = b"" if kind == "open" else None
@@ -100,6 +111,10 @@ class Streams:
             self.start = FILE_UNIT * units_for(room) - room
             file.seek(self.start)
             self.output = self.given["stdout"] = file
+        elif kind == "interrupted":
+            self.crowded, theirs = interruptible()
+            fill(theirs)
+            self.given["stdout"] = theirs.detach()
         else:
             self.reading, self.given["stdout"] = os.pipe()
         if kind == "gone":
@@ -128,7 +143,7 @@ class Streams:
 
     def all_arrived(self) -> bool:
         """Whether what was written came to the other end; a pipe has no way between."""
-        if self.writing is None or kind_of(self.case, "stdin") != "reset":
+        if self.writing is None or kind_of(self.case, "stdin") not in ("reset", "interrupted"):
             return True
         answer = fcntl.ioctl(self.writing, termios.TIOCOUTQ, b"\0" * 4)
         return struct.unpack("i", answer) == (0,)
@@ -147,6 +162,11 @@ class Streams:
         if self.errors is not None:
             os.close(self.errors)
         self.errors = None
+
+    def stop_crowding(self) -> None:
+        if self.crowded is not None:
+            self.crowded.close()
+        self.crowded = None
 
     def output_of_file(self) -> bytes:
         """What the program wrote to a file; nothing where its output is no file."""
@@ -174,6 +194,41 @@ def connection() -> Tuple[int, int]:
         reading, _ = server.accept()
     writing.setsockopt(socket.SOL_SOCKET, socket.SO_LINGER, struct.pack("ii", 1, 0))
     return reading.detach(), writing.detach()
+
+
+def interruptible() -> Tuple[socket.socket, socket.socket]:
+    """Our end of a connection and the program's, on which `interrupt` fails a call that waits.
+
+    So it is on Linux where a call has a limit of time, which is never reached here: else the call
+    goes on after the signal, as if there had been none.
+    """
+    ours, theirs = socket.socketpair()
+    for limit in (socket.SO_RCVTIMEO, socket.SO_SNDTIMEO):
+        theirs.setsockopt(socket.SOL_SOCKET, limit, struct.pack("ll", 3600, 0))
+    return ours, theirs
+
+
+def fill(end: socket.socket) -> None:
+    """Writes until there is no room."""
+    try:
+        while end.send(bytes(FILE_UNIT), socket.MSG_DONTWAIT):
+            pass
+    except BlockingIOError:
+        pass
+
+
+def state_of(process: "subprocess.Popen[bytes]") -> str:
+    """The letter of a process's state: `S` where it waits in a call."""
+    text = Path(f"/proc/{process.pid}/stat").read_text()
+    return text.rpartition(")")[2].split()[0]
+
+
+def interrupt(process: "subprocess.Popen[bytes]") -> None:
+    """Interrupts the call in which a process waits: it is stopped, and goes on."""
+    process.send_signal(signal.SIGSTOP)
+    while state_of(process) not in "TZ":
+        time.sleep(0.001)
+    process.send_signal(signal.SIGCONT)
 
 
 def quiet_terminal() -> Tuple[int, int]:

@@ -1,13 +1,14 @@
 """Runs a program as a case says, and answers what came of it."""
 import os
 import select
+import subprocess
 import time
 from typing import Iterator, List, NamedTuple, Optional, Tuple
 
 import builders
 from builders import Data
 from case_files import Case
-from devices import Streams, number_of
+from devices import Streams, interrupt, number_of, state_of
 from programs import unread, without_notice
 
 BLOCK = 65536
@@ -102,6 +103,16 @@ class Talk:
             else:
                 self.read_errors(end)
 
+    def interrupt(self, process: "subprocess.Popen[bytes]") -> None:
+        """Interrupts the call in which the program waits, where that is to be and all is read."""
+        self.next_block()
+        if not self.streams.interrupts or self.block or not self.streams.all_arrived():
+            return
+        if process.poll() is None and state_of(process) == "S":
+            interrupt(process)
+            self.streams.interrupts = False
+            self.streams.stop_writing()
+
     def is_over(self) -> bool:
         """Whether all that the program writes to pipes has come."""
         return self.streams.reading is None and self.streams.errors is None
@@ -110,6 +121,7 @@ class Talk:
         self.streams.stop_writing()
         self.streams.stop_reading()
         self.streams.stop_errors()
+        self.streams.stop_crowding()
         self.output += self.streams.output_of_file()
 
 
@@ -122,6 +134,7 @@ def run(case: Case, program: str, sends: List[Send]) -> Ended:
     try:
         while not (talk.is_over() and process.poll() is not None) and time.monotonic() < deadline:
             talk.step()
+            talk.interrupt(process)
     finally:
         status = process.poll()
         process.kill()

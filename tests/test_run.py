@@ -26,6 +26,17 @@ while True:
     if not piece:
         break
 """
+# Calls the C library until a call fails, since Python makes its own ones again after a signal.
+CALLER = """#!/usr/bin/env python3
+import ctypes, os
+libc = ctypes.CDLL(None, use_errno=True)
+room = ctypes.create_string_buffer(16)
+done = 1
+while done > 0:
+    done = libc.{call}
+    told = str(done) if done >= 0 else f"failed {{ctypes.get_errno()}}"
+    os.write(2, f"{{told}}\\n".encode())
+"""
 
 
 class Runner(unittest.TestCase):
@@ -131,6 +142,17 @@ class Devices(Runner):
     def test_a_terminal_is_ended_once(self) -> None:
         lines = ["run vdpm", "in lines ab", "device stdin terminal", "out lines 3; 0"]
         self.assertIsNone(self.told(READER, *lines))
+
+    def test_a_read_is_interrupted_once_all_is_taken(self) -> None:
+        lines = ["run vdpm", "in text abc", "device stdin interrupted", "err 3", "err failed 4"]
+        self.assertIsNone(self.told(CALLER.format(call="read(0, room, 16)"), *lines))
+        # (a program that asks again comes to the end of its input)
+        lines = ["run vdpm", "in text abc", "device stdin interrupted", "out lines 3; 0"]
+        self.assertIsNone(self.told(READER, *lines))
+
+    def test_a_write_is_interrupted(self) -> None:
+        lines = ["run vdpm", "in text abc", "device stdout interrupted", "err failed 4"]
+        self.assertIsNone(self.told(CALLER.format(call="write(1, room, 16)"), *lines))
 
     def test_an_input_may_be_no_input(self) -> None:
         program = "cat 2>/dev/null"
