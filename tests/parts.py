@@ -7,6 +7,9 @@
     documents   names, links and length of all pages, by tests/pages.py, the width of all lines, by
                 tests/widths.py, and the commands that pages print, by tools/try_document.py
 
+`./test wrong [CRATE..]` tries the wrong bodies of tests/wrong_bodies instead, by tests/wrong.py: it
+takes hours, so that it is no part of the others.
+
 Each part tells how many passed and failed. What can't be run here is said aloud. The last line is
 `N passed, M failed` over all parts, and the status is 0 exactly where something passed and nothing
 failed. After `proofs` the other parts run the programs that were proved there.
@@ -195,6 +198,8 @@ def part(name: str, given: Dict[str, Path], room: Path) -> Count:
 
 
 def main(names: List[str]) -> int:
+    if names[:1] == ["wrong"]:
+        return ran([sys.executable, "tests/wrong.py", *names[1:]]).status
     unknown: Optional[str] = next((name for name in names if name not in PARTS), None)
     if unknown is not None:
         print(f"test: `{unknown}` is no part\n\n{__doc__}", file=sys.stderr)
