@@ -70,6 +70,8 @@ def unread(pipe: int) -> int:
 
 def without_notice(name: str, errors: bytes) -> bytes:
     """The error text without the line that a program that isn't proved begins with."""
-    line = f"{name}: not proved on this machine yet, run-time checks are on; ./prove proves it\n"
-    start = line.encode()
-    return errors[len(start) :] if errors.startswith(start) else errors
+    for how in ("./prove proves it", "cargo built it"):
+        line = f"{name}: not proved on this machine yet, run-time checks are on; {how}\n"
+        if errors.startswith(line.encode()):
+            return errors[len(line.encode()) :]
+    return errors

@@ -119,6 +119,8 @@ class WhatIsCompared(Runner):
 
     def test_only_the_first_line_is_a_notice(self) -> None:
         self.assertEqual(without_notice("vdpm", f"{NOTICE}\nx\n".encode()), b"x\n")
+        by_cargo = NOTICE.replace("./prove proves it", "cargo built it")
+        self.assertEqual(without_notice("vdpm", f"{by_cargo}\nx\n".encode()), b"x\n")
         twice = f"{NOTICE}\n{NOTICE}\n".encode()
         self.assertEqual(without_notice("vdpm", twice), f"{NOTICE}\n".encode())
         for text in (f"x\n{NOTICE}\n", f"{NOTICE}.\n", NOTICE):

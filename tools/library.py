@@ -5,7 +5,7 @@
 
 The checks of the run time are left in, as in an unproved program (tools/quick_start); `./prove
 libvdpm` proves and builds it without them.
-Needs `rt` on the path, and `cc` and `ar`.
+Needs `rt` on the path, and `cc` and `ar`; or `cargo` and `cc`, which build it as plain Rust.
 """
 import sys
 from pathlib import Path

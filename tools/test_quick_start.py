@@ -165,8 +165,9 @@ class NotBuilt(OverTestKit):
 
     def test_no_kit_and_a_kit_that_lacks_a_tool(self) -> None:
         ran = self.repository.run("vdpm", path="/usr/bin:/bin")
-        found = [shutil.which(name, path="/usr/bin:/bin") for name in ("rt", "python3")]
-        if found[0] is None and found[1] is not None:
+        names = ("rt", "cargo", "python3")
+        found = [shutil.which(name, path="/usr/bin:/bin") for name in names]
+        if found[:2] == [None, None] and found[2] is not None:
             self.assert_not_built(ran, "vdpm: the command rt of the Rattle kit isn't on the path")
             self.assertEqual(len(ran.stderr.splitlines()), 1)
         (self.repository.kit / "bin/rattle-link").unlink()

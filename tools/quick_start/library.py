@@ -15,7 +15,8 @@ from .module import NotCaught, REFUSAL, first_lines, output_of, try_words
 from .record import path_of, write_record
 from .sources import CODE, Program, sum_of_sources
 from .stopped import Stopped
-from .unproved import FLAGS, run_tool
+from .unproved import FLAGS, run_tool, way_at_hand
+from .way import Way
 
 # The kit lowers programs alone, and of a program what its main leads to.
 MAIN = """
@@ -144,19 +145,30 @@ def put_proved(program: Program, kit: Kit) -> None:
         put_in_place(program, Path(it), folder)
 
 
-def build_unproved(program: Program, folder: Path) -> None:
-    """Makes the files in the folder without a proof, each with its record."""
+def way_of_kit() -> Way:
+    """Building by the kit on the path."""
     kit = find_kit()
     stop_where_it_lacks(kit)
     stop_without_tools()
+
+    def make(program: Program, room: Path) -> None:
+        compile_unproved(program, kit, room)
+        join(kit, room)
+
+    return Way(kit.version, lambda it: sum_of_sources(it, CODE), make, "without a proof")
+
+
+def build_unproved(program: Program, folder: Path) -> None:
+    """Makes the files in the folder without a proof, each with its record."""
+    way = way_at_hand(way_of_kit)
     folder.mkdir(exist_ok=True)
-    sources = sum_of_sources(program, CODE)
+    program.unproved.parent.mkdir(exist_ok=True)
+    sources = way.sum_of(program)
     with tempfile.TemporaryDirectory(prefix=f".{program.name}-", dir=folder) as it:
-        compile_unproved(program, kit, Path(it))
-        join(kit, Path(it))
+        way.make(program, Path(it))
         seen = time.time_ns()
-        if sum_of_sources(program, CODE) != sources:
+        if way.sum_of(program) != sources:
             raise Stopped("the sources changed while it was built: start it again")
         put_in_place(program, Path(it), folder)
     for name in program.files:
-        write_record(program, folder / name, False, kit, sources, seen)
+        write_record(program, folder / name, False, way.by, sources, seen)

@@ -206,7 +206,7 @@ def build_program(program: Program, kit: Kit, log: TextIO) -> bool:
     else:
         put_in_place(program)
     for built in program.files_in("proved"):
-        write_record(program, built, True, kit, sources, seen)
+        write_record(program, built, True, kit.version, sources, seen)
     places = " and ".join(f"proved/{name}" for name in program.files)
     say(f"{program.name} is proved and built: {places}")
     return True

@@ -11,7 +11,7 @@ from dataclasses import dataclass
 from pathlib import Path
 from typing import Dict, Optional, Sequence
 
-from .kit import Kit
+from .cargo import BY_CARGO, MAKER, sum_with_maker
 from .sources import CODE, PROVED, Program, places_read, sum_of_file, sum_of_sources
 
 # A file's time may lag that much behind the clock, in nanoseconds.
@@ -20,7 +20,8 @@ LAG = 100_000_000
 
 @dataclass(frozen=True)
 class Record:
-    """Says by which kit and of which sources a program was built, and whether it was proved."""
+    """Says by which kit, or which cargo, and of which sources a program was built, and whether it
+    was proved."""
 
     program: str
     proved: bool
@@ -29,6 +30,10 @@ class Record:
     built: str
     sources: str
     sum: str
+
+    @property
+    def is_by_cargo(self) -> bool:
+        return self.kit.startswith(BY_CARGO)
 
 
 def path_of(built: Path) -> Path:
@@ -71,21 +76,29 @@ def text_of(record: Record, places: Sequence[str]) -> str:
     return "".join(row + "\n" for row in rows)
 
 
-def write_record(program: Program, built: Path, proved: bool, kit: Kit, sources: str,
+def write_record(program: Program, built: Path, proved: bool, by: str, sources: str,
                  seen: int) -> None:
     """Writes the record of a program just built, as one step. `seen` is the time, in nanoseconds,
     at which the sources were seen to have the sum `sources`."""
     now = time.strftime("%Y-%m-%d %H:%M:%S UTC", time.gmtime())
-    record = Record(program.name, proved, commit_of(program.top), kit.version, now, sources,
+    record = Record(program.name, proved, commit_of(program.top), by, now, sources,
                     sum_of_file(built))
     half = path_of(built).with_name(f".{built.name}.record.{os.getpid()}")
-    half.write_text(text_of(record, places_read(program)), encoding="utf-8")
+    places = [*places_read(program), *(MAKER if record.is_by_cargo else ())]
+    half.write_text(text_of(record, places), encoding="utf-8")
     as_seen(half, seen)
     os.replace(half, path_of(built))
 
 
 def as_seen(path: Path, seen: int) -> None:
     os.utime(path, ns=(seen - LAG, seen - LAG))
+
+
+def sum_now(program: Program, record: Record) -> str:
+    """The sum that a program built in the record's way would have of the sources as they are."""
+    if record.is_by_cargo:
+        return sum_with_maker(program)
+    return sum_of_sources(program, PROVED if record.proved else CODE)
 
 
 def is_current(program: Program, built: Path) -> bool:
@@ -95,7 +108,7 @@ def is_current(program: Program, built: Path) -> bool:
     use = os.R_OK if program.is_library else os.X_OK
     if record is None or not os.access(built, use) or record.sum != sum_of_file(built):
         return False
-    if record.sources != sum_of_sources(program, PROVED if record.proved else CODE):
+    if record.sources != sum_now(program, record):
         return False
     try:
         as_seen(path_of(built), seen)

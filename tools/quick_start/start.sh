@@ -54,6 +54,10 @@ if ! is_fresh "$proved"; then
     fi
 fi
 if [ "$program" != "$proved" ]; then
-    echo "$name: not proved on this machine yet, run-time checks are on; ./prove proves it" >&2
+    how="./prove proves it"
+    if [ -r "$program.record" ] && [[ $(<"$program.record") == *$'\nkit cargo '* ]]; then
+        how="cargo built it"
+    fi
+    echo "$name: not proved on this machine yet, run-time checks are on; $how" >&2
 fi
 exec "$program" "$@"

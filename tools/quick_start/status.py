@@ -3,8 +3,8 @@ from pathlib import Path
 from typing import Iterator
 
 from .kit import find_kit
-from .record import Record, read_record
-from .sources import CODE, LIBRARY, PROGRAMS, PROVED, Program, sum_of_file, sum_of_sources
+from .record import Record, read_record, sum_now
+from .sources import LIBRARY, PROGRAMS, Program, sum_of_file
 from .stopped import Stopped
 
 
@@ -21,7 +21,7 @@ def standing(program: Program, built: Path, record: Record) -> str:
     so = "" if program.is_library else ", so it isn't run"
     if not built.is_file() or record.sum != sum_of_file(built):
         return f"is another file than was built{so}"
-    if record.sources != sum_of_sources(program, PROVED if record.proved else CODE):
+    if record.sources != sum_now(program, record):
         return f"of other sources than these{so}"
     return "of these sources"
 
@@ -34,7 +34,7 @@ def told_of(program: Program, built: Path, kit: str) -> Iterator[str]:
         return
     how = "proved" if record.proved else "not proved, run-time checks on"
     yield f"{place}: {how}; {standing(program, built, record)}"
-    other = "" if record.kit == kit else f" (now: {kit})"
+    other = "" if record.kit == kit or record.is_by_cargo else f" (now: {kit})"
     yield f"    built {record.built} at commit {record.commit} by {record.kit}{other}"
     yield f"    sha256 {record.sum}"
 

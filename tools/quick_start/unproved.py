@@ -1,4 +1,5 @@
-"""Builds a program without a proof, with the checks of the run time left in.
+"""Builds a program without a proof, with the checks of the run time left in: by the Rattle kit, or
+without one by cargo.
 
 An overflow, an index out of range, a cast that loses bits, a zero divisor, a wrong alignment or a
 place that can't be reached stops such a program by a trap. Contracts aren't looked at.
@@ -12,13 +13,15 @@ import sys
 import tempfile
 import time
 from pathlib import Path
-from typing import Iterator, List
+from typing import Callable, Iterator, List
 
+from .cargo import TO_INSTALL, way_of_cargo
 from .kit import Kit, find_kit, stop_where_it_lacks
 from .module import module_of
 from .record import is_current, path_of, write_record
 from .sources import CODE, Program, sum_of_sources
 from .stopped import Stopped
+from .way import Way
 
 TARGET = "x86_64-unknown-linux-gnu"
 # What rattle itself gives clang for a program, but for the level: -O1 is built soonest, and what it
@@ -67,45 +70,64 @@ def run_tool(words: List[str]) -> None:
         raise Stopped(f"{words[0]} failed: {lines[-1]}")
 
 
-def compiled(kit: Kit, module: Path, room: Path) -> Path:
+def compiled(kit: Kit, module: Path, room: Path, made: Path) -> None:
     """The module compiled and linked. The sanitizer's pass isn't asked for, so the module's marks
     for it stay without effect; nothing is taken out of it."""
-    code, made = room / "program.o", room / "program"
+    code = room / "program.o"
     run_tool([str(kit.clang), *FLAGS, "-c", "-x", "ir", str(module), "-o", str(code)])
     link = [str(kit.folder / "bin/rattle-link"), "--target", TARGET]
     link += ["--toolchain", str(kit.folder / "toolchain"), "-o", str(made), str(code)]
     run_tool(link + [str(archive) for archive in kit.archives])
-    return made
 
 
-def build_once(program: Program, kit: Kit) -> bool:
+def way_of_kit() -> Way:
+    """Building by the kit on the path."""
+    kit = find_kit()
+    stop_where_it_lacks(kit)
+
+    def make(program: Program, room: Path) -> None:
+        compiled(kit, module_of(program, kit, room), room, room / program.name)
+
+    return Way(kit.version, lambda it: sum_of_sources(it, CODE), make, "without a proof")
+
+
+def way_at_hand(of_kit: Callable[[], Way]) -> Way:
+    """The kit's way where its `rt` is on the path, and else cargo's."""
+    if shutil.which("rt") is not None:
+        return of_kit()
+    if shutil.which("cargo") is not None:
+        return way_of_cargo()
+    raise Stopped("the command rt of the Rattle kit isn't on the path, and neither is cargo, which "
+                  f"builds it too, without a proof: {TO_INSTALL}")
+
+
+def build_once(program: Program, way: Way) -> bool:
     """Builds in a folder beside the target, renames, and tells whether no source changed since."""
-    sources = sum_of_sources(program, CODE)
+    sources = way.sum_of(program)
     with tempfile.TemporaryDirectory(prefix=f".{program.name}-", dir=program.unproved.parent) as it:
-        made = compiled(kit, module_of(program, kit, Path(it)), Path(it))
+        way.make(program, Path(it))
         seen = time.time_ns()
-        if sum_of_sources(program, CODE) != sources:
+        if way.sum_of(program) != sources:
             return False
         # (without a record the old program isn't run, so no moment has a wrong pair)
         with contextlib.suppress(FileNotFoundError):
             path_of(program.unproved).unlink()
-        os.replace(made, program.unproved)
-    write_record(program, program.unproved, False, kit, sources, seen)
+        os.replace(Path(it) / program.name, program.unproved)
+    write_record(program, program.unproved, False, way.by, sources, seen)
     return True
 
 
 def build(program: Program) -> None:
     """Makes `unproved/NAME` the program of the sources as they are, unless it is that already."""
-    kit = find_kit()
-    stop_where_it_lacks(kit)
+    way = way_at_hand(way_of_kit)
     with alone(program):
         if is_current(program, program.unproved):
             return
         drop_leftovers(program)
         again = " anew" if program.unproved.exists() else ""
-        say(program, f"building{again} from the sources, without a proof: about a minute")
+        say(program, f"building{again} from the sources, {way.told}: about a minute")
         try:
-            if not any(build_once(program, kit) for _ in range(TRIES)):
+            if not any(build_once(program, way) for _ in range(TRIES)):
                 raise Stopped("the sources changed while it was built: start it again")
         except OSError as error:
             place = error.filename or program.unproved.parent
