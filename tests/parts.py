@@ -4,6 +4,9 @@
     rows        the cases of tests/cases, by tests/run.py
     tools       the tests of the tools and of these tests: tools/test_*.py and tests/test_*.py
     random      random cases, compared with a plain model, by tests/random_cases.py
+    rust        the same sources as plain Rust, where there is a cargo: made by tools/plain_rust.py
+                and built once with the checks of the run time; its own tests, the cases, and the
+                library's tests
     documents   names, links and length of all pages, by tests/pages.py, the width of all lines, by
                 tests/widths.py, and the commands that pages print, by tools/try_document.py
 
@@ -111,10 +114,12 @@ def tools(given: Dict[str, Path], room: Path) -> Count:
     return count
 
 
-def unit_tests(file: Path, given: Dict[str, Path]) -> Count:
+def unit_tests(file: Path, given: Dict[str, Path], library: str = "", package: str = "") -> Count:
     """The numbers that unittest tells of a file, and what it left out."""
     # (the tests of the window ask for their program so; its prepare stands beside it)
     settings = {"VIEWER_TESTS_PROGRAM": str(given["vdpm"])} if given else {}
+    settings.update({"VDPM_LIBRARY": library} if library else {})
+    settings.update({"RUST_PACKAGE": package} if package else {})
     run = ran([sys.executable, str(file)], **settings)
     found = re.search(r"^Ran (\d+) tests?", run.text, re.MULTILINE)
     if not found:
@@ -136,6 +141,37 @@ def random(given: Dict[str, Path], room: Path) -> Count:
         return Count(0, 0, ("tests/random_cases.py isn't there",))
     words = [sys.executable, "tests/random_cases.py", SEED, RANDOM_CASES, *paths(given)]
     return counted(ran(words), LAST_LINE)
+
+
+def rust(given: Dict[str, Path], room: Path) -> Count:
+    """What cargo builds of the sources, tried as the proved programs are."""
+    if shutil.which("cargo") is None:
+        return Count(0, 0, ("cargo isn't on the path, so the sources weren't tried as plain Rust",))
+    package, checked = room / "rust", ["--profile", "checked", "--features", "c"]
+    places = ["--manifest-path", str(package / "Cargo.toml"), "--target-dir", str(room / "target")]
+    made = ran([sys.executable, "tools/plain_rust.py", str(package)])
+    if made.status or ran(["cargo", "build", "--quiet", *checked, *places]).status:
+        return FAILURE
+    count = cargo_tests(ran(["cargo", "test", *checked, *places]))
+    built = room / "target/checked"
+    programs = {name: built / name for name in PROGRAMS}
+    count = count.plus(counted(ran([sys.executable, "tests/run.py", *paths(programs)]), LAST_LINE))
+    for name in ("test_library.py", "test_library_making.py"):
+        count = count.plus(unit_tests(TOP / "tools" / name, {}, str(built / "libvdpm.so")))
+    return count.plus(web_module(package))
+
+
+def cargo_tests(run: Run) -> Count:
+    """The numbers that cargo tells of each file of tests, and of the docs."""
+    found = re.findall(r"^test result: .* (\d+) passed; (\d+) failed;", run.text, re.MULTILINE)
+    passed, failed = (sum(int(numbers[at]) for numbers in found) for at in (0, 1))
+    return Count(passed, failed if failed or (found and not run.status) else 1)
+
+
+def web_module(package: Path) -> Count:
+    """The tests of the module for browsers, where this repository has them."""
+    file = TOP / "tools/wasm/test_module.py"
+    return unit_tests(file, {}, package=str(package)) if file.is_file() else NONE
 
 
 def documents(given: Dict[str, Path], room: Path) -> Count:
@@ -176,7 +212,8 @@ def with_path(line: str, given: Dict[str, Path]) -> str:
 # What a part does with the programs that were proved, by name, and a folder for its files.
 Part = Callable[[Dict[str, Path], Path], Count]
 PARTS: Dict[str, Part] = {
-    "proofs": proofs, "rows": rows, "tools": tools, "random": random, "documents": documents,
+    "proofs": proofs, "rows": rows, "tools": tools, "random": random, "rust": rust,
+    "documents": documents,
 }  # fmt: skip
 
 

@@ -4,7 +4,7 @@ import io
 import tempfile
 import unittest
 from pathlib import Path
-from typing import List, Tuple
+from typing import List, Optional, Tuple
 from unittest import mock
 
 import parts
@@ -44,6 +44,45 @@ class Counting(unittest.TestCase):
             with mock.patch.object(parts, "ran", return_value=Run(0, said)):
                 count = parts.unit_tests(Path("test_x.py"), {})
             self.assertEqual(count, Count(3, 0, (reason,)))
+
+
+class Rust(unittest.TestCase):
+    def told(self, answers: List[Run], cargo: Optional[str] = "/bin/cargo") -> Tuple[Count, List]:
+        """What the part counts where its commands end so, and those commands."""
+        with mock.patch.object(parts.shutil, "which", return_value=cargo):
+            with mock.patch.object(parts, "ran", side_effect=answers) as ran:
+                count = parts.rust({}, Path("/r"))
+        return count, [call.args[0] for call in ran.call_args_list]
+
+    def test_tests_of_cargo_are_summed(self) -> None:
+        line = "test result: ok. 30 passed; 0 failed; 0 ignored; 0 measured\n"
+        bad = "test result: FAILED. 2 passed; 3 failed; 0 ignored\n"
+        rows = [
+            (Run(0, f"{line}\n{line}"), Count(60, 0)),
+            (Run(101, f"{line}{bad}"), Count(32, 3)),
+            (Run(101, line), Count(30, 1)),
+            (Run(0, ""), parts.FAILURE),
+        ]
+        for run, wanted in rows:
+            self.assertEqual(parts.cargo_tests(run), wanted, run)
+
+    def test_without_cargo_it_is_left_out(self) -> None:
+        count, commands = self.told([], None)
+        self.assertEqual((count.passed, count.failed, commands), (0, 0, []))
+        self.assertIn("cargo isn't on the path", count.left_out[0])
+
+    def test_what_cannot_be_made_or_built_fails(self) -> None:
+        for answers in ([Run(1, "")], [Run(0, ""), Run(101, "")]):
+            self.assertEqual(self.told(answers)[0], parts.FAILURE)
+
+    def test_all_is_tried_over_what_cargo_built(self) -> None:
+        tests = Run(0, "test result: ok. 30 passed; 0 failed;\n")
+        cases, units = Run(0, "7 passed, 0 failed\n"), Run(0, "Ran 5 tests in 1s\n\nOK\n")
+        answers = [Run(0, ""), Run(0, ""), tests, cases, units, units, *[units] * 2]
+        with mock.patch.object(parts, "web_module", return_value=parts.NONE):
+            count, commands = self.told(answers)
+        self.assertEqual(count, Count(47, 0))
+        self.assertEqual(commands[3][2:4], ["--vdpm", "/r/target/checked/vdpm"])
 
 
 class Documents(unittest.TestCase):
