@@ -1,0 +1,144 @@
+// Tries the class over the module: VDPM_WASM=MODULE node --test tools/wasm/methods.mjs
+import assert from "node:assert/strict";
+import { readFileSync } from "node:fs";
+import { test } from "node:test";
+
+import { Fault, NotOpen, OutOfMemory, Vdpm } from "./vdpm.mjs";
+
+const EXAMPLES = new URL("../../examples/", import.meta.url);
+const text = readFileSync(new URL("octahedron.obj", EXAMPLES));
+const stream = readFileSync(new URL("octahedron.vdpm", EXAMPLES));
+const vdpm = await Vdpm.load(readFileSync(process.env.VDPM_WASM));
+
+// Does something with a session, which is closed then.
+function within(doing, asked = {}) {
+  const session = vdpm.open(stream, asked);
+  try {
+    return doing(session);
+  } finally {
+    session.close();
+  }
+}
+
+const rows = (word, numbers, threes) => [...numbers].map((number, i) =>
+  `${word} ${number} ${threes.slice(3 * i, 3 * i + 3).join(" ")}`);
+
+const spelled = ({ nodes, places, faces, cornerNodes }) => [
+  `frame ${nodes.length} ${faces.length}`, ...rows("v", nodes, places),
+  ...rows("f", faces, cornerNodes), "end"].join("\n");
+
+test("arrays spell the frame's text", () => within((session) => {
+  for (const line of ["b 9", "s 0", "s 1", "c 1"]) {
+    session.line(line);
+    const frame = session.frame();
+    assert.equal(spelled(frame), session.said("w"));
+    assert.deepEqual([...frame.corners].map((at) => frame.nodes[at]), [...frame.cornerNodes]);
+  }
+}));
+
+test("arrays spell the text of a change, and rooms grow", () => {
+  const change = within((session) => {
+    assert.equal(session.split(0), "ok");
+    assert.deepEqual(session.changeWithin([0, 0, 0, 0]).sizes, [0, 1, 2, 5]);
+    return session.change();
+  });
+  const told = within((session) => {
+    session.split(0);
+    return session.said("d").split("\n").slice(1, -1);
+  });
+  assert.deepEqual(told, [
+    ...[...change.goneFaces].map((face) => `-f ${face}`),
+    ...[...change.goneNodes].map((node) => `-v ${node}`),
+    ...rows("v", change.newNodes, change.newPlaces),
+    ...rows("f", change.putFaces, change.putCorners),
+  ]);
+});
+
+test("a view makes its moves, and a budget stops it", () => {
+  const view = { eye: [0, -30, 20], focal: 1000, tolerance: 1 };
+  within((session) => {
+    const { moves, left } = session.view(view);
+    assert.equal(moves, session.counts().records);
+    assert.equal(left, 0);
+    assert.deepEqual(session.view({ ...view, byDeviation: true, outline: 1 }).left, 0);
+  });
+  within((session) => assert.ok(session.view(view).left > 0), { budget: 1 });
+});
+
+test("nodes know their records, and leaves the nodes that show them", () => within((session) => {
+  const { records, leaves, nodes, digits } = session.counts();
+  for (let record = 0; record < records; record++) session.split(record);
+  const shown = [...session.frame().nodes];
+  const all = (count) => [...Array(count).keys()];
+  assert.deepEqual(all(leaves).map((leaf) => session.ancestor(leaf)).sort((a, b) => a - b), shown);
+  const split = all(nodes).map((node) => session.splitter(node)).filter((it) => it !== null);
+  assert.deepEqual(split.sort((a, b) => a - b), all(records));
+  assert.equal(session.maker(0), null);
+  assert.equal(session.place(shown[0]).length, 3);
+  assert.equal(digits, 0);
+  assert.throws(() => session.ancestor(leaves), RangeError);
+}));
+
+test("a ray meets a face or none, and strips have all corners", () => within((session) => {
+  assert.equal(session.pick([0, 0, 30000], [0, 0, 1]), null);
+  assert.equal(typeof session.pick([0, 0, 30000], [0, 0, -1]).face, "number");
+  assert.ok(session.strips().flat().length > session.counts().shownFaces);
+}));
+
+test("what is made opens, and a text may be a string", () => {
+  const fit = vdpm.prepare("v 0.5 0 0\nv 1 0 0\nv 0 1 0\nf 1 2 3\n", { size: 100 });
+  assert.ok(fit.notes.length > 0);
+  for (const made of [vdpm.simplify(fit.text), vdpm.build(fit.text), vdpm.build(text, { faces: 4 })]) {
+    vdpm.open(made).close();
+  }
+  assert.equal(Buffer.compare(vdpm.build(text), stream), 0);
+});
+
+test("a fault tells the line of the programs", () => {
+  const thrown = (doing, message) => assert.throws(doing, (fault) =>
+    fault instanceof Fault && fault.message === message);
+  thrown(() => vdpm.open(stream.subarray(0, 30)), "fault 22 byte 30");
+  thrown(() => vdpm.open(text), "fault 20");
+  thrown(() => vdpm.build("f 1 2 3\n"), "fault 7 line 1");
+  thrown(() => vdpm.prepare(""), "fault 12");
+  thrown(() => within((session) => session.line("w w")), "fault 30");
+});
+
+test("numbers out of range are refused", () => {
+  for (const size of [0, -1, 32768, 1.5]) {
+    assert.throws(() => vdpm.prepare(text, { size }), RangeError);
+  }
+  for (const asked of [{ digits: 5 }, { faces: -1 }, { faces: 2 ** 32 }]) {
+    assert.throws(() => vdpm.simplify(text, asked), RangeError);
+  }
+  assert.throws(() => vdpm.open(stream, { budget: -1 }), RangeError);
+});
+
+test("a closed session is refused, and others are apart from it", () => {
+  const one = vdpm.open(stream), other = vdpm.open(stream);
+  one.split(0);
+  one.close();
+  one.close();
+  assert.throws(() => one.line("w"), NotOpen);
+  assert.equal(other.counts().shownNodes, 4);
+  other.close();
+});
+
+test("memory is given back", () => {
+  const size = () => vdpm.memory.buffer.byteLength;
+  const round = () => {
+    within((session) => session.frame());
+    vdpm.simplify(text);
+    assert.throws(() => vdpm.open(text), Fault);
+    assert.throws(() => vdpm.build("f 1 2 3\n"), Fault);
+  };
+  for (let i = 0; i < 20; i++) round();
+  const before = size();
+  for (let i = 0; i < 1000; i++) round();
+  assert.equal(size(), before);
+});
+
+test("want of memory is told", () => {
+  assert.throws(() => vdpm.memory.take(2 ** 32 - 65536), OutOfMemory);
+  within((session) => assert.equal(session.counts().shownNodes, 4));
+});

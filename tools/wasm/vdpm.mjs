@@ -1,0 +1,131 @@
+// View-dependent progressive meshes in a page or in node, by the module that
+// `python3 tools/plain_rust.py --wasm OUT.wasm` makes:
+//
+//     const vdpm = await Vdpm.load(await (await fetch("vdpm.wasm")).arrayBuffer());
+//     const session = vdpm.open(vdpm.simplify(vdpm.prepare(text).text));
+//     session.view({ eye: [0, -30000, 20000], focal: 1000, tolerance: 20 });
+//     const { nodes, places, corners } = session.frame();
+//     session.close();
+//
+// Each function does what one of libvdpm.h does; docs/LIBRARY.md and that header tell more. Nothing
+// in the module is proved. Calls don't wait for anything, so long ones belong into a worker.
+import { STATUS, WORDS, Fault, check, numberTo } from "./faults.mjs";
+import { Memory, bytesOf } from "./memory.mjs";
+import { Session } from "./session.mjs";
+
+export { Fault, NotOpen, OutOfMemory } from "./faults.mjs";
+export { Session } from "./session.mjs";
+
+const MOST_FACES = 0xffffffff, MOST_DIGITS = 4, MOST_SIZE = 32767;
+const MADE = 8, FAULT = 16, PLACE_OF_FAULT = 8;
+
+/** @typedef {string | Uint8Array} Text an OBJ text; bytes are taken as they are */
+
+export class Vdpm {
+  /** @param {WebAssembly.Instance} instance */
+  constructor(instance) {
+    this.memory = new Memory(instance.exports);
+  }
+
+  /**
+   * Makes the module of its bytes. It imports nothing.
+   * @param {BufferSource} bytes
+   * @returns {Promise<Vdpm>}
+   */
+  static async load(bytes) {
+    return new Vdpm((await WebAssembly.instantiate(bytes, {})).instance);
+  }
+
+  /**
+   * The stream of an OBJ text, as `vdpm build FACES --digits DIGITS` makes it. Throws Fault where
+   * the program refuses the text.
+   * @param {Text} text
+   * @param {{ faces?: number, digits?: number }} [asked]
+   * @returns {Uint8Array}
+   */
+  build(text, { faces = 0, digits = 0 } = {}) {
+    numberTo(MOST_FACES, faces, "faces");
+    numberTo(MOST_DIGITS, digits, "digits");
+    return this.made("vdpm_build", text, [faces, digits], WORDS.OF_TEXT).bytes;
+  }
+
+  /**
+   * The same as `simplify FACES --digits DIGITS` makes it, by finer costs; with `keepBorder` each
+   * frame of the stream shows the border of the mesh.
+   * @param {Text} text
+   * @param {{ faces?: number, digits?: number, keepBorder?: boolean }} [asked]
+   * @returns {Uint8Array}
+   */
+  simplify(text, { faces = 0, digits = 0, keepBorder = false } = {}) {
+    numberTo(MOST_FACES, faces, "faces");
+    numberTo(MOST_DIGITS, digits, "digits");
+    const asked = [faces, digits, Number(keepBorder)];
+    return this.made("vdpm_simplify", text, asked, WORDS.OF_TEXT).bytes;
+  }
+
+  /**
+   * Any OBJ text made fit for the two above, as the program `prepare` does, and the lines that it
+   * says of it. With a size, from 1 to 32,767, the longest axis of the box goes from -size to size;
+   * without one points that fit the grid stand as they are.
+   * @param {Text} text
+   * @param {{ size?: number }} [asked]
+   * @returns {{ text: Uint8Array, notes: string[] }}
+   */
+  prepare(text, { size } = {}) {
+    if (size === 0) throw new RangeError(`size is 0, and not from 1 to ${MOST_SIZE}`);
+    const asked = [numberTo(MOST_SIZE, size ?? 0, "size")];
+    const { bytes, notes } = this.made("vdpm_prepare", text, asked, WORDS.OF_ANY_TEXT);
+    return { text: bytes, notes: new TextDecoder().decode(notes).split("\n").slice(0, -1) };
+  }
+
+  /**
+   * Shows a stream. A view makes at most `budget` moves.
+   * @param {Uint8Array} stream
+   * @param {{ budget?: number }} [asked]
+   * @returns {Session}
+   */
+  open(stream, { budget } = {}) {
+    return new Session(this.memory, stream, budget);
+  }
+
+  /**
+   * What a function makes of a text.
+   * @param {string} name
+   * @param {Text} text
+   * @param {number[]} asked
+   * @param {import("./faults.mjs").Words} words
+   * @returns {{ bytes: Uint8Array, notes: Uint8Array }}
+   */
+  made(name, text, asked, words) {
+    const { memory } = this, { functions } = memory;
+    return memory.within([MADE, FAULT], (made, fault) => {
+      const make = (/** @type {number} */ at, /** @type {number} */ length) =>
+        functions[name](at, length, ...asked, made, fault);
+      const status = memory.holding(bytesOf(text), make);
+      if (status === STATUS.FAULTY) {
+        const place = memory.long(fault + PLACE_OF_FAULT);
+        throw new Fault(memory.number(fault), place || null, words);
+      }
+      check(status);
+      try {
+        return this.copied(made);
+      } finally {
+        functions.vdpm_made_close(made);
+      }
+    });
+  }
+
+  /** @param {number} made @returns {{ bytes: Uint8Array, notes: Uint8Array }} */
+  copied(made) {
+    const { memory } = this, { functions } = memory;
+    const [length, notesLength] = memory.within([4, 4], (bytes, notes) => {
+      check(functions.vdpm_made_length(made, bytes, notes));
+      return [memory.number(bytes), memory.number(notes)];
+    });
+    return memory.within([length, notesLength], (bytes, notes) => {
+      check(functions.vdpm_made_bytes(made, bytes, length));
+      check(functions.vdpm_made_notes(made, notes, notesLength));
+      return { bytes: memory.bytes(bytes, length), notes: memory.bytes(notes, notesLength) };
+    });
+  }
+}
