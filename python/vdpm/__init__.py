@@ -11,8 +11,9 @@
 
 A session stays on the thread that opened it. Coordinates are whole numbers of units of 10 to the
 power of minus `session.sizes().digits`. The library is found by the variable VDPM_LIBRARY, which is
-a path, or else as proved/libvdpm.so or unproved/libvdpm.so beside this package's folder; `version`
-tells which one that is, and whether it was proved.
+a path, or else as libvdpm.so in this package, as wheels have it, or as proved/libvdpm.so or
+unproved/libvdpm.so beside its folder; `version` tells which one that is, and whether it was
+proved.
 """
 from .faults import Fault, NotOpen
 from .library import Version, version

@@ -47,10 +47,11 @@ def path_of_library() -> str:
     told = os.environ.get("VDPM_LIBRARY")
     if told:
         return told
-    top = Path(__file__).resolve().parent.parent.parent
-    for folder in ("proved", "unproved"):
-        if (top / folder / "libvdpm.so").exists():
-            return str(top / folder / "libvdpm.so")
+    here = Path(__file__).resolve().parent
+    top = here.parent.parent
+    for folder in (here, top / "proved", top / "unproved"):
+        if (folder / "libvdpm.so").exists():
+            return str(folder / "libvdpm.so")
     raise FileNotFoundError("libvdpm.so isn't built: ./prove libvdpm proves and builds it, "
                             "python3 tools/library.py builds it without a proof")
 

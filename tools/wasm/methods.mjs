@@ -88,9 +88,8 @@ test("a ray meets a face or none, and strips have all corners", () => within((se
 test("what is made opens, and a text may be a string", () => {
   const fit = vdpm.prepare("v 0.5 0 0\nv 1 0 0\nv 0 1 0\nf 1 2 3\n", { size: 100 });
   assert.ok(fit.notes.length > 0);
-  for (const made of [vdpm.simplify(fit.text), vdpm.build(fit.text), vdpm.build(text, { faces: 4 })]) {
-    vdpm.open(made).close();
-  }
+  const streams = [vdpm.simplify(fit.text), vdpm.build(fit.text), vdpm.build(text, { faces: 4 })];
+  for (const made of streams) vdpm.open(made).close();
   assert.equal(Buffer.compare(vdpm.build(text), stream), 0);
 });
 
