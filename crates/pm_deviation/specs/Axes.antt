@@ -10,8 +10,10 @@ axis x y z = record { x = x; y = y; z = z }
 -- They are these.
 abbrev pub AxesAreTold : Type 0
 AxesAreTold = AXES ≡
-    axis (pos 1) (pos 0) (pos 0) ∷ axis (pos 0) (pos 1) (pos 0) ∷ axis (pos 0) (pos 0) (pos 1) ∷
-    axis (pos 1) (pos 1) (pos 0) ∷ axis (pos 1) (negsuc 0) (pos 0) ∷ axis (pos 1) (pos 0) (pos 1) ∷
-    axis (pos 1) (pos 0) (negsuc 0) ∷ axis (pos 0) (pos 1) (pos 1) ∷ axis (pos 0) (pos 1) (negsuc 0) ∷
-    axis (pos 1) (pos 1) (pos 1) ∷ axis (pos 1) (pos 1) (negsuc 0) ∷ axis (pos 1) (negsuc 0) (pos 1) ∷
+    axis (pos 1) (pos 0) (pos 0) ∷ axis (pos 0) (pos 1) (pos 0) ∷
+    axis (pos 0) (pos 0) (pos 1) ∷ axis (pos 1) (pos 1) (pos 0) ∷
+    axis (pos 1) (negsuc 0) (pos 0) ∷ axis (pos 1) (pos 0) (pos 1) ∷
+    axis (pos 1) (pos 0) (negsuc 0) ∷ axis (pos 0) (pos 1) (pos 1) ∷
+    axis (pos 0) (pos 1) (negsuc 0) ∷ axis (pos 1) (pos 1) (pos 1) ∷
+    axis (pos 1) (pos 1) (negsuc 0) ∷ axis (pos 1) (negsuc 0) (pos 1) ∷
     axis (pos 1) (negsuc 0) (negsuc 0) ∷ []
