@@ -228,7 +228,8 @@ least_area_is_turned m places flags other t s r o =
                   | inl e ↦
                       let same =
                       patch_weight (area_at m places) t.least r m.faces (flag_of flags)
-                      (flag_of other) (alike m t.least flags other t.patches t.agreeing s r un us e) in
+                      (flag_of other)
+                      (alike m t.least flags other t.patches t.agreeing s r un us e) in
                       omega (arith, same)
                   | inr e ↦
                       let more = turned_other m t.least flags other t.patches t.agreeing s r un us e

@@ -43,7 +43,7 @@ abbrev pub place_at : List Place → ℕ → Place
 place_at places v = slice_index_or places v origin
 
 -- Twice the areas of what three places show along the three axes, added up: the numbers of
--- (b - a) x (c - a) without their signs. It is 0 where the places are on a line, and below 2^35.
+-- (b - a) x (c - a) without their signs. 0 where the places are on a line; below 2^35 on the grid.
 unfoldable pub area_of : Place → Place → Place → ℕ
 area_of a b c =
     let n : Direction = cross_of a b c in unsigned_abs n.x + unsigned_abs n.y + unsigned_abs n.z
@@ -107,8 +107,7 @@ volume_in m places least turned r =
 pub record IsOutward (m : Net) (places : List Place) (least : ℕ → ℕ) (turned : ℕ → Bool)
     (r : ℕ) : Type 0 where
   pub volume : pos 0 ≤ℤ volume_in m places least turned r
-  pub flat : volume_in m places least turned r ≡ pos 0
-      → IsSmaller m places least turned r
+  pub flat : volume_in m places least turned r ≡ pos 0 → IsSmaller m places least turned r
 
 -- The flags by which neighbours agree once the flagged faces are turned, and by which, in each
 -- patch,

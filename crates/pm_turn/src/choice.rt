@@ -177,8 +177,8 @@ fn add_face(
         (with_face_of (slice_index_or sums.old.items root.face no_sums_of) root.parity bare
         (area_at (net_of faces.now) places.now face)
         (volume_at (net_of faces.now) places.now root.parity face)) }
-    ensures small_area { area_at (net_of faces.now) places.now face < 2 ^ 35 }
-    ensures small_volume { unsigned_abs (volume_at (net_of faces.now) places.now root.parity face) ≤ 2 ^
+    ensures area { area_at (net_of faces.now) places.now face < 2 ^ 35 }
+    ensures volume { unsigned_abs (volume_at (net_of faces.now) places.now root.parity face) ≤ 2 ^
         51 }
 {
     let old = sums[root.face as usize];
@@ -190,8 +190,8 @@ fn add_face(
 // The sums with one more face.
 fn with_face(s: Sums, parity: bool, bare: bool, area: u64, volume: i128) -> Sums
     requires small { IsSmall 1048575 s }
-    requires small_area { area < 2 ^ 35 }
-    requires small_volume { unsigned_abs volume ≤ 2 ^ 51 }
+    requires area { area < 2 ^ 35 }
+    requires volume { unsigned_abs volume ≤ 2 ^ 51 }
     ensures { result ≡ with_face_of s parity bare area volume }
 {
     Sums {

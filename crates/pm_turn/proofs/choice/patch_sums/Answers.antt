@@ -1,5 +1,5 @@
-use Rattle.std.proofs.Common.{◌≡◌, ℕ, ◌<◌, ◌≤◌, Bool, List, length, slice_index_or, refl, sym, subst}
-use Rattle.std.proofs.Common.{arith}
+use Rattle.std.proofs.Common.{◌≡◌, ℕ, ◌<◌, ◌≤◌, Bool, List, length, slice_index_or, refl, sym}
+use Rattle.std.proofs.Common.{subst, arith}
 use Rattle.std.specs.Prelude.{ℤ}
 use Rattle.pm_base.specs.Sides.{Net, net_of}
 use Rattle.pm_turn.specs.declared.patches.Root.{Root}
@@ -48,7 +48,7 @@ loop-face-preserved c =
           c.args.mates.now roots face parity bare volume refl refl (sym c.is_bare-bare.ensures) refl
           refl inv.sums;
       small = small_more xs ys r new low c.add_face.ensures.items face parity bare area volume
-          refl c.add_face.ensures.small_area c.add_face.ensures.small_volume inv.small;
+          refl c.add_face.ensures.area c.add_face.ensures.volume inv.small;
     }
 
 pub returns : goal.returns
