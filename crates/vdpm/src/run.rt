@@ -1,7 +1,8 @@
 //! The program over any source and sinks.
-ghost use Rattle.std.specs.Prelude.{◌≡◌, ◌⊎◌, ◌↔◌, ◌≤◌, map, ℕ, List, false, None, Some};
+ghost use Rattle.std.specs.Prelude.{◌≡◌, ◌⊎◌, ◌↔◌, ◌≤◌, map, ℕ, List, false, None, Some, codes};
 ghost use Rattle.std.specs.String.{string_bytes};
 ghost use Rattle.pm_io.specs.Devices.{Unread, Tells};
+ghost use Rattle.pm_io.specs.Endings.{Untouched, CountsFaults, Says, NoneFailed};
 ghost use Rattle.pm_commands.specs.declared.fault.Fault.{Fault};
 ghost use Rattle.pm_commands.specs.Ran.{Ran};
 ghost use Rattle.pm_commands.specs.Outcome.{IsOutcome};
@@ -9,8 +10,7 @@ ghost use Rattle.pm_commands.specs.Ending.{ReadFails, BlamesNoInput, Answers};
 ghost use Rattle.pm_commands.specs.Devices.{Replies, LeadsBack, FramesAreSurfaces};
 ghost use Rattle.vdpm.specs.Words.{asked_of};
 ghost use Rattle.vdpm.specs.Asking.{Asks};
-ghost use Rattle.vdpm.specs.Endings.{Untouched, ReadsTo, WriteFails, CountsFaults, Says};
-ghost use Rattle.vdpm.specs.Endings.{NoneFailed};
+ghost use Rattle.vdpm.specs.Endings.{ReadsTo, WriteFails};
 ghost use Rattle.vdpm.specs.FaultLine.{fault_line};
 
 use crate::words::read_words;
@@ -60,7 +60,7 @@ pub fn run<S: Source, K: Sink, E: Sink>(
         → WriteFails S.Source K.Sink asked input.old input.new out.old out.new }
     ensures memory { result ≡ 5 → K.got out.new ≡ K.got out.old }
     ensures counts { CountsFaults S.Source K.Sink result input.old input.new out.old out.new }
-    ensures said { Says E.Sink result err.old err.new }
+    ensures said { Says E.Sink (codes "vdpm") result err.old err.new }
     // Where no device failed, a whole outcome gives 0 and a fault gives 1, unless memory is wanted.
     ensures complete { (asked : Asked) (bytes : List ℕ) (all : Ran) → Asks words.now asked
         → S.left input.old ≡ Some bytes → IsOutcome asked bytes all

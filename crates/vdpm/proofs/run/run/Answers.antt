@@ -1,14 +1,12 @@
-use Rattle.std.proofs.Common.{◌≡◌, ◌≢◌, ℕ, List, Option, None, Err, IfSome, inl, refl, sym, ◌∙◌}
+use Rattle.std.proofs.Common.{◌≡◌, ℕ, List, Option, None, Err, IfSome, inl, refl, sym, ◌∙◌}
 use Rattle.std.proofs.Common.{subst, arith}
 use Rattle.std.specs.Prelude.{codes}
 use Rattle.pm_commands.specs.declared.asked.Asked.{Asked}
 use Rattle.pm_commands.specs.declared.asked.Asked.TheVariants as asked
 use Rattle.pm_commands.specs.Outcome.{IsOutcome, Replied}
-use Rattle.pm_commands.specs.declared.fault.CommandFail.{CommandFail}
-use Rattle.pm_commands.specs.declared.fault.CommandFail.TheVariants as fails
-use Rattle.pm_commands.specs.Ending.{Ends, FewMore, FewMoreLive, status_of}
+use Rattle.pm_commands.specs.Ending.{Ends, FewMore, FewMoreLive}
 use Rattle.pm_commands.proofs.EndingLaws.{one_asked, said_fault, read_of, cut_of, write_of}
-use Rattle.pm_commands.proofs.EndingLaws.{said_line, text_of_read, text_of_write, text_of_memory}
+use Rattle.pm_commands.proofs.EndingLaws.{fail_counts, fail_says}
 use Rattle.pm_commands.proofs.EndingLaws.{completes_whole, completes}
 use Rattle.vdpm.specs.Endings.{ReadsTo, CutsALine}
 use Rattle.vdpm.proofs.run.run.Goals as goal
@@ -117,24 +115,11 @@ returns-in-Err-clause-write g c = λ other asks is.
           (write_of c.in-Err.fail failed));
     }
 
--- What ends a command early has neither the status of what was done nor that of other words.
-ended : (fail : CommandFail) → (status_of fail ≢ 0) × (status_of fail ≢ 2)
-ended (fails.Faulty f) = (λ is. absurd (omega arith), λ is. absurd (omega arith))
-ended fails.Read = (λ is. absurd (omega arith), λ is. absurd (omega arith))
-ended fails.Write = (λ is. absurd (omega arith), λ is. absurd (omega arith))
-ended fails.OutOfMemory = (λ is. absurd (omega arith), λ is. absurd (omega arith))
+pub returns-in-Err-clause-counts : goal.returns-in-Err-clause-counts
+returns-in-Err-clause-counts g c =
+    fail_counts g.S.Source g.K.Sink c.in-Err.fail _ _ _ _ _ c.tell.ensures.status
+    c.in-Err.ensures.counts
 
 pub returns-in-Err-clause-said : goal.returns-in-Err-clause-said
 returns-in-Err-clause-said g c =
-    let fail = c.in-Err.fail in
-    let status = sym c.tell.ensures.status in
-    record {
-      silent = λ is. absurd ((ended fail).0 (status ∙ is));
-      words = λ is. absurd ((ended fail).1 (status ∙ is));
-      read = λ is. said_line (codes "vdpm: ") fail _ _ _ _ _ (text_of_read fail (status ∙ is))
-          c.tell.ensures.said;
-      write = λ is. said_line (codes "vdpm: ") fail _ _ _ _ _ (text_of_write fail (status ∙ is))
-          c.tell.ensures.said;
-      memory = λ is. said_line (codes "vdpm: ") fail _ _ _ _ _ (text_of_memory fail (status ∙ is))
-          c.tell.ensures.said;
-    }
+    fail_says g.E.Sink (codes "vdpm") c.in-Err.fail _ _ _ c.tell.ensures.status c.tell.ensures.said
