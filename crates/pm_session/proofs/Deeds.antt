@@ -1,6 +1,6 @@
 -- What a line does, by its command, and how it ends.
 use Rattle.std.proofs.Common.{◌≡◌, ℕ, ◌<◌, ◌≤◌, Bool, List, Option, Some, None, Result, Ok, Err}
-use Rattle.std.proofs.Common.{OnOk, OnErr, refl}
+use Rattle.std.proofs.Common.{OnOk, OnErr, refl, sym, ◌∙◌}
 use Rattle.std.proofs.lemmas.Bool.{lt-ltb, le-ltb}
 use Rattle.pm_io.specs.declared.device.WriteFault.{WriteFault}
 use Rattle.pm_io.specs.Bytes.{Gains, GainsPart}
@@ -145,3 +145,9 @@ bad deed T old is = rw is (refl, refl)
 pub named_none : (deed : Deed) (T : State) (old : Option (List ℕ)) → deed ≡ NamesNoRecord
     → LineEnds deed (Err fails.NoRecord) T T old old
 named_none deed T old is = rw is (refl, refl)
+
+-- A line that names no record has no reply.
+pub not_replied : (deed : Deed) (reply : List ℕ) (T : State) → deed ≡ NamesNoRecord
+    → deed ≡ Replies reply T → ⊥
+not_replied deed reply T none is =
+    let both : NamesNoRecord ≡ Replies reply T = sym none ∙ is in absurd (cc both)

@@ -94,6 +94,7 @@ module _ (b : Begun) (f : Filled) (s : Standing) (u : Underway) (v : IsHolding b
         took = subst (λ (l : List ℕ). Loses b.script s.left (l ++ s.line)) e.are w.took;
         ends = e.ends;
         one = e.one;
+        more_ends = e.more_ends;
         to_its_end = inl e.whole;
         few = omega (
           arith,
@@ -200,6 +201,7 @@ module _ (b : Begun) (f : Filled) (s s' : Standing) (u : Underway) (v : IsHoldin
     ends = v.serving.ends;
     one = lines_whole text [] (text_clean b s s' v.serving taken text taking e ready within);
     whole = inr (text, refl);
+    more_ends = inl refl;
     later = omega (
       arith,
       v.since,
@@ -232,6 +234,7 @@ module _ (b : Begun) (f : Filled) (s s' : Standing) (u : Underway) (v : IsHoldin
     ends = e.ends;
     one = e.one;
     whole = e.whole;
+    more_ends = inr (e.more ++ text, sym (append_assoc e.more text (10 ∷ [])));
     later = e.later;
     put = e.put;
     rest = e.rest;

@@ -1,5 +1,5 @@
 -- How a script is served: what the reply to a line does, put whole or in part.
-use Rattle.std.proofs.Common.{◌≡◌, ℕ, ◌+◌, ◌<◌, ◌≤◌, inr, List, [], ◌∷◌, ◌++◌, length}
+use Rattle.std.proofs.Common.{◌≡◌, ℕ, ◌+◌, ◌<◌, ◌≤◌, inl, inr, List, [], ◌∷◌, ◌++◌, length}
 use Rattle.std.proofs.Common.{Option, Some, None, refl, sym, ◌∙◌, ap, subst}
 use Rattle.std.proofs.Common.{arith, length-append, append_assoc}
 use Rattle.std.proofs.lemmas.List.{append-nil}
@@ -53,6 +53,7 @@ module _ (b : Begun) (s s' : Standing) (v : IsServing b s) (line reply : List �
         took = subst (λ (l : List ℕ). Loses b.script s'.left l) (sym all) took;
         ends = v.ends;
         one = one;
+        more_ends = inl refl;
         to_its_end = inr (end, refl);
         few = omega arith;
         part = record {

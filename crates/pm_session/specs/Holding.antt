@@ -5,6 +5,8 @@ use Rattle.std.specs.Io.KnownBytes.{append_known}
 use Rattle.pm_io.specs.Bytes.{Gains, GainsPart}
 use Rattle.pm_io.specs.Causes.{Rose}
 use Rattle.obj_lines.specs.Text.{lines}
+use Rattle.pm_session.specs.declared.command.Command.{Command}
+use Rattle.pm_session.specs.declared.command.Command.TheVariants as commands
 use Rattle.pm_session.specs.declared.command.ScriptFault.{ScriptFault}
 use Rattle.pm_session.specs.declared.command.ScriptFault.TheVariants as faults
 use Rattle.pm_session.specs.declared.progress.Progress.{Progress}
@@ -29,6 +31,7 @@ pub record EndsWithin (b : Begun) (taken : ℕ) (front done : List ℕ) : Type 0
   pub ends : AreLines before
   pub one : lines line ≡ line ∷ []
   pub whole : AreLines line
+  pub more_ends : AreLines more
   pub later : taken < length (before ++ line)
   pub put : length (played b.h b.grammar b.state before).text ≤ length done
   pub rest : List ℕ
@@ -97,6 +100,15 @@ abbrev pub PutCounts : {X : Type 0} → Result X ServeFail → ℕ → ℕ → T
 PutCounts (Err fails.Read) before now = ⊥
 PutCounts (Err fails.Write) before now = Rose before now
 PutCounts result before now = now ≡ before
+
+-- The line makes a move, asks for a view, marks the front or sets the budget: its reply is held.
+abbrev pub is_held : Command → Bool
+is_held (commands.Split k) = true
+is_held (commands.Collapse k) = true
+is_held (commands.Look view) = true
+is_held commands.Mark = true
+is_held (commands.Budget moves) = true
+is_held _ = false
 
 -- The sink gained what a page held and a text, but for what the page holds then.
 pub record GainsBut (old new : Option (List ℕ)) (held holds text : List ℕ) : Type 0 where

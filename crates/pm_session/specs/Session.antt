@@ -1,5 +1,5 @@
 -- A session, and what one line leaves of it.
-use Rattle.std.specs.Prelude.{◌≡◌, ◌*◌, ℕ, Bool, true, List, Option, Result, Ok, Err}
+use Rattle.std.specs.Prelude.{◌≡◌, ◌*◌, ℕ, Bool, true, false, List, Option, Result, Ok, Err}
 use Rattle.pm_io.specs.Bytes.{Gains, GainsPart}
 use Rattle.pm_io.specs.Causes.{Rose}
 use Rattle.pm_forest.specs.Forest.{Hierarchy, record_count}
@@ -56,9 +56,9 @@ pub record AreToolsOf (h : Hierarchy) (tools : Toolbox) : Type 0 where
   pub flags_fit : tools.flags ≡ face_count h
   pub sets_fit : tools.sets ≡ room_of h
 
--- The measures have what views of such a script are judged by.
+-- The measures have what views of such a script are judged by, and no more.
 abbrev pub HasItsMeasures : Grammar → Measures → Type 0
-HasItsMeasures grammars.View measures = Unit {0}
+HasItsMeasures grammars.View measures = has_deviations measures ≡ false
 HasItsMeasures grammars.Live measures = has_deviations measures ≡ true
 
 -- The tools and the marks are those of the hierarchy, and the tools serve the script.

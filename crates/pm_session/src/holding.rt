@@ -1,8 +1,9 @@
 //! Does lines whose replies may be held in a page.
-ghost use Rattle.std.specs.Prelude.{◌≡◌, true, false};
-ghost use Rattle.pm_session.specs.Script.{Replies, line_deed};
+ghost use Rattle.std.specs.Prelude.{◌≡◌, ◌+◌, ◌≤◌, ℕ, List, length, true, false};
+ghost use Rattle.pm_io.specs.declared.page.TheConstants.{PAGE_BYTES};
+ghost use Rattle.pm_session.specs.Script.{Replies, State, command_of, line_deed};
 ghost use Rattle.pm_session.specs.Session.{LineCounts, state_of};
-ghost use Rattle.pm_session.specs.Holding.{HeldEnds};
+ghost use Rattle.pm_session.specs.Holding.{HeldEnds, is_held};
 
 use crate::command::Command;
 use crate::ending::{LineFail, Next, after_reply};
@@ -17,6 +18,10 @@ impl Session {
         ensures done { result ≡ true → line_deed self.old.h self.old.grammar (state_of self.old)
             text.now ≡ Replies reply.new (state_of self.new) }
         ensures none { result ≡ false → self.new ≡ self.old }
+        ensures other { result ≡ false → is_held (command_of self.old.grammar text.now) ≡ true
+            → (reply : List ℕ) (s : State)
+            → line_deed self.old.h self.old.grammar (state_of self.old) text.now ≡ Replies reply s
+            → ⊥ }
         ensures same { (self.new.h ≡ self.old.h) × (self.new.grammar ≡ self.old.grammar) }
     {
         match self.command(text) {
@@ -47,7 +52,7 @@ impl Session {
     }
 
     /// Does one script line, which is given without its LF, as `line` does. The page holds a short
-    /// reply, and is put before any other.
+    /// reply, and nothing is put where it has room for that; it is put before any other reply.
     pub(crate) fn line_through<K: Sink>(
         &mut self,
         text: &[u8],
@@ -59,6 +64,10 @@ impl Session {
             (state_of self.new) (K.got out.old) (K.got out.new) page.old page.new }
         ensures counts { LineCounts result (K.faults out.old) (K.faults out.new) }
         ensures same { (self.new.h ≡ self.old.h) × (self.new.grammar ≡ self.old.grammar) }
+        ensures quiet { is_held (command_of self.old.grammar text.now) ≡ true
+            → (reply : List ℕ) (s : State)
+            → line_deed self.old.h self.old.grammar (state_of self.old) text.now ≡ Replies reply s
+            → length page.old + length reply ≤ PAGE_BYTES → out.new ≡ out.old }
     {
         let mut reply = Line::new();
         if self.short_reply(text, &mut reply) {

@@ -4,6 +4,7 @@ use Rattle.pm_session.specs.Script.{Replies}
 use Rattle.pm_session.specs.Session.{state_of}
 use Rattle.pm_session.proofs.CommandLaws.{looks_by}
 use Rattle.pm_session.proofs.Deeds.{deed_split, deed_collapse, deed_look}
+use Rattle.pm_session.proofs.Deeds.{deed_no_split, deed_no_collapse, not_replied}
 use Rattle.pm_session.proofs.MorphLaws.{deed_mark, deed_budget}
 use Rattle.pm_session.proofs.session.Session.short_reply.Goals as goal
 
@@ -47,3 +48,14 @@ returns-in-Mark-clause-done c = λ is.
     (ap (λ (flags : List Bool). set_of flags) c.mark.ensures.same.2) c.mark.ensures.marked
     c.mark.ensures.same.3
     ∙ ap (λ (l : List ℕ). Replies l (state_of c.mark.new.self)) (sym c.put_reply-in-Mark.ensures)
+
+pub returns-in_default-clause-other : goal.returns-in_default-clause-other
+returns-in_default-clause-other c = λ no held reply s is.
+    not_replied _ reply s
+    (deed_no_split _ _ _ _ c.in-Split.k (sym c.command.ensures ∙ c.in-Split.is) (omega arith)) is
+
+pub returns-in_default-2-clause-other : goal.returns-in_default-2-clause-other
+returns-in_default-2-clause-other c = λ no held reply s is.
+    not_replied _ reply s
+    (deed_no_collapse _ _ _ _ c.in-Collapse.k (sym c.command.ensures ∙ c.in-Collapse.is)
+    (omega arith)) is
