@@ -133,7 +133,7 @@ test("memory is given back", () => {
   };
   for (let i = 0; i < 20; i++) round();
   const before = size();
-  for (let i = 0; i < 1000; i++) round();
+  for (let i = 0; i < 200; i++) round();
   assert.equal(size(), before);
 });
 

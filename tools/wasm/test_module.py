@@ -1,7 +1,8 @@
 """Tries the WebAssembly module and the class over it, in node: python3 tools/wasm/test_module.py
 
 The module that VDPM_WASM names is tried. Where the variable isn't set the module is built once, in
-a folder that goes again; where no compiler for it or no node is here, that is said.
+a folder that goes again, of the package that RUST_PACKAGE names or of one that is made; where no
+compiler for it or no node is here, that is said.
 """
 import json
 import os
@@ -15,6 +16,12 @@ from pathlib import Path
 
 HERE = Path(__file__).resolve().parent
 TOP = HERE.parent.parent
+sys.path[:0] = [str(TOP / "tools"), str(HERE)]
+
+from plain_rust import webassembly  # noqa: E402
+from plain_rust.package import package, write  # noqa: E402
+from told_cases import all_cases  # noqa: E402
+
 LEAST_NODE = 18
 # As many cases as there were when this was written, or more.
 LEAST_CASES = 369
@@ -34,14 +41,22 @@ def setUpModule() -> None:
     found = re.match(r"v(\d+)", version)
     if not found or int(found[1]) < LEAST_NODE:
         raise left_out(f"node has version {version.strip()}, and {LEAST_NODE} is needed")
-    if module.is_file():
-        return
-    words = [sys.executable, str(TOP / "tools/plain_rust.py"), "--wasm", str(module)]
-    done = subprocess.run(words, capture_output=True, check=False)
-    if b"no compiler for WebAssembly is here" in done.stderr:
-        raise left_out("there is no compiler for it")
-    if done.returncode:
-        raise AssertionError(done.stderr.decode())
+    if not module.is_file():
+        build()
+
+
+def build() -> None:
+    """Makes the module."""
+    given = os.environ.get("RUST_PACKAGE")
+    folder = Path(given) if given else Path(room.name) / "rust"
+    if not given:
+        write(package(TOP), folder)
+    try:
+        webassembly.build(folder, module)
+    except webassembly.NotBuilt as why:
+        if str(why) == webassembly.INSTALL:
+            raise left_out("there is no compiler for it") from why
+        raise
 
 
 def tearDownModule() -> None:
@@ -50,8 +65,6 @@ def tearDownModule() -> None:
 
 class Module(unittest.TestCase):
     def test_cases_have_the_same_bytes_and_faults(self) -> None:
-        sys.path.insert(0, str(HERE))
-        from told_cases import all_cases
         told = Path(room.name) / "cases.json"
         told.write_text(json.dumps(list(all_cases())), encoding="utf-8")
         words = ["node", str(HERE / "cases.mjs"), str(module), str(told)]
