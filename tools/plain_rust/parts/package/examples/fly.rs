@@ -18,8 +18,12 @@ struct Mesh {
 impl Mesh {
     /// Does a change: takes out what is gone, and puts the rest in by number.
     fn follow(&mut self, change: &Change) {
-        change.gone_faces.iter().for_each(|face| drop(self.faces.remove(face)));
-        change.gone_nodes.iter().for_each(|node| drop(self.nodes.remove(node)));
+        for face in &change.gone_faces {
+            self.faces.remove(face);
+        }
+        for node in &change.gone_nodes {
+            self.nodes.remove(node);
+        }
         let places = change.new_places.chunks_exact(3).map(|it| [it[0], it[1], it[2]]);
         self.nodes.extend(change.new_nodes.iter().copied().zip(places));
         let corners = change.put_corners.chunks_exact(3).map(|it| [it[0], it[1], it[2]]);
