@@ -164,7 +164,7 @@ class Pages(unittest.TestCase):
         rows = [
             ({"README.md": 1300, "docs/A.md": 43700}, []),
             ({"README.md": 1301}, [("README.md", "1301 words are more than 1300")]),
-            ({"docs/A.md": 45000, "b.md": 1}, [("all pages", "45001 words are more than 45000")]),
+            ({"docs/A.md": 46500, "b.md": 1}, [("all pages", "46501 words are more than 46500")]),
         ]
         for words, wanted in rows:
             self.assertEqual(list(pages.too_many_words(words)), wanted)

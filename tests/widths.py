@@ -14,7 +14,7 @@ from typing import Iterator, List, Tuple
 
 TOP = Path(__file__).resolve().parent.parent
 MOST_COLUMNS = 100
-KINDS = (".rt", ".antt", ".py", ".mjs", ".js", ".c", ".h", ".html", ".md")
+KINDS = (".rt", ".rs", ".antt", ".py", ".mjs", ".js", ".c", ".h", ".html", ".md")
 # An attribute; an import of one name; one word, after what begins a list or a comment.
 UNBROKEN = {
     ".rt": re.compile(r"\s*#\["),

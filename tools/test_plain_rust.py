@@ -65,8 +65,9 @@ class Erasing(Rule):
 
     def test_models_go(self) -> None:
         self.assert_plain(
-            "use std::marker::Model;\nuse std::marker::{Brand, Model};\n\nstruct S<'a>(&'a u8);\n\n"
-            "// The view.\nimpl<'a> Model for S<'a> {\n    ghost view = { λ a. a };\n}\n\nfn f() {}\n",
+            "use std::marker::Model;\nuse std::marker::{Brand, Model};\n\nstruct S<'a>(&'a u8);\n"
+            "\n// The view.\nimpl<'a> Model for S<'a> {\n    ghost view = { λ a. a };\n}\n\n"
+            "fn f() {}\n",
             "use crate::rattle_std::marker::Brand;\n\nstruct S<'a>(&'a u8);\n\nfn f() {}\n",
         )
 

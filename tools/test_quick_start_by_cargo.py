@@ -100,8 +100,8 @@ class Library(ByCargo):
         for end in ("a", "so"):
             built = self.repository.top / f"unproved/libvdpm.{end}"
             self.assertEqual(built.read_text(), "a library\n")
-            self.assertIn(f"unproved/{built.name}: not proved, run-time checks on; of these sources",
-                          self.run_here("prove", "--status").stdout)
+            said = self.run_here("prove", "--status").stdout
+            self.assertIn(f"unproved/{built.name}: not proved, run-time checks on; of these", said)
 
 
 if __name__ == "__main__":

@@ -75,6 +75,7 @@ def is_index(code: List[Token], at: int) -> bool:
             depth += (code[at].text in ")]}") - (code[at].text in OPENING)
         if depth < 0:
             before = get(code, at - 1)
-            return code[at].text == "[" and (before.kind == "word" or before.text in (")", "]", "?"))
+            of_value = before.kind == "word" or before.text in (")", "]", "?")
+            return code[at].text == "[" and of_value
         at -= 1
     return False

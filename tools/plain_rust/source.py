@@ -22,7 +22,7 @@ class Source(NamedTuple):
 
 
 def erased(text: str, module: str, crate: str, below: AbstractSet[str]) -> Source:
-    """The source of a module in Rust, of a crate above these others, by these steps and no other."""
+    """The source in Rust, of a module of a crate above these others, by these steps alone."""
     tokens = lex(text)
     refuse(tokens)
     left = without_drop(without_ghosts(tokens))

@@ -23,8 +23,8 @@ PROFILE = "checked"
 # What a program of plain Rust is made by, beside its sources.
 MAKER = ("tools/plain_rust.py", "tools/plain_rust")
 TO_INSTALL = (
-    "Debian has it in `apt-get install cargo` (on Debian 12 `apt-get install cargo-web`), any other "
-    "system by https://rustup.rs"
+    "Debian has it by `apt-get install cargo` (Debian 12 by `apt-get install cargo-web`), any system "
+    "by https://rustup.rs"
 )
 SHOWN = 6
 
@@ -83,6 +83,6 @@ def make(program: Program, room: Path) -> None:
 def way_of_cargo() -> Way:
     """Building by the cargo on the path."""
     if shutil.which("cc") is None:
-        raise Stopped("cargo needs a linker, and cc isn't on the path (Debian: apt-get install gcc)")
+        raise Stopped("cargo needs a linker, and cc isn't on the path: `apt-get install gcc`")
     version = run_shown(["cargo", "--version"], Path.cwd(), f"cargo can't be run; {TO_INSTALL}")
     return Way(version.splitlines()[-1], sum_with_maker, make, "by cargo, without a proof")
