@@ -23,8 +23,8 @@ PROFILE = "checked"
 # What a program of plain Rust is made by, beside its sources.
 MAKER = ("tools/plain_rust.py", "tools/plain_rust")
 TO_INSTALL = (
-    "Debian has it by `apt-get install cargo` (Debian 12 by `apt-get install cargo-web`), any system "
-    "by https://rustup.rs"
+    "Debian has it by `apt-get install cargo` (Debian 12 by `apt-get install cargo-web`), and "
+    "https://rustup.rs for any system"
 )
 SHOWN = 6
 
