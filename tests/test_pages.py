@@ -162,15 +162,15 @@ class Pages(unittest.TestCase):
 
     def test_too_many_words_are_told(self) -> None:
         rows = [
-            ({"README.md": 1300, "docs/A.md": 43700}, []),
-            ({"README.md": 1301}, [("README.md", "1301 words are more than 1300")]),
+            ({"README.md": 1350, "docs/A.md": 43700}, []),
+            ({"README.md": 1351}, [("README.md", "1351 words are more than 1350")]),
             ({"docs/A.md": 46500, "b.md": 1}, [("all pages", "46501 words are more than 46500")]),
         ]
         for words, wanted in rows:
             self.assertEqual(list(pages.too_many_words(words)), wanted)
         self.assertIn(
-            "README.md: 1302 words are more than 1300",
-            faults({"README.md": "a - " * 1302}),
+            "README.md: 1352 words are more than 1350",
+            faults({"README.md": "a - " * 1352}),
         )
 
     def test_a_page_for_users_may_be_longer(self) -> None:
