@@ -69,7 +69,8 @@ class Preparing(unittest.TestCase):
         inward = (points + "f 1 2 3\nf 1 4 2\nf 1 3 4\nf 2 4 3\n").encode()
         done = answer("prepare", [], inward)
         self.assertIn(b"f 1 2 3\nf 1 4 2\nf 1 3 4\nf 2 4 3\n", done.output)
-        self.assertEqual(done.error, "prepare: closed surfaces inside out 1\n")
+        line = "prepare: closed surfaces that enclose a void or face inward 1\n"
+        self.assertEqual(done.error, line)
 
     def test_of_lines_that_go_together_the_first_is_named(self) -> None:
         done = answer("prepare", [], b"v 0 0 0\nv 1 \\\n2 \\\nx\n")

@@ -317,7 +317,7 @@ def prepared(soup: Soup, size: Optional[int]) -> Prepared:
         ("faces turned", sum(turns.flags)),
         ("faces in patches that can't be turned", turns.twisted),
         ("edges of three faces or more", sum(len(at) > 2 for at in sides_of_edges(stay).values())),
-        ("closed surfaces inside out", turns.inside_out),
+        ("closed surfaces that enclose a void or face inward", turns.inside_out),
         ("sides cut open", len(cut_sides(faces))),
         ("vertices split off", len(rounds) - len(used)),
         ("vertices that no face has", len(soup.points) - len(named)),
@@ -341,8 +341,14 @@ def head_line(made: Prepared) -> str:
 
 
 def note_line(made: Prepared, what: str, count: int) -> str:
-    rounding = f", {made.rounded} of them by rounding" if made.rounded else ""
-    return f"prepare: {what} {count}{rounding if what == 'vertices joined' else ''}\n"
+    """What goes with a count stands after it."""
+    line = f"prepare: {what} {count}"
+    if what == "vertices joined" and made.rounded:
+        line += f", {made.rounded} of them by rounding"
+    if what == "vertices split off":
+        line += "\nprepare: what was split off comes apart in fronts: "
+        line += "simplify --keep-border holds the border"
+    return line + "\n"
 
 
 def notes_text(made: Prepared) -> str:

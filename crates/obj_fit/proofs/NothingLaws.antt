@@ -13,7 +13,8 @@ use Rattle.pm_base.specs.Place.{Place}
 use Rattle.std.proofs.lemmas.Bool.Decides.{nat_tests}
 use Rattle.obj_fit.specs.declared.counts.Counts.{Counts}
 use Rattle.obj_fit.specs.Texts.{account_line, warning_line, note_line, face_notes, line_notes}
-use Rattle.obj_fit.specs.Texts.{joined_line, turn_notes, vertex_notes, last_note, notes_text}
+use Rattle.obj_fit.specs.Texts.{joined_line, turn_notes, apart_line, vertex_notes, last_note}
+use Rattle.obj_fit.specs.Texts.{notes_text}
 use Rattle.obj_prepare.specs.Nothing.{nothing_done}
 
 four_ends : (line : List ℕ) → line ++ [] ++ [] ++ [] ++ [] ≡ line
@@ -27,15 +28,16 @@ pub no_account : (c : Counts) → c.vertices_in ≡ c.vertices_out → c.triangl
 unfolding account_line
 no_account c vertices triangles = grind (arith, common_steps, eq-eqb)
 
--- Only polygons that were cut, weights, closed surfaces inside out and faces without area are told.
+-- Only polygons that were cut, weights, closed surfaces that look inward and faces without area are
+-- told.
 pub nothing_said : (c : Counts) (rounded k : ℕ) (fit : Fit) → account_line c ≡ [] → c.twice ≡ 0
     → notes_text c (nothing_done k) rounded fit None ≡ note_line (codes "polygons cut") c.polygons
     ++ note_line (codes "polygons whose triangles overlap") c.overlapping
     ++ note_line (codes "weights passed over") c.weights
-    ++ note_line (codes "closed surfaces inside out") k
+    ++ note_line (codes "closed surfaces that enclose a void or face inward") k
     ++ note_line (codes "faces without area") c.thin ++ last_note fit
-unfolding notes_text face_notes line_notes joined_line turn_notes vertex_notes note_line
-    warning_line
+unfolding notes_text face_notes line_notes joined_line turn_notes apart_line vertex_notes
+    note_line warning_line
 nothing_said c rounded k fit same none = grind (arith, common_steps, append-nil, four_ends)
 
 -- Where no triangle became an edge nothing is warned of.

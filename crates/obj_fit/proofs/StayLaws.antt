@@ -119,7 +119,7 @@ abbrev standing_as_it_is : ℕ → Mesh → ℕ → Done
 standing_as_it_is n m k = record {
   text = output_text fits.Standing m;
   notes = note_line (codes "weights passed over") n
-      ++ note_line (codes "closed surfaces inside out") k
+      ++ note_line (codes "closed surfaces that enclose a void or face inward") k
       ++ note_line (codes "faces without area") (thin_count m.points m.faces)
       ++ last_note fits.Standing;
 }
@@ -136,7 +136,7 @@ stands_as_it_is n m k three placed used =
     λ i. record {
       text = output_text (fit i) (record { points = places i; faces = m.faces });
       notes = note_line (codes "weights passed over") n
-          ++ note_line (codes "closed surfaces inside out") k
+          ++ note_line (codes "closed surfaces that enclose a void or face inward") k
           ++ note_line (codes "faces without area") (thin_count (places i) m.faces)
           ++ last_note (fit i);
     }

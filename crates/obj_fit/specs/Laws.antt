@@ -149,8 +149,8 @@ TextsComeBack = (size : Option ℕ) (bytes : List ℕ) (done : Done) (place : Op
     → ComesBack done.text m
 
 -- The text of an oriented manifold with faces whose vertices are used and stand apart comes back
--- with nothing said of it but weights that were passed over, closed surfaces inside out and faces
--- without area, where its lines are well formed.
+-- with nothing said of it but weights that were passed over, closed surfaces that look inward and
+-- faces without area, where its lines are well formed.
 abbrev pub FitTextsStay : Type 0
 FitTextsStay = (bytes : List ℕ) (m : Mesh) → IsFormed bytes → meaning_of 0 bytes ≡ Ok m
     → 0 < length m.faces → IsOrientedManifold (net_of m.faces) → AreFit m.points m.faces
@@ -159,7 +159,7 @@ FitTextsStay = (bytes : List ℕ) (m : Mesh) → IsFormed bytes → meaning_of 0
     (Ok (record {
       text = output_text fits.Standing m;
       notes = note_line (codes "weights passed over") (weights_in (scan_meaning_of bytes))
-          ++ note_line (codes "closed surfaces inside out") inside_out
+          ++ note_line (codes "closed surfaces that enclose a void or face inward") inside_out
           ++ note_line (codes "faces without area") (thin_count m.points m.faces)
           ++ last_note fits.Standing;
     })) None
@@ -174,15 +174,15 @@ pub record NeedsNothing (size : Option ℕ) (s : Scanned) : Type 0 where
   pub fit : AreFit (places_in size s) (cut_in size s)
 
 -- The output and the notes of these triangles over the places of these points: polygons that were
--- cut, those that overlap, weights that were passed over, closed surfaces inside out, faces without
--- area, and how places lead back.
+-- cut, those that overlap, weights that were passed over, closed surfaces that look inward, faces
+-- without area, and how places lead back.
 abbrev pub as_it_is : Option ℕ → Scanned → ℕ → Done
 as_it_is size s inside_out = record {
   text = output_text (fit_in size s) (record { points = places_in size s; faces = cut_in size s });
   notes = note_line (codes "polygons cut") (length s.polygons)
       ++ note_line (codes "polygons whose triangles overlap") (overlapping_in size s)
       ++ note_line (codes "weights passed over") s.weights
-      ++ note_line (codes "closed surfaces inside out") inside_out
+      ++ note_line (codes "closed surfaces that enclose a void or face inward") inside_out
       ++ note_line (codes "faces without area") (thin_count (places_in size s) (cut_in size s))
       ++ last_note (fit_in size s);
 }

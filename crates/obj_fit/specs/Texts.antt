@@ -101,13 +101,21 @@ turn_notes turns =
     note_line (codes "faces turned") turns.turned
     ++ note_line (codes "faces in patches that can't be turned") turns.twisted
     ++ note_line (codes "edges of three faces or more") turns.crowded
-    ++ note_line (codes "closed surfaces inside out") turns.inside_out
+    ++ note_line (codes "closed surfaces that enclose a void or face inward") turns.inside_out
+
+-- That what was split off comes apart in fronts, and what keeps it together along borders.
+unfoldable pub apart_line : ℕ → List ℕ
+apart_line split =
+    if split == 0 then codes ""
+    else codes "prepare: what was split off comes apart in fronts: "
+    ++ codes "simplify --keep-border holds the border\n"
 
 -- What is said of what was cut and left out.
 unfoldable pub vertex_notes : Notes → List ℕ
 vertex_notes notes =
     note_line (codes "sides cut open") notes.cut
     ++ note_line (codes "vertices split off") notes.split
+    ++ apart_line notes.split
     ++ note_line (codes "vertices that no face has") notes.unnamed
     ++ note_line (codes "vertices whose faces all went") notes.gone
 

@@ -1,7 +1,7 @@
 //! The lines of what was done to lines, faces and vertices of the input.
 ghost use Rattle.std.specs.Prelude.{◌≡◌, ◌++◌, OnOk};
 ghost use Rattle.obj_fit.specs.Texts.{note_line, rounding_text, joined_line, line_notes};
-ghost use Rattle.obj_fit.specs.Texts.{face_notes, turn_notes, vertex_notes};
+ghost use Rattle.obj_fit.specs.Texts.{face_notes, turn_notes, apart_line, vertex_notes};
 
 use crate::counts::Counts;
 use crate::text::add_number;
@@ -98,7 +98,24 @@ pub(crate) fn add_turn_notes(text: &mut Vec<u8>, turns: TurnCounts) -> Result<()
         turns.twisted,
     )?;
     add_note(text, b"edges of three faces or more", turns.crowded)?;
-    add_note(text, b"closed surfaces inside out", turns.inside_out)?;
+    add_note(
+        text,
+        b"closed surfaces that enclose a void or face inward",
+        turns.inside_out,
+    )?;
+    Ok(())
+}
+
+// Adds that what was split off comes apart, where something was.
+#[tactic(auto, unfolding(crate::specs::Texts::apart_line), using(crate::proofs::TextLaws::nothing_added))]
+fn add_apart(text: &mut Vec<u8>, split: u32) -> Result<(), AllocError>
+    ensures { OnOk result (text.new.items ≡ text.old.items ++ apart_line split) }
+{
+    if split == 0 {
+        return Ok(());
+    }
+    text.extend_from_slice(b"prepare: what was split off comes apart in fronts: ")?;
+    text.extend_from_slice(b"simplify --keep-border holds the border\n")?;
     Ok(())
 }
 
@@ -109,6 +126,7 @@ pub(crate) fn add_vertex_notes(text: &mut Vec<u8>, notes: &Notes) -> Result<(), 
 {
     add_note(text, b"sides cut open", notes.cut)?;
     add_note(text, b"vertices split off", notes.split)?;
+    add_apart(text, notes.split)?;
     add_note(text, b"vertices that no face has", notes.unnamed)?;
     add_note(text, b"vertices whose faces all went", notes.gone)?;
     Ok(())

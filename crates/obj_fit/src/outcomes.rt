@@ -14,7 +14,8 @@ ghost use Rattle.obj_fit.specs.Laws.{
 /// back from places to the points that were read, within half a step; the numbers that are said
 /// account for each vertex and triangle; it comes back where it is prepared again without a size;
 /// what needs nothing comes back as it is, for each size and for none; and so does the text of a
-/// mesh on the grid, with nothing said of it but closed surfaces inside out and faces without area.
+/// mesh on the grid, with nothing said of it but closed surfaces that look inward and faces without
+/// area.
 pub fn outcomes_are_sound()
     ensures one { OnePreparedText }
     ensures read { TextsAreRead }

@@ -1,8 +1,9 @@
 use Rattle.obj_fit.specs.Texts.{vertex_notes}
-use Rattle.obj_fit.proofs.TextLaws.{added_four}
+use Rattle.obj_fit.proofs.TextLaws.{added_five}
 use Rattle.obj_fit.proofs.changes.add_vertex_notes.Goals as goal
 
 pub returns : goal.returns
 unfolding vertex_notes
-returns c = added_four _ _ _ _ _ _ _ _ _ c.in_ok-add_note.ensures c.in_ok-add_note-2.ensures
-    c.in_ok-add_note-3.ensures c.in_ok-add_note-4.ensures
+returns c =
+    added_five _ _ _ _ _ _ _ _ _ _ _ c.in_ok-add_note.ensures c.in_ok-add_note-2.ensures
+    c.in_ok-add_apart.ensures c.in_ok-add_note-3.ensures c.in_ok-add_note-4.ensures
