@@ -4,8 +4,8 @@ use Rattle.pm_commands.specs.declared.asked.Border.TheVariants as borders
 use Rattle.pm_commands.specs.declared.asked.Asked.TheVariants as asked
 use Rattle.pm_commands.specs.Outcome.{IsOutcome, Replied}
 use Rattle.pm_commands.specs.Ending.{ReadToEnd, Ends}
-use Rattle.pm_commands.proofs.EndingLaws.{one_asked, said_fault, read_of, cut_of, said_line}
-use Rattle.pm_commands.proofs.EndingLaws.{text_of_read, text_of_write, text_of_memory}
+use Rattle.pm_commands.proofs.EndingLaws.{one_asked, said_fault, read_of, cut_of}
+use Rattle.pm_commands.proofs.EndingLaws.{fail_counts, fail_says}
 use Rattle.pm_commands.proofs.EndingLaws.{completes_whole, completes}
 use Rattle.simplify.proofs.run.run.Goals as goal
 
@@ -24,7 +24,7 @@ returns-in-Ok-clause-read_whole g c = λ other asks is.
 
 pub returns-in-Ok-clause-complete : goal.returns-in-Ok-clause-complete
 returns-in-Ok-clause-complete g c =
-    λ other bytes all asks left outcome in_same out_same in_few out_few.
+    λ other bytes all asks left outcome none.
     inl (completes_whole c.outcomes_are_sound.ensures.one c.in-Some.asked bytes all _ _ _ left
     (subst (λ a. IsOutcome a bytes all)
     (one_asked _ other _ asks (sym c.read_words.ensures.asked ∙ c.in-Some.is)) outcome)
@@ -58,29 +58,24 @@ returns-in-Err-clause-write g c = λ other asks is.
     (one_asked _ _ other (sym c.read_words.ensures.asked ∙ c.in-Some.is) asks)
     c.in-Err.ensures.ends) c.in-Err.ensures.counts
 
-pub returns-in-Err-clause-said_read : goal.returns-in-Err-clause-said_read
-returns-in-Err-clause-said_read g c =
-    λ is. said_line (codes "simplify: ") c.in-Err.fail _ _ _ _ _
-    (text_of_read c.in-Err.fail (sym c.tell.ensures.status ∙ is)) c.tell.ensures.said
+pub returns-in-Err-clause-counts : goal.returns-in-Err-clause-counts
+returns-in-Err-clause-counts g c =
+    fail_counts g.S.Source g.K.Sink c.in-Err.fail _ _ _ _ _ c.tell.ensures.status
+    c.in-Err.ensures.counts
 
-pub returns-in-Err-clause-said_write : goal.returns-in-Err-clause-said_write
-returns-in-Err-clause-said_write g c =
-    λ is. said_line (codes "simplify: ") c.in-Err.fail _ _ _ _ _
-    (text_of_write c.in-Err.fail (sym c.tell.ensures.status ∙ is)) c.tell.ensures.said
-
-pub returns-in-Err-clause-said_memory : goal.returns-in-Err-clause-said_memory
-returns-in-Err-clause-said_memory g c =
-    λ is. said_line (codes "simplify: ") c.in-Err.fail _ _ _ _ _
-    (text_of_memory c.in-Err.fail (sym c.tell.ensures.status ∙ is)) c.tell.ensures.said
+pub returns-in-Err-clause-said : goal.returns-in-Err-clause-said
+returns-in-Err-clause-said g c =
+    fail_says g.E.Sink (codes "simplify") c.in-Err.fail _ _ _ c.tell.ensures.status
+    c.tell.ensures.said
 
 pub returns-in-Err-clause-complete : goal.returns-in-Err-clause-complete
 returns-in-Err-clause-complete g c =
-    λ other bytes all asks left outcome in_same out_same in_few out_few.
+    λ other bytes all asks left outcome none.
     completes c.outcomes_are_sound.ensures.one c.in-Some.asked c.in-Err.fail _ _ _ _ _ bytes all _ _
     _ _ left (subst (λ a. IsOutcome a bytes all)
     (one_asked _ other _ asks (sym c.read_words.ensures.asked ∙ c.in-Some.is)) outcome)
-    c.in-Err.ensures.ends c.in-Err.ensures.counts c.tell.ensures.status in_same out_same in_few
-    out_few
+    c.in-Err.ensures.ends c.in-Err.ensures.counts c.tell.ensures.status none.input_same
+    none.out_same none.input_few none.out_few
 
 pub returns-in-Ok-clause-expands : goal.returns-in-Ok-clause-expands
 returns-in-Ok-clause-expands g c = λ target digits border asks is.
