@@ -7,15 +7,16 @@ use pm_io::{Failed, Sink, Source, StdSink, StdSource};
 use std::io;
 use std::io::{Error, ErrorKind, Read, Write};
 
-// What one call comes to: so many bytes, or an error.
+// What one call comes to: so many bytes, an error, or the error of a call that a signal interrupts.
 #[derive(Clone, Copy)]
 enum Turn {
     Passes(usize),
     Fails,
+    Interrupts,
 }
 
 // A reader and a writer that counts its calls. Call by call it passes as many bytes as it was told,
-// or fails.
+// fails or is interrupted.
 #[derive(Drop)]
 struct Counting<'a> {
     turns: &'a [Turn],
@@ -36,6 +37,7 @@ impl<'a> Counting<'a> {
         match turn {
             Some(Turn::Passes(n)) => Ok(n.min(most)),
             Some(Turn::Fails) => Err(Error::from(ErrorKind::BrokenPipe)),
+            Some(Turn::Interrupts) => Err(Error::from(ErrorKind::Interrupted)),
             None => Ok(0),
         }
     }
@@ -58,7 +60,8 @@ impl<'a> Write for Counting<'a> {
 }
 
 // What the calls of the tests come to.
-const TURNS: [Turn; 5] = [
+const TURNS: [Turn; 6] = [
+    Turn::Interrupts,
     Turn::Passes(3),
     Turn::Fails,
     Turn::Passes(8),
@@ -66,8 +69,8 @@ const TURNS: [Turn; 5] = [
     Turn::Passes(2),
 ];
 
-// What four calls answer, and how often the reader was called.
-fn taken() -> ([Result<usize, Failed>; 4], usize) {
+// What five calls answer, and how often the reader was called.
+fn taken() -> ([Result<usize, Failed>; 5], usize) {
     let mut reader = Counting::new(&TURNS);
     let mut source = StdSource::new(&mut reader);
     let mut buf = [0u8; 8];
@@ -76,23 +79,25 @@ fn taken() -> ([Result<usize, Failed>; 4], usize) {
         source.take(&mut buf),
         source.take(&mut buf),
         source.take(&mut buf),
+        source.take(&mut buf),
     ];
     (taken, reader.calls)
 }
 
-// A terminal gives more after an end, and a pipe after an error. Neither is asked for it in the
-// same call.
+// A terminal gives more after an end, and a pipe after an error or a signal. Neither is asked for
+// it in the same call.
 #[test]
 fn one_take_reads_once(rt: HostRuntime) {
     let (taken, calls) = taken();
-    assert!(rt; taken == [Ok(3), Err(Failed), Ok(8), Ok(0)] && calls == 4);
+    assert!(rt; taken == [Err(Failed), Ok(3), Err(Failed), Ok(8), Ok(0)] && calls == 5);
 }
 
-// What four calls answer, and how often the writer was called.
-fn put() -> ([Result<usize, Failed>; 4], usize) {
+// What five calls answer, and how often the writer was called.
+fn put() -> ([Result<usize, Failed>; 5], usize) {
     let mut writer = Counting::new(&TURNS);
     let mut sink = StdSink::new(&mut writer);
     let put = [
+        sink.put(b"a piece "),
         sink.put(b"a piece "),
         sink.put(b"a piece "),
         sink.put(b"a piece "),
@@ -104,5 +109,5 @@ fn put() -> ([Result<usize, Failed>; 4], usize) {
 #[test]
 fn one_put_writes_once(rt: HostRuntime) {
     let (put, calls) = put();
-    assert!(rt; put == [Ok(3), Err(Failed), Ok(8), Err(Failed)] && calls == 4);
+    assert!(rt; put == [Err(Failed), Ok(3), Err(Failed), Ok(8), Err(Failed)] && calls == 5);
 }
