@@ -90,7 +90,9 @@ class Erasing:
     def drop_back_to_code(self) -> None:
         """Drops the spaces before a clause, and the comments of their own lines that tell of it."""
         out = self.out
-        while out[-1].kind == "space" or out[-1].kind == "comment" and ends_line(out, len(out) - 1):
+        while out and not out[-1].is_code:
+            if out[-1].kind == "comment" and not ends_line(out, len(out) - 1):
+                break
             out.pop()
 
     def drop_back(self) -> None:
@@ -121,7 +123,7 @@ class Erasing:
         """Puts the clauses of public functions into their docs."""
         for head in sorted(self.clauses, reverse=True):
             start = start_of_line(self.out, head)
-            ending = next(it.text for it in self.out[head:] if it.text in ("{", ";"))
+            ending = next((it.text for it in self.out[head:] if it.text in ("{", ";")), "")
             is_public = any(token.is_word("pub") for token in self.out[start:head])
             if is_public or ending == ";":
                 self.put_docs(start, self.clauses[head])

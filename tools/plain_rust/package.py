@@ -1,7 +1,7 @@
 """The package: each crate a module, the programs, and what is written by hand."""
 import hashlib
 from pathlib import Path
-from typing import Dict, Iterator, List, NamedTuple
+from typing import AbstractSet, Dict, Iterator, List, NamedTuple
 
 from quick_start.record import commit_of
 from quick_start.sources import PROGRAMS, crate_rows
@@ -35,9 +35,7 @@ def sources_of(top: Path, crate: str) -> List[Path]:
     return sorted((top / "crates" / crate / "src").rglob("*.rt"))
 
 
-def source_at(top: Path, path: Path, crate: str) -> Source:
-    rows = crate_rows(top)
-    below = {name for name in rows[crate] if name in rows}
+def source_at(top: Path, path: Path, crate: str, below: AbstractSet[str]) -> Source:
     try:
         return erased(path.read_text(encoding="utf-8"), path.stem, crate, below)
     except (Stop, Refusal) as why:
@@ -47,7 +45,8 @@ def source_at(top: Path, path: Path, crate: str) -> Source:
 def module_of(top: Path, crate: str) -> Crate:
     """The module of a crate. Files of `parts/in_place/` stand for those that name memory by
     pointers."""
-    here = top / "crates" / crate / "src"
+    rows, here = crate_rows(top), top / "crates" / crate / "src"
+    below = {name for name in rows[crate] if name in rows}
     files: Dict[str, str] = {}
     exports: List[str] = []
     for path in sources_of(top, crate):
@@ -56,7 +55,7 @@ def module_of(top: Path, crate: str) -> Crate:
         if by_hand.is_file():
             files[f"{crate}/{place}"] = by_hand.read_text(encoding="utf-8")
             continue
-        source = source_at(top, path, crate)
+        source = source_at(top, path, crate, below)
         exports += source.exports
         if str(place) in ("lib.rs", "main.rs"):
             root = with_public_main(source.text) if place.stem == "main" else source.text
@@ -69,7 +68,8 @@ def module_of(top: Path, crate: str) -> Crate:
 def with_allowed(text: str) -> str:
     """The root of a module, with what is allowed in it after its docs."""
     lines = text.splitlines(keepends=True)
-    head = next(at for at, line in enumerate(lines) if not line.startswith("//!"))
+    heads = (at for at, line in enumerate(lines) if not line.startswith("//!"))
+    head = next(heads, len(lines))
     return "".join([*lines[:head], f"#![allow({', '.join(ALLOWED)})]\n", *lines[head:]])
 
 

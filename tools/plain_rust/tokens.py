@@ -5,18 +5,19 @@ from typing import Iterator, List, NamedTuple, Optional, Sequence, Tuple
 from .antt import clause_end, ghost_end
 from .stop import Refusal, Stop
 
-SPACE = re.compile(r"\s+")
-COMMENT = re.compile(r"//[^\n]*")
-UNKNOWN = re.compile(r'/\*|b?r#*"|c"')
-WORD = re.compile(r"[^\W\d]\w*")
-# In the order in which they are tried.
-FORMS = (
-    ("string", re.compile(r'b?"(?:\\.|[^"\\])*"', re.S)),
-    ("char", re.compile(r"b?'(?:\\x[0-9a-fA-F]{2}|\\u\{[^}]*\}|\\.|[^'\\])'")),
-    ("life", re.compile(r"'[^\W\d]\w*")),
-    ("number", re.compile(r"\d\w*(?:\.\d\w*)?")),
-)
-MARKS = frozenset("()[]{}<>.,:;=+-*/%&|^!?@#$~")
+# The forms of tokens, in the order in which they are tried.
+FORMS = {
+    "space": r"\s+",
+    "comment": r"//[^\n]*",
+    "unknown": r'/\*|b?r#*"|c"',
+    "string": r'b?"(?:\\.|[^"\\])*"',
+    "char": r"b?'(?:\\x[0-9a-fA-F]{2}|\\u\{[^}]*\}|\\.|[^'\\])'",
+    "life": r"'[^\W\d]\w*",
+    "number": r"\d\w*(?:\.\d\w*)?",
+    "word": r"[^\W\d]\w*",
+    "mark": r"[][(){}<>.,:;=+*/%&|^!?@#$~-]",
+}
+FORM = re.compile("|".join(f"(?P<{kind}>{form})" for kind, form in FORMS.items()), re.S)
 OPENING, CLOSING = frozenset("([{"), frozenset(")]}")
 
 
@@ -45,25 +46,16 @@ END = Token("end", "", 0)
 
 def piece_at(text: str, at: int) -> Tuple[str, int]:
     """The kind of what begins at a place, and where it ends."""
-    space, comment = SPACE.match(text, at), COMMENT.match(text, at)
-    if space or comment:
-        return ("space", space.end()) if space else ("comment", comment.end() if comment else at)
-    if UNKNOWN.match(text, at):
-        raise Stop("a comment or a string of a form that isn't known", text, at)
-    for kind, form in FORMS:
-        found = form.match(text, at)
-        if found:
-            return kind, found.end()
-    word = WORD.match(text, at)
-    if word and word.group() == "ghost":
-        return "ghost", ghost_end(text, at)
-    if word and word.group() in ("requires", "ensures"):
-        return "clause", clause_end(text, at)
-    if word:
-        return "word", word.end()
-    if text[at] not in MARKS:
+    found = FORM.match(text, at)
+    if found is None or found.lastgroup is None:
         raise Stop("a mark that isn't known", text, at)
-    return "mark", at + 1
+    if found.lastgroup == "unknown":
+        raise Stop("a comment or a string of a form that isn't known", text, at)
+    if found.group() == "ghost":
+        return "ghost", ghost_end(text, at)
+    if found.group() in ("requires", "ensures"):
+        return "clause", clause_end(text, at)
+    return found.lastgroup, found.end()
 
 
 def pieces(text: str) -> Iterator[Token]:
