@@ -14,6 +14,9 @@ use Rattle.obj_fit.specs.Fails.{HasPreparedFault, PlaceUnreached}
 use Rattle.prepare.specs.Ending.{Written, IsPreparedInPart, FailsBy, Finished, prepare_fail_line}
 use Rattle.prepare.specs.Ending.{prepare_fault_line, prepare_status_of}
 use Rattle.pm_io.specs.Puts.{Said}
+use Rattle.pm_io.specs.Endings.{CountsFaults}
+use Rattle.pm_io.specs.declared.device.Source as source
+use Rattle.pm_io.specs.declared.device.Sink as sink
 
 -- A text that was made was written, or a part of it.
 
@@ -81,26 +84,6 @@ module _ (mine other : Asked) (left now : Option (List ℕ)) (in_old in_new : �
       absurd (omega arith)
   fault_of fails.Write err_old err_new before after same is by said = absurd (omega arith)
 
-  pub counts_of : (fail : RunFail) → prepare_status_of fail ≡ 1 → By fail
-      → (in_new ≡ in_old) × (out_new ≡ out_old)
-  counts_of (fails.Input (input.Faulty f)) is by = (by.0.1, by.1.1)
-  counts_of (fails.Input input.Read) is by = absurd (omega arith)
-  counts_of (fails.Input input.OutOfMemory) is by = absurd (omega arith)
-  counts_of fails.Write is by = absurd (omega arith)
-
-  pub memory_counts_of : (fail : RunFail) → prepare_status_of fail ≡ 5 → By fail
-      → (in_new ≡ in_old) × (out_new ≡ out_old)
-  memory_counts_of (fails.Input (input.Faulty f)) is by = absurd (omega arith)
-  memory_counts_of (fails.Input input.Read) is by = absurd (omega arith)
-  memory_counts_of (fails.Input input.OutOfMemory) is by = (by.0, by.1.1)
-  memory_counts_of fails.Write is by = absurd (omega arith)
-
-  pub rose_of : (fail : RunFail) → prepare_status_of fail ≡ 3 → By fail → Rose in_old in_new
-  rose_of (fails.Input (input.Faulty f)) is by = absurd (omega arith)
-  rose_of (fails.Input input.Read) is by = by.0.1
-  rose_of (fails.Input input.OutOfMemory) is by = absurd (omega arith)
-  rose_of fails.Write is by = absurd (omega arith)
-
   pub read_of : (fail : RunFail) → mine ≡ other → prepare_status_of fail ≡ 3 → By fail
       → PlaceUnreached other.size left now
   read_of (fails.Input (input.Faulty f)) same is by = absurd (omega arith)
@@ -115,7 +98,7 @@ module _ (mine other : Asked) (left now : Option (List ℕ)) (in_old in_new : �
   cut_of (fails.Input input.Read) same is by = absurd (omega arith)
   cut_of (fails.Input input.OutOfMemory) same is by = absurd (omega arith)
   cut_of fails.Write same is by = (
-    by.1,
+    by.1.1,
     subst (λ (a : Asked). IfSome left (λ bytes. IsPreparedInPart a.size bytes old new))
         same by.0,
   )
@@ -137,7 +120,68 @@ module _ (mine other : Asked) (left now : Option (List ℕ)) (in_old in_new : �
   completes (fails.Input input.OutOfMemory) status given by in_same out_same in_few out_few =
       inr (inr given)
   completes fails.Write status given by in_same out_same in_few out_few =
-      let rose : Rose out_old out_new = by.1 in absurd (omega (arith, rose))
+      let rose : Rose out_old out_new = by.1.1 in absurd (omega (arith, rose))
+
+-- What the counts did.
+pub counts_of : {S K : Type 0} (s : source.Ghosts S) (k : sink.Ghosts K) (size : Option ℕ)
+    (fail : RunFail) (status : ℕ) (input input_now : S) (out out_now : K)
+    → status ≡ prepare_status_of fail
+    → FailsBy size fail (s.left input) (s.left input_now) (s.faults input) (s.faults input_now)
+    (k.got out) (k.got out_now) (k.faults out) (k.faults out_now)
+    → CountsFaults s k status input input_now out out_now
+counts_of s k size (fails.Input (input.Faulty f)) status input input_now out out_now given by =
+    record {
+      whole = λ is. (by.0.1, by.1.1);
+      faulty = λ is. (by.0.1, by.1.1);
+      words = λ is. (by.0.1, by.1.1);
+      read = λ is. absurd (omega (arith, given, is));
+      write = λ is. absurd (omega (arith, given, is));
+      memory = λ is. (by.0.1, by.1.1);
+    }
+counts_of s k size (fails.Input input.Read) status input input_now out out_now given by = record {
+  whole = λ is. absurd (omega (arith, given, is));
+  faulty = λ is. absurd (omega (arith, given, is));
+  words = λ is. absurd (omega (arith, given, is));
+  read = λ is. (by.0.1, by.1.1);
+  write = λ is. absurd (omega (arith, given, is));
+  memory = λ is. absurd (omega (arith, given, is));
+}
+counts_of s k size (fails.Input input.OutOfMemory) status input input_now out out_now given by =
+    record {
+      whole = λ is. (by.0, by.1.1);
+      faulty = λ is. (by.0, by.1.1);
+      words = λ is. (by.0, by.1.1);
+      read = λ is. absurd (omega (arith, given, is));
+      write = λ is. absurd (omega (arith, given, is));
+      memory = λ is. (by.0, by.1.1);
+    }
+counts_of s k size fails.Write status input input_now out out_now given by = record {
+  whole = λ is. absurd (omega (arith, given, is));
+  faulty = λ is. absurd (omega (arith, given, is));
+  words = λ is. absurd (omega (arith, given, is));
+  read = λ is. absurd (omega (arith, given, is));
+  write = λ is. by.1;
+  memory = λ is. absurd (omega (arith, given, is));
+}
+
+-- Where words can't be gathered no device is asked.
+pub ungathered_counts : {S K : Type 0} (s : source.Ghosts S) (k : sink.Ghosts K) (status : ℕ)
+    (input : S) (out : K) → (status ≡ 2) ⊎ (status ≡ 5)
+    → CountsFaults s k status input input out out
+ungathered_counts s k status input out either = record {
+  whole = λ is. (refl, refl);
+  faulty = λ is. (refl, refl);
+  words = λ is. (refl, refl);
+  read = λ is. elim either [
+    | inl two ↦ absurd (omega (arith, two, is))
+    | inr five ↦ absurd (omega (arith, five, is))
+  ];
+  write = λ is. elim either [
+    | inl two ↦ absurd (omega (arith, two, is))
+    | inr five ↦ absurd (omega (arith, five, is))
+  ];
+  memory = λ is. (refl, refl);
+}
 
 -- What was said.
 

@@ -55,10 +55,12 @@ prepare_status_of (fails.Input input.Read) = 3
 prepare_status_of (fails.Input input.OutOfMemory) = 5
 prepare_status_of fails.Write = 4
 
--- How the program ends early: only a failed write finds the output changed.
+-- How the program ends early: only a failed write finds the output changed, and only the device
+-- that failed counts it.
 abbrev pub FailsBy : Option ℕ → RunFail → Option (List ℕ) → Option (List ℕ) → ℕ → ℕ
     → Option (List ℕ) → Option (List ℕ) → ℕ → ℕ → Type 0
 FailsBy size (fails.Input e) left now in_old in_new old new out_old out_new =
     StopsPreparing size e left now in_old in_new × Stayed old new out_old out_new
 FailsBy size fails.Write left now in_old in_new old new out_old out_new =
-    IfSome left (λ bytes. IsPreparedInPart size bytes old new) × Rose out_old out_new
+    IfSome left (λ bytes. IsPreparedInPart size bytes old new)
+    × ((in_new ≡ in_old) × Rose out_old out_new)

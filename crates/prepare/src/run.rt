@@ -1,9 +1,10 @@
 //! The program over any source and sinks.
-ghost use Rattle.std.specs.Prelude.{◌≡◌, ◌≢◌, ◌⊎◌, ◌≤◌, ◌<◌, ◌-◌, ◌^◌, false, None, IfOk};
-ghost use Rattle.std.specs.Prelude.{IfErr, IfSome, OnOk, codes};
+ghost use Rattle.std.specs.Prelude.{◌≡◌, ◌≢◌, ◌⊎◌, ◌≤◌, false, None, IfOk, IfErr, IfSome, OnOk};
+ghost use Rattle.std.specs.Prelude.{codes};
 ghost use Rattle.pm_io.specs.Bytes.{AtEnd};
 ghost use Rattle.pm_io.specs.Causes.{Rose};
 ghost use Rattle.pm_io.specs.Devices.{Unread, Unput, Tells};
+ghost use Rattle.pm_io.specs.Endings.{Untouched, CountsFaults, NoneFailed};
 ghost use Rattle.obj_prepare.specs.Placing.{IsSize};
 ghost use Rattle.prepare.specs.declared.words.Asked.{Asked};
 ghost use Rattle.std.specs.IoError.{error_kind};
@@ -23,7 +24,6 @@ use std::io::{self, ErrorKind};
 
 // Makes a mesh of the input and writes it, and answers what is to be said of it. All memory is
 // taken before the first byte of output.
-#[tactic(auto, using(crate::proofs::EndingLaws::text_cut))]
 fn obey<S: Source, K: Sink>(
     alloc: Global,
     size: Option<u32>,
@@ -58,6 +58,7 @@ fn obey<S: Source, K: Sink>(
 fn refuse_words<E: Sink>(err: &mut E, kind: ErrorKind) -> u8
     ensures memory { kind ≡ ErrorKind.OutOfMemory → result ≡ 5 }
     ensures other { kind ≢ ErrorKind.OutOfMemory → result ≡ 2 }
+    ensures either { (result ≡ 2) ⊎ (result ≡ 5) }
     ensures unsaid { result ≡ 5 → Unput E.Sink err.old err.new }
     ensures said { result ≡ 2
         → Tells E.Sink err.old err.new (codes "prepare: words not understood\n") }
@@ -92,8 +93,7 @@ pub fn run<S: Source, K: Sink, E: Sink>(
     // Other words are refused, and only they; then nothing is read or put.
     ensures refused { IfOk args (λ _. asked_of args ≡ None → result ≡ 2) }
     ensures known { result ≡ 2 → asked_of args ≡ None }
-    ensures untouched { result ≡ 2 → Unread S.Source input.old input.new
-        × Unput K.Sink out.old out.new }
+    ensures untouched { result ≡ 2 → Untouched S.Source K.Sink input.old input.new out.old out.new }
     // Words that can't be gathered are refused too, but for want of memory, of which nothing is
     // said; and nothing is read.
     ensures not_text { IfErr args (λ e. error_kind e ≢ ErrorKind.OutOfMemory → result ≡ 2) }
@@ -113,16 +113,11 @@ pub fn run<S: Source, K: Sink, E: Sink>(
     // how places lead back.
     ensures stays { (asked : Asked) → Asks args asked → result ≡ 0
         → PutsAsItIs S.Source K.Sink E.Sink asked.size input.old out.old out.new err.old err.new }
-    ensures whole_counts { result ≡ 0
-        → (S.faults input.new ≡ S.faults input.old) × (K.faults out.new ≡ K.faults out.old) }
     ensures read_whole { result ≡ 0 → AtEnd (S.left input.new) }
     // The text has a fault, which is said, and nothing was put.
     ensures faulty { (asked : Asked) → Asks args asked → result ≡ 1
         → TellsFault S.Source E.Sink asked.size input.old err.old err.new }
-    ensures faulty_counts { result ≡ 1
-        → (S.faults input.new ≡ S.faults input.old) × (K.faults out.new ≡ K.faults out.old) }
     // A read failed before the bytes that decide the outcome were all taken.
-    ensures read { result ≡ 3 → Rose (S.faults input.old) (S.faults input.new) }
     ensures unreached { (asked : Asked) → Asks args asked → result ≡ 3
         → Unreached S.Source asked.size input.old input.new }
     // A write failed, and a proper prefix of the text was put; in all other cases but status 0
@@ -130,12 +125,11 @@ pub fn run<S: Source, K: Sink, E: Sink>(
     ensures write { (asked : Asked) → Asks args asked → result ≡ 4
         → Rose (K.faults out.old) (K.faults out.new)
         × Breaks S.Source K.Sink asked.size input.old out.old out.new }
-    // Memory was wanted, and no device failed: so status 5 and a count that rose exclude each
-    // other.
-    ensures memory_counts { result ≡ 5
-        → (S.faults input.new ≡ S.faults input.old) × (K.faults out.new ≡ K.faults out.old) }
     ensures nothing_put { (result ≡ 1) ⊎ ((result ≡ 3) ⊎ (result ≡ 5))
         → K.got out.new ≡ K.got out.old }
+    // The count of a device that failed rose, and no other did, so status 5 and a count that rose
+    // exclude each other.
+    ensures counts { CountsFaults S.Source K.Sink result input.old input.new out.old out.new }
     ensures said_words { result ≡ 2
         → Tells E.Sink err.old err.new (codes "prepare: words not understood\n") }
     ensures said_read { result ≡ 3 → Tells E.Sink err.old err.new (codes "prepare: read fault\n") }
@@ -146,8 +140,7 @@ pub fn run<S: Source, K: Sink, E: Sink>(
     // Where no device failed and the words are understood, the work is done, or the input has a
     // fault, or memory is wanted.
     ensures complete { (asked : Asked) → Asks args asked
-        → S.faults input.new ≡ S.faults input.old → K.faults out.new ≡ K.faults out.old
-        → S.faults input.old < 2 ^ 64 - 1 → K.faults out.old < 2 ^ 64 - 1
+        → NoneFailed S.Source K.Sink input.old input.new out.old out.new
         → (result ≡ 0) ⊎ ((result ≡ 1) ⊎ (result ≡ 5)) }
 {
     let args = match args {

@@ -1,6 +1,6 @@
 use Rattle.std.proofs.Common.{refl}
 use Rattle.obj_fit.specs.Making.{done_of}
-use Rattle.prepare.proofs.EndingLaws.{text_written}
+use Rattle.prepare.proofs.EndingLaws.{text_written, text_cut}
 use Rattle.prepare.proofs.run.obey.Goals as goal
 
 pub returns-in-Ok-write_made-clause-written : goal.returns-in-Ok-write_made-clause-written
@@ -10,3 +10,10 @@ returns-in-Ok-write_made-clause-written g c =
 
 pub returns-in-Err-clause-err : goal.returns-in-Err-clause-err
 returns-in-Err-clause-err g c = (c.in-Err.ensures.err, (refl, refl))
+
+pub returns-in-Err-write_made-clause-err : goal.returns-in-Err-write_made-clause-err
+returns-in-Err-write_made-clause-err g c = (
+  text_cut c.args.size _ _ _ (done_of c.in-Ok.made) c.in-Ok.ensures.made
+      c.in-Err-write_made.ensures.err,
+  (c.in-Ok.ensures.count, c.in-Err-write_made.ensures.cause.failed),
+)

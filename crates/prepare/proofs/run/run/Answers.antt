@@ -2,8 +2,8 @@ use Rattle.std.proofs.Common.{Option, IfSome, sym, ap, ◌∙◌, subst}
 use Rattle.obj_prepare.specs.Placing.{IsSize}
 use Rattle.prepare.specs.declared.words.Asked.{Asked}
 use Rattle.prepare.specs.Words.{asked_of}
-use Rattle.prepare.proofs.EndingLaws.{one_asked, said_done, fault_of, counts_of, memory_counts_of}
-use Rattle.prepare.proofs.EndingLaws.{rose_of, read_of, cut_of, nothing_of, completes, line_of_read}
+use Rattle.prepare.proofs.EndingLaws.{one_asked, said_done, fault_of, counts_of, read_of, cut_of}
+use Rattle.prepare.proofs.EndingLaws.{nothing_of, completes, ungathered_counts, line_of_read}
 use Rattle.prepare.proofs.EndingLaws.{line_of_write, line_of_memory, said_line}
 use Rattle.prepare.proofs.FitLaws.{gained_fits, gained_leads}
 use Rattle.prepare.proofs.StayLaws.{left_stays}
@@ -45,20 +45,14 @@ returns-in-Err-obey-clause-faulty g c = λ other asks is.
     (sym (ap asked_of c.in-Ok.is) ∙ asks)) (sym c.tell.ensures.status ∙ is)
     c.in-Err-obey.ensures.err c.tell.ensures.said
 
-pub returns-in-Err-obey-clause-faulty_counts : goal.returns-in-Err-obey-clause-faulty_counts
-returns-in-Err-obey-clause-faulty_counts g c =
-    λ is. counts_of c.in-Some.asked c.in-Some.asked _ _ _ _ _ _ _ _ c.in-Err-obey.fail
-    (sym c.tell.ensures.status ∙ is) c.in-Err-obey.ensures.err
+pub returns-in-Err-obey-clause-counts : goal.returns-in-Err-obey-clause-counts
+returns-in-Err-obey-clause-counts g c =
+    counts_of g.S.Source g.K.Sink c.in-Some.asked.size c.in-Err-obey.fail _ _ _ _ _
+    c.tell.ensures.status c.in-Err-obey.ensures.err
 
-pub returns-in-Err-obey-clause-memory_counts : goal.returns-in-Err-obey-clause-memory_counts
-returns-in-Err-obey-clause-memory_counts g c =
-    λ is. memory_counts_of c.in-Some.asked c.in-Some.asked _ _ _ _ _ _ _ _ c.in-Err-obey.fail
-    (sym c.tell.ensures.status ∙ is) c.in-Err-obey.ensures.err
-
-pub returns-in-Err-obey-clause-read : goal.returns-in-Err-obey-clause-read
-returns-in-Err-obey-clause-read g c =
-    λ is. rose_of c.in-Some.asked c.in-Some.asked _ _ _ _ _ _ _ _ c.in-Err-obey.fail
-    (sym c.tell.ensures.status ∙ is) c.in-Err-obey.ensures.err
+pub returns-in-Err-clause-counts : goal.returns-in-Err-clause-counts
+returns-in-Err-clause-counts g c =
+    ungathered_counts g.S.Source g.K.Sink _ _ _ c.refuse_words.ensures.either
 
 pub returns-in-Err-obey-clause-unreached : goal.returns-in-Err-obey-clause-unreached
 returns-in-Err-obey-clause-unreached g c = λ other asks is.
@@ -96,6 +90,7 @@ returns-in-Err-obey-clause-said_memory g c =
     (line_of_memory c.in-Err-obey.fail (sym c.tell.ensures.status ∙ is)) c.tell.ensures.said)
 
 pub returns-in-Err-obey-clause-complete : goal.returns-in-Err-obey-clause-complete
-returns-in-Err-obey-clause-complete g c = λ other asks in_same out_same in_few out_few.
+returns-in-Err-obey-clause-complete g c = λ other asks none.
     completes c.in-Some.asked c.in-Some.asked _ _ _ _ _ _ _ _ c.in-Err-obey.fail _
-    c.tell.ensures.status c.in-Err-obey.ensures.err in_same out_same in_few out_few
+    c.tell.ensures.status c.in-Err-obey.ensures.err none.input_same none.out_same
+    none.input_few none.out_few
