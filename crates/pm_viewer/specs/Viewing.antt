@@ -1,5 +1,6 @@
 -- A viewer, and what a line does to it.
-use Rattle.std.specs.Prelude.{ℕ, ◌*◌, ◌≤◌, nat_lt, Bool, List, [], length, if◌then◌else◌}
+use Rattle.std.specs.Prelude.{◌≡◌, ℕ, ℤ, ◌*◌, ◌≤◌, nat_lt, Bool, List, [], length, drop}
+use Rattle.std.specs.Prelude.{if◌then◌else◌}
 use Rattle.pm_forest.specs.Forest.{Hierarchy}
 use Rattle.pm_front.specs.Shown.{active_nodes, kept_faces}
 use Rattle.pm_session.specs.declared.grammar.Grammar.TheVariants as grammars
@@ -38,3 +39,17 @@ pub record FrameFits (h : Hierarchy) (T : ℕ → Bool)
   pub faces_fit : length (kept_faces h T) ≤ faces
   pub corners_fit : 3 * length (kept_faces h T) ≤ corners
   pub corner_nodes_fit : 3 * length (kept_faces h T) ≤ corner_nodes
+
+-- Behind the mesh that a front shows, arrays are as they were.
+pub record FrameLeaves (h : Hierarchy) (T : ℕ → Bool) (nodes : List ℕ) (places : List ℤ)
+    (faces corners corner_nodes : List ℕ) (nodes_now : List ℕ) (places_now : List ℤ)
+    (faces_now corners_now corner_nodes_now : List ℕ) : Type 0 where
+  pub nodes_stay : drop (length (active_nodes h T)) nodes_now
+      ≡ drop (length (active_nodes h T)) nodes
+  pub places_stay : drop (3 * length (active_nodes h T)) places_now
+      ≡ drop (3 * length (active_nodes h T)) places
+  pub faces_stay : drop (length (kept_faces h T)) faces_now ≡ drop (length (kept_faces h T)) faces
+  pub corners_stay : drop (3 * length (kept_faces h T)) corners_now
+      ≡ drop (3 * length (kept_faces h T)) corners
+  pub corner_nodes_stay : drop (3 * length (kept_faces h T)) corner_nodes_now
+      ≡ drop (3 * length (kept_faces h T)) corner_nodes

@@ -1,10 +1,10 @@
 //! Filling arrays with a frame.
-ghost use Rattle.std.specs.Prelude.{◌≡◌, ◌≤◌, ◌*◌, true, false, OnOk, OnErr, length, take};
+ghost use Rattle.std.specs.Prelude.{◌≡◌, ◌≤◌, ◌*◌, true, false, OnOk, OnErr, length, take, drop};
 ghost use Rattle.pm_base.specs.Counts.{set_of};
 ghost use Rattle.pm_forest.specs.Forest.{node_count};
 ghost use Rattle.pm_front.specs.Shown.{active_nodes, kept_faces};
 ghost use Rattle.pm_arrays.specs.Arrays.{place_array, position_array, node_array, ArePositions};
-ghost use Rattle.pm_viewer.specs.Viewing.{FrameFits};
+ghost use Rattle.pm_viewer.specs.Viewing.{FrameFits, FrameLeaves};
 
 use pm_arrays::{write_faces, write_nodes};
 use pm_front::Front;
@@ -54,6 +54,10 @@ fn fill_nodes(front: &Front, positions: &mut [u32], nodes: &mut [u32], places: &
         take n nodes.new ≡ active_nodes front.now.h (set_of front.now.flags) }
     ensures places { let n = length (active_nodes front.now.h (set_of front.now.flags)) in
         take (3 * n) places.new ≡ place_array front.now.h (set_of front.now.flags) }
+    ensures nodes_behind { let n = length (active_nodes front.now.h (set_of front.now.flags)) in
+        drop n nodes.new ≡ drop n nodes.old }
+    ensures places_behind { let n = length (active_nodes front.now.h (set_of front.now.flags)) in
+        drop (3 * n) places.new ≡ drop (3 * n) places.old }
     ensures positions { ArePositions front.now.h (set_of front.now.flags) positions.new }
 {
     let n = front.active_count() as usize;
@@ -81,6 +85,13 @@ fn fill_faces(
         take (3 * n) corners.new ≡ position_array front.now.h (set_of front.now.flags) }
     ensures corner_nodes { let n = length (kept_faces front.now.h (set_of front.now.flags)) in
         take (3 * n) corner_nodes.new ≡ node_array front.now.h (set_of front.now.flags) }
+    ensures faces_behind { let n = length (kept_faces front.now.h (set_of front.now.flags)) in
+        drop n faces.new ≡ drop n faces.old }
+    ensures corners_behind { let n = length (kept_faces front.now.h (set_of front.now.flags)) in
+        drop (3 * n) corners.new ≡ drop (3 * n) corners.old }
+    ensures corner_nodes_behind { let n = length (kept_faces front.now.h
+        (set_of front.now.flags)) in
+        drop (3 * n) corner_nodes.new ≡ drop (3 * n) corner_nodes.old }
 {
     let n = front.kept_count() as usize;
     write_faces(
@@ -122,6 +133,9 @@ pub(crate) fn write_frame(
     ensures corner_nodes { let n = length (kept_faces front.now.h (set_of front.now.flags)) in
         OnOk result (take (3 * n) corner_nodes.new ≡ node_array front.now.h
         (set_of front.now.flags)) }
+    ensures behind { OnOk result (FrameLeaves front.now.h (set_of front.now.flags)
+        nodes.old places.old faces.old corners.old corner_nodes.old
+        nodes.new places.new faces.new corners.new corner_nodes.new) }
     ensures unwritten { OnErr result ((nodes.new ≡ nodes.old) × (places.new ≡ places.old) ×
         (faces.new ≡ faces.old)
         × (corners.new ≡ corners.old) × (corner_nodes.new ≡ corner_nodes.old)) }

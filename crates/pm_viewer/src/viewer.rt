@@ -8,10 +8,10 @@ ghost use Rattle.pm_forest.specs.Fronts.{ancestor_of};
 ghost use Rattle.pm_forest.specs.Places.{place_of_node};
 ghost use Rattle.pm_front.specs.Shown.{active_nodes, kept_faces};
 ghost use Rattle.pm_arrays.specs.Arrays.{place_array, position_array, node_array};
-ghost use Rattle.pm_change.specs.Arrays.{sizes_of_change, ChangeFits, BeginWith};
+ghost use Rattle.pm_change.specs.Arrays.{sizes_of_change, ChangeFits, BeginWith, LeavesBehind};
 ghost use Rattle.pm_session.specs.Script.{now_marked};
 ghost use Rattle.pm_session.specs.Session.{LineEnds, change_since};
-ghost use Rattle.pm_viewer.specs.Viewing.{live_deed, viewer_state, FrameFits};
+ghost use Rattle.pm_viewer.specs.Viewing.{live_deed, viewer_state, FrameFits, FrameLeaves};
 
 use crate::filling::{TooSmall, write_frame};
 use crate::looking::ancestor;
@@ -198,6 +198,9 @@ impl Viewer {
             (set_of self.old.shown.flags)) in
             OnOk result (take (3 * n) corner_nodes.new ≡ node_array self.old.shown.h
             (set_of self.old.shown.flags)) }
+        ensures behind { OnOk result (FrameLeaves self.old.shown.h (set_of self.old.shown.flags)
+            nodes.old places.old faces.old corners.old corner_nodes.old
+            nodes.new places.new faces.new corners.new corner_nodes.new) }
         ensures same { self.new ≡ self.old }
         ensures unwritten { OnErr result ((nodes.new ≡ nodes.old) × (places.new ≡ places.old) ×
             (faces.new ≡ faces.old)
@@ -238,6 +241,9 @@ impl Viewer {
         ensures sizes { IfOk result (λ s. s ≡ sizes_of_change (change_since self.old.shown)) }
         ensures wanted { IfErr result (λ s. s ≡ sizes_of_change (change_since self.old.shown)) }
         ensures arrays { OnOk result (BeginWith (change_since self.old.shown) gone_faces.new
+            gone_nodes.new new_nodes.new new_places.new put_faces.new put_corners.new) }
+        ensures behind { OnOk result (LeavesBehind (change_since self.old.shown) gone_faces.old
+            gone_nodes.old new_nodes.old new_places.old put_faces.old put_corners.old gone_faces.new
             gone_nodes.new new_nodes.new new_places.new put_faces.new put_corners.new) }
         ensures marked { OnOk result (viewer_state self.new ≡ now_marked (viewer_state self.old)) }
         ensures same { (self.new.shown.h ≡ self.old.shown.h) × (self.new.digits ≡ self.old.digits)

@@ -1,5 +1,5 @@
 use Rattle.std.proofs.Common.{◌≡◌, OnOk, OnErr, IfOk, IfErr, length, subst}
-use Rattle.pm_change.specs.Arrays.{sizes_of_change, ChangeFits, BeginWith}
+use Rattle.pm_change.specs.Arrays.{sizes_of_change, ChangeFits, BeginWith, LeavesBehind}
 use Rattle.pm_session.specs.Session.{Shown, change_since}
 use Rattle.pm_viewer.specs.Viewing.{Viewed}
 use Rattle.pm_viewer.proofs.viewer.Viewer.change.Goals as goal
@@ -55,4 +55,18 @@ returns-clause-arrays c =
     c.deref_mut.ensures.value c.change.ensures.arrays in
     subst (λ (v : Viewed). OnOk r (BeginWith (change_since v.shown) n.gone_faces n.gone_nodes
     n.new_nodes n.new_places n.put_faces n.put_corners))
+    c.self.view_is at_session
+
+pub returns-clause-behind : goal.returns-clause-behind
+returns-clause-behind c =
+    let a = c.args in
+    let n = c.change.new in
+    let r = c.change.result in
+    let at_session = subst (λ (s : Shown). OnOk r (LeavesBehind (change_since s) a.gone_faces.now
+    a.gone_nodes.now a.new_nodes.now a.new_places.now a.put_faces.now a.put_corners.now
+    n.gone_faces n.gone_nodes n.new_nodes n.new_places n.put_faces n.put_corners))
+    c.deref_mut.ensures.value c.change.ensures.behind in
+    subst (λ (v : Viewed). OnOk r (LeavesBehind (change_since v.shown) a.gone_faces.now
+    a.gone_nodes.now a.new_nodes.now a.new_places.now a.put_faces.now a.put_corners.now
+    n.gone_faces n.gone_nodes n.new_nodes n.new_places n.put_faces n.put_corners))
     c.self.view_is at_session
