@@ -38,9 +38,10 @@ enum {
     VDPM_FAULTY = 1,       /* the text has a fault, which is told beside the answer */
     VDPM_OUT_OF_RANGE = 2, /* a number that was asked for is out of its range; nothing was done */
     VDPM_NO_MEMORY = 5,  /* memory was wanting */
-    VDPM_NOT_SO = 6,     /* the handle isn't open; what opens or makes: it is open already */
+    VDPM_NOT_SO = 6,     /* the handle isn't open, and nothing was written; what opens or makes: it
+                          * is open already */
     VDPM_NO_ROOM = 7,    /* an array has less room than is needed; nothing was written */
-    VDPM_NO_SUCH = 8,    /* there is no such node or leaf */
+    VDPM_NO_SUCH = 8,    /* there is no such node or leaf; nothing was written */
     VDPM_QUIT = 9,       /* the line was `q`: nothing was done */
     VDPM_BAD_LINE = 30,  /* the line is none of the forms; nothing was done */
     VDPM_NO_RECORD = 31  /* the line names a record that isn't there; nothing was done */
@@ -72,8 +73,8 @@ typedef struct vdpm_sizes {
  * view makes at most `budget` moves; the line `b N` sets another budget. The bytes are copied as
  * far as they are needed.
  * Answers VDPM_DONE; the number of the fault for which `vdpm check` refuses the bytes, with its
- * place in *place (0 where it has none); VDPM_NO_MEMORY; or VDPM_NOT_SO. The viewer is closed
- * still where it isn't VDPM_DONE. */
+ * place in *place (0 where it has none); VDPM_NO_MEMORY; or VDPM_NOT_SO. Beside all that is no
+ * fault *place is 0. The viewer is as it was where it isn't VDPM_DONE. */
 uint32_t vdpm_open(const uint8_t *stream, size_t length, uint32_t budget, vdpm_viewer *viewer,
                    uint64_t *place);
 
@@ -87,8 +88,8 @@ uint32_t vdpm_line(vdpm_viewer *viewer, const uint8_t *line, size_t length);
  * that wasn't done. */
 uint32_t vdpm_reply_length(vdpm_viewer *viewer, size_t *length);
 
-/* Copies the reply, with its LFs and without a final zero, to the front of `room` bytes. It
- * stays until the next line. */
+/* Copies the reply, with its LFs and without a final zero, to the front of `room` bytes, of which
+ * the rest stays as it was. The reply stays until the next line. */
 uint32_t vdpm_reply(vdpm_viewer *viewer, uint8_t *out, size_t room);
 
 /* Tells how large the hierarchy and the mesh shown are, so that the caller can make room for a
@@ -144,7 +145,8 @@ uint32_t vdpm_maker(vdpm_viewer *viewer, uint32_t node, uint32_t *record);
 /* Tells the active node that has a leaf below it. */
 uint32_t vdpm_ancestor(vdpm_viewer *viewer, uint32_t leaf, uint32_t *node);
 
-/* Writes the three coordinates of a node to the front of `room` numbers. */
+/* Writes the three coordinates of a node to the front of `room` numbers; the rest stays as it was.
+ */
 uint32_t vdpm_place(vdpm_viewer *viewer, uint32_t node, int32_t *out, size_t room);
 
 /* Closes a viewer and gives its memory back. One that isn't open stays as it is. */
@@ -157,7 +159,8 @@ typedef struct vdpm_made {
     uint32_t open;
 } vdpm_made;
 
-/* A fault of a text, as the program tells it (docs/COMMANDS.md, "The faults of an OBJ text"). */
+/* A fault of a text, as the program tells it (docs/COMMANDS.md, "The faults of an OBJ text"). Both
+ * are 0 beside each answer but VDPM_FAULTY. */
 typedef struct vdpm_fault {
     uint32_t number; /* 0 where there is none */
     uint64_t place;  /* the line, face or vertex, counted from 1; 0 where it has none */
@@ -167,8 +170,8 @@ typedef struct vdpm_fault {
  * mesh is simplified to `faces` faces, or as far as pairs may be collapsed (0: as far as that
  * goes), and coordinates have `digits` decimals, 0 to 4. vdpm_made_bytes has the stream then.
  * Answers VDPM_DONE; VDPM_FAULTY, with the fault for which the program refuses the text in *fault;
- * VDPM_OUT_OF_RANGE, for digits above 4; VDPM_NO_MEMORY; or VDPM_NOT_SO. Nothing is made where it
- * isn't VDPM_DONE. */
+ * VDPM_OUT_OF_RANGE, for digits above 4; VDPM_NO_MEMORY; or VDPM_NOT_SO. Nothing is made, and
+ * *made is as it was, where it isn't VDPM_DONE. */
 uint32_t vdpm_build(const uint8_t *text, size_t length, uint32_t faces, uint32_t digits,
                     vdpm_made *made, vdpm_fault *fault);
 
@@ -190,7 +193,7 @@ uint32_t vdpm_prepare(const uint8_t *text, size_t length, uint32_t size, vdpm_ma
 uint32_t vdpm_made_length(vdpm_made *made, size_t *bytes, size_t *notes);
 
 /* Copies what was made, or the lines that are said beside it, to the front of `room` bytes, without
- * a final zero. */
+ * a final zero; the rest stays as it was. */
 uint32_t vdpm_made_bytes(vdpm_made *made, uint8_t *out, size_t room);
 uint32_t vdpm_made_notes(vdpm_made *made, uint8_t *out, size_t room);
 

@@ -45,10 +45,10 @@ fn main(rt: HostRuntime) {
     changes::vdpm_change(
         alloc, &mut handle, &mut a, &mut b, &mut c, &mut signed, &mut d, &mut e, &mut gone,
     );
-    exports::vdpm_splitter(alloc, &mut handle, 0, &mut number);
-    exports::vdpm_maker(alloc, &mut handle, 0, &mut number);
-    exports::vdpm_ancestor(alloc, &mut handle, 0, &mut number);
-    exports::vdpm_place(alloc, &mut handle, 0, &mut signed);
+    nodes::vdpm_splitter(alloc, &mut handle, 0, &mut number);
+    nodes::vdpm_maker(alloc, &mut handle, 0, &mut number);
+    nodes::vdpm_ancestor(alloc, &mut handle, 0, &mut number);
+    nodes::vdpm_place(alloc, &mut handle, 0, &mut signed);
     exports::vdpm_close(alloc, &mut handle);
     let Handle { slot: _slot, open: _open } = handle;
     let mut made = MadeHandle { slot: MadeSlot::empty(alloc), open: 0 };

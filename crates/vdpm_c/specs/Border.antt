@@ -1,6 +1,6 @@
 -- What crosses to C: what C owes, and what each exported function came to.
-use Rattle.std.specs.Prelude.{◌≡◌, ℕ, ◌≤◌, List, [], length, Option, Some, None, IsSome, Result, Ok}
-use Rattle.std.specs.Prelude.{Err}
+use Rattle.std.specs.Prelude.{◌≡◌, ℕ, ◌≤◌, List, [], length, take, drop, Option, Some, None, IsSome}
+use Rattle.std.specs.Prelude.{Result, Ok, Err}
 use Rattle.pm_base.specs.Counts.{set_of}
 use Rattle.pm_forest.specs.Forest.{node_count, leaf_count, record_count}
 use Rattle.pm_front.specs.Shown.{active_nodes, kept_faces}
@@ -27,6 +27,11 @@ IsSound handle = handle.open ≡ 1 → IsSome handle.slot.value
 -- The handle is open, with this viewer.
 abbrev pub Has : Handle → Viewed → Type 0
 Has handle v = (handle.open ≡ 1) × (handle.slot.value ≡ Some v)
+
+-- These items stand at the front of an array, and what stands behind them is as it was.
+pub record IsCopied {A : Type 0} (items old new : List A) : Type 0 where
+  pub front : take (length items) new ≡ items
+  pub behind : drop (length items) new ≡ drop (length items) old
 
 -- The status of a line.
 abbrev pub line_status : Result Next LineFail → ℕ

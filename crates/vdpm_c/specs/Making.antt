@@ -23,6 +23,10 @@ IsWhole handle = handle.open ≡ 1 → IsSome handle.slot.value
 abbrev pub HasMade : MadeHandle → MadeText → Type 0
 HasMade handle m = (handle.open ≡ 1) × (handle.slot.value ≡ Some m)
 
+-- No fault is told.
+abbrev pub no_fault : FaultTold
+no_fault = record { number = 0; place = 0 }
+
 -- This is the number of the fault for which nothing is made, and its place, as the line says them
 -- that the program says.
 pub record FaultIsTold (fail : BuildFail) (told : FaultTold) : Type 0 where

@@ -53,7 +53,11 @@ pub extern "C" fn vdpm_change(
         × (gone_nodes.new ≡ gone_nodes.old) × (new_nodes.new ≡ new_nodes.old)
         × (new_places.new ≡ new_places.old) × (put_faces.new ≡ put_faces.old)
         × (put_corners.new ≡ put_corners.old) }
-    ensures not_so { handle.old.open ≢ 1 → (result ≡ 6) × (handle.new ≡ handle.old) }
+    ensures not_so { handle.old.open ≢ 1 → (result ≡ 6) × (handle.new ≡ handle.old)
+        × (gone_faces.new ≡ gone_faces.old) × (gone_nodes.new ≡ gone_nodes.old)
+        × (new_nodes.new ≡ new_nodes.old) × (new_places.new ≡ new_places.old)
+        × (put_faces.new ≡ put_faces.old) × (put_corners.new ≡ put_corners.old)
+        × (counts.new ≡ counts.old) }
 {
     if handle.open != 1 {
         return NOT_SO;

@@ -1,13 +1,11 @@
 //! The exported functions. Each answers a status: 0 where all was done.
 ghost use Rattle.std.specs.Prelude.{◌≡◌, ◌≢◌, ◌≤◌, ◌<◌, ◌*◌, ◌↔◌, None, length, take};
 ghost use Rattle.pm_base.specs.Counts.{set_of};
-ghost use Rattle.pm_forest.specs.Forest.{node_count, leaf_count, splitter_of, maker_of};
-ghost use Rattle.pm_forest.specs.Fronts.{ancestor_of};
 ghost use Rattle.pm_front.specs.Shown.{active_nodes, kept_faces};
-ghost use Rattle.pm_arrays.specs.Arrays.{coordinates_of, place_array, position_array, node_array};
+ghost use Rattle.pm_arrays.specs.Arrays.{place_array, position_array, node_array};
 ghost use Rattle.pm_viewer.specs.Viewing.{Viewed, FrameFits};
 ghost use Rattle.vdpm_c.specs.Border.{IsSound, Has, LineDone, Opened, Refused, AreCountsOf};
-ghost use Rattle.vdpm_c.specs.Border.{record_told};
+ghost use Rattle.vdpm_c.specs.Border.{IsCopied};
 
 use crate::holding::{put, take};
 use crate::inside;
@@ -27,6 +25,8 @@ pub extern "C" fn vdpm_open(
 ) -> u32
     ensures opened { result ≡ 0 → (v : Viewed) × Has handle.new v × Opened stream.now budget v }
     ensures refused { result ≢ 0 → result ≢ 5 → result ≢ 6 → Refused stream.now result place.new }
+    ensures statuses { result ≢ 0 → result ≢ 5 → result ≢ 6 → 11 ≤ result }
+    ensures no_place { result < 11 → place.new ≡ 0 }
     ensures not_so { result ≡ 6 ↔ (handle.old.open ≢ 0) }
     ensures as_before { result ≢ 0 → handle.new ≡ handle.old }
 {
@@ -68,7 +68,8 @@ pub extern "C" fn vdpm_reply_length(alloc: Global, handle: &mut Handle, count: &
     requires { IsSound handle.old }
     ensures told { (v : Viewed) → Has handle.old v
         → (result ≡ 0) × (count.new ≡ length v.reply) × Has handle.new v }
-    ensures not_so { handle.old.open ≢ 1 → (result ≡ 6) × (handle.new ≡ handle.old) }
+    ensures not_so { handle.old.open ≢ 1 → (result ≡ 6) × (handle.new ≡ handle.old)
+        × (count.new ≡ count.old) }
 {
     if handle.open != 1 {
         return NOT_SO;
@@ -84,10 +85,11 @@ pub extern "C" fn vdpm_reply_length(alloc: Global, handle: &mut Handle, count: &
 pub extern "C" fn vdpm_reply(alloc: Global, handle: &mut Handle, out: &mut [u8]) -> u32
     requires { IsSound handle.old }
     ensures copied { (v : Viewed) → Has handle.old v → length v.reply ≤ length out.old
-        → (result ≡ 0) × (take (length v.reply) out.new ≡ v.reply) × Has handle.new v }
+        → (result ≡ 0) × IsCopied v.reply out.old out.new × Has handle.new v }
     ensures no_room { (v : Viewed) → Has handle.old v → (length v.reply ≤ length out.old → ⊥)
         → (result ≡ 7) × (out.new ≡ out.old) × Has handle.new v }
-    ensures not_so { handle.old.open ≢ 1 → (result ≡ 6) × (handle.new ≡ handle.old) }
+    ensures not_so { handle.old.open ≢ 1 → (result ≡ 6) × (handle.new ≡ handle.old)
+        × (out.new ≡ out.old) }
 {
     if handle.open != 1 {
         return NOT_SO;
@@ -104,7 +106,8 @@ pub extern "C" fn vdpm_counts(alloc: Global, handle: &mut Handle, counts: &mut C
     requires { IsSound handle.old }
     ensures told { (v : Viewed) → Has handle.old v
         → (result ≡ 0) × AreCountsOf v counts.new × Has handle.new v }
-    ensures not_so { handle.old.open ≢ 1 → (result ≡ 6) × (handle.new ≡ handle.old) }
+    ensures not_so { handle.old.open ≢ 1 → (result ≡ 6) × (handle.new ≡ handle.old)
+        × (counts.new ≡ counts.old) }
 {
     if handle.open != 1 {
         return NOT_SO;
@@ -151,7 +154,9 @@ pub extern "C" fn vdpm_frame(
     ensures corner_nodes { (v : Viewed) → Has handle.old v → result ≡ 0
         → take (3 * length (kept_faces v.shown.h (set_of v.shown.flags))) corner_nodes.new
         ≡ node_array v.shown.h (set_of v.shown.flags) }
-    ensures not_so { handle.old.open ≢ 1 → (result ≡ 6) × (handle.new ≡ handle.old) }
+    ensures not_so { handle.old.open ≢ 1 → (result ≡ 6) × (handle.new ≡ handle.old)
+        × (nodes.new ≡ nodes.old) × (places.new ≡ places.old) × (faces.new ≡ faces.old)
+        × (corners.new ≡ corners.old) × (corner_nodes.new ≡ corner_nodes.old) }
 {
     if handle.open != 1 {
         return NOT_SO;
@@ -161,104 +166,6 @@ pub extern "C" fn vdpm_frame(
         Ok(()) => DONE,
         Err(_) => NO_ROOM,
     };
-    put(handle, viewer);
-    status
-}
-
-/// Tells which record splits a node.
-#[unsafe(no_mangle)]
-pub extern "C" fn vdpm_splitter(
-    alloc: Global,
-    handle: &mut Handle,
-    node: u32,
-    record_number: &mut u32,
-) -> u32
-    requires { IsSound handle.old }
-    ensures kept { (v : Viewed) → Has handle.old v → Has handle.new v }
-    ensures told { (v : Viewed) → Has handle.old v → node < node_count v.shown.h
-        → (result ≡ 0) × (record_number.new ≡ record_told (splitter_of v.shown.h node)) }
-    ensures no_such { (v : Viewed) → Has handle.old v → (node < node_count v.shown.h → ⊥)
-        → (result ≡ 8) × (record_number.new ≡ record_number.old) }
-    ensures not_so { handle.old.open ≢ 1 → (result ≡ 6) × (handle.new ≡ handle.old) }
-{
-    if handle.open != 1 {
-        return NOT_SO;
-    }
-    let viewer = take(alloc, handle);
-    let status = inside::splitter(&viewer, node, record_number);
-    put(handle, viewer);
-    status
-}
-
-/// Tells which record made a node.
-#[unsafe(no_mangle)]
-pub extern "C" fn vdpm_maker(
-    alloc: Global,
-    handle: &mut Handle,
-    node: u32,
-    record_number: &mut u32,
-) -> u32
-    requires { IsSound handle.old }
-    ensures kept { (v : Viewed) → Has handle.old v → Has handle.new v }
-    ensures told { (v : Viewed) → Has handle.old v → node < node_count v.shown.h
-        → (result ≡ 0) × (record_number.new ≡ record_told (maker_of v.shown.h node)) }
-    ensures no_such { (v : Viewed) → Has handle.old v → (node < node_count v.shown.h → ⊥)
-        → (result ≡ 8) × (record_number.new ≡ record_number.old) }
-    ensures not_so { handle.old.open ≢ 1 → (result ≡ 6) × (handle.new ≡ handle.old) }
-{
-    if handle.open != 1 {
-        return NOT_SO;
-    }
-    let viewer = take(alloc, handle);
-    let status = inside::maker(&viewer, node, record_number);
-    put(handle, viewer);
-    status
-}
-
-/// Tells which active node has a leaf below it.
-#[unsafe(no_mangle)]
-pub extern "C" fn vdpm_ancestor(
-    alloc: Global,
-    handle: &mut Handle,
-    leaf: u32,
-    node: &mut u32,
-) -> u32
-    requires { IsSound handle.old }
-    ensures kept { (v : Viewed) → Has handle.old v → Has handle.new v }
-    ensures told { (v : Viewed) → Has handle.old v → leaf < leaf_count v.shown.h
-        → (result ≡ 0) × (node.new ≡ ancestor_of v.shown.h (set_of v.shown.flags) leaf) }
-    ensures no_such { (v : Viewed) → Has handle.old v → (leaf < leaf_count v.shown.h → ⊥)
-        → (result ≡ 8) × (node.new ≡ node.old) }
-    ensures not_so { handle.old.open ≢ 1 → (result ≡ 6) × (handle.new ≡ handle.old) }
-{
-    if handle.open != 1 {
-        return NOT_SO;
-    }
-    let viewer = take(alloc, handle);
-    let status = inside::ancestor(&viewer, leaf, node);
-    put(handle, viewer);
-    status
-}
-
-/// Writes the place of a node.
-#[unsafe(no_mangle)]
-pub extern "C" fn vdpm_place(alloc: Global, handle: &mut Handle, node: u32, out: &mut [i32]) -> u32
-    requires { IsSound handle.old }
-    ensures kept { (v : Viewed) → Has handle.old v → Has handle.new v }
-    ensures told { (v : Viewed) → Has handle.old v → node < node_count v.shown.h
-        → 3 ≤ length out.old
-        → (result ≡ 0) × (take 3 out.new ≡ coordinates_of v.shown.h node) }
-    ensures no_room { (v : Viewed) → Has handle.old v → node < node_count v.shown.h
-        → (3 ≤ length out.old → ⊥) → (result ≡ 7) × (out.new ≡ out.old) }
-    ensures no_such { (v : Viewed) → Has handle.old v → (node < node_count v.shown.h → ⊥)
-        → (result ≡ 8) × (out.new ≡ out.old) }
-    ensures not_so { handle.old.open ≢ 1 → (result ≡ 6) × (handle.new ≡ handle.old) }
-{
-    if handle.open != 1 {
-        return NOT_SO;
-    }
-    let viewer = take(alloc, handle);
-    let status = inside::place(&viewer, node, out);
     put(handle, viewer);
     status
 }

@@ -1,11 +1,12 @@
 //! What the exported functions do with a viewer.
-ghost use Rattle.std.specs.Prelude.{◌≡◌, ◌≢◌, ◌≤◌, ◌<◌, ℕ, List, length, take};
+ghost use Rattle.std.specs.Prelude.{◌≡◌, ◌≢◌, ◌≤◌, ◌<◌, ℕ, List, length};
 ghost use Rattle.pm_base.specs.Counts.{set_of};
 ghost use Rattle.pm_forest.specs.Forest.{node_count, leaf_count, splitter_of, maker_of};
 ghost use Rattle.pm_forest.specs.Fronts.{ancestor_of};
 ghost use Rattle.pm_arrays.specs.Arrays.{coordinates_of};
 ghost use Rattle.pm_viewer.specs.Causes.{IsRefusal};
-ghost use Rattle.vdpm_c.specs.Border.{LineDone, Refused, AreCountsOf, line_status, record_told};
+ghost use Rattle.vdpm_c.specs.Border.{LineDone, Refused, AreCountsOf, IsCopied};
+ghost use Rattle.vdpm_c.specs.Border.{line_status, record_told};
 
 use crate::statuses::{BAD_LINE, DONE, NO_MEMORY, NO_RECORD, NO_ROOM, NO_SUCH, NONE, QUIT};
 use crate::tables::Counts;
@@ -17,6 +18,7 @@ pub(crate) fn refused(fail: OpenFail, place: &mut u64) -> u32
     ensures told { (bytes : List ℕ) → IsRefusal bytes fail → result ≢ 5
         → Refused bytes result place.new }
     ensures apart { result ≢ 5 → 11 ≤ result }
+    ensures untold { result < 11 → place.new ≡ place.old }
 {
     let OpenFail::Faulty(fault) = fail else {
         return NO_MEMORY;
@@ -55,7 +57,7 @@ pub(crate) fn line(viewer: &mut Viewer, text: &[u8]) -> u32
 // Copies bytes to the front of an array.
 pub(crate) fn copy(bytes: &[u8], out: &mut [u8]) -> u32
     ensures copied { length bytes.now ≤ length out.old
-        → (result ≡ 0) × (take (length bytes.now) out.new ≡ bytes.now) }
+        → (result ≡ 0) × IsCopied bytes.now out.old out.new }
     ensures no_room { (length bytes.now ≤ length out.old → ⊥) → (result ≡ 7) × (out.new
         ≡ out.old) }
 {
@@ -136,7 +138,7 @@ fn coordinates(viewer: &Viewer, node: u32) -> [i32; 3]
 // Writes the place of a node.
 pub(crate) fn place(viewer: &Viewer, node: u32, out: &mut [i32]) -> u32
     ensures told { node < node_count viewer.now.shown.h → 3 ≤ length out.old
-        → (result ≡ 0) × (take 3 out.new ≡ coordinates_of viewer.now.shown.h node) }
+        → (result ≡ 0) × IsCopied (coordinates_of viewer.now.shown.h node) out.old out.new }
     ensures no_room { node < node_count viewer.now.shown.h → (3 ≤ length out.old → ⊥)
         → (result ≡ 7) × (out.new ≡ out.old) }
     ensures no_such { (node < node_count viewer.now.shown.h → ⊥) → (result ≡ 8) × (out.new

@@ -39,6 +39,7 @@ pub(crate) fn keep(alloc: Global, it: Made, handle: &mut MadeHandle) -> u32
 pub(crate) fn refused(fail: BuildFail, fault: &mut FaultTold) -> u32
     ensures status { result ≢ 1 → result ≡ 5 }
     ensures told { result ≡ 1 → FaultIsTold fail fault.new }
+    ensures untold { result ≢ 1 → fault.new ≡ fault.old }
 {
     let BuildFail::Faulty(why) = fail else {
         return NO_MEMORY;
@@ -67,6 +68,7 @@ pub(crate) fn unfit(fail: PrepareFail, fault: &mut FaultTold) -> u32
     ensures status { result ≢ 1 → result ≡ 5 }
     ensures told { (size : Option ℕ) (text : List ℕ)
         → IsUnfit size text fail → result ≡ 1 → UnfitText size text fault.new }
+    ensures untold { result ≢ 1 → fault.new ≡ fault.old }
 {
     let PrepareFail::Faulty(why) = fail else {
         return NO_MEMORY;

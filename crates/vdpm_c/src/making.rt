@@ -1,6 +1,6 @@
 //! The exported functions that make bytes of an OBJ text. Each answers a status: 0 where all was
 //! done.
-ghost use Rattle.std.specs.Prelude.{◌≡◌, ◌≢◌, ◌≤◌, ◌<◌, ◌↔◌, None, length, take};
+ghost use Rattle.std.specs.Prelude.{◌≡◌, ◌≢◌, ◌≤◌, ◌<◌, ◌↔◌, None, length};
 ghost use Rattle.pm_commands.specs.declared.asked.Asked.TheVariants as asked;
 ghost use Rattle.pm_commands.specs.Build.{IsBuilt};
 ghost use Rattle.pm_commands.specs.Simplified.{IsSimplifiedText};
@@ -8,7 +8,8 @@ ghost use Rattle.obj_fit.specs.Laws.{IsFitText};
 ghost use Rattle.pm_making.specs.Making.{MadeText, IsStreamOf};
 ghost use Rattle.pm_making.specs.Fitting.{IsPreparedOf};
 ghost use Rattle.vdpm_c.specs.Making.{IsWhole, HasMade, RefusedText, UnfitText, border_told};
-ghost use Rattle.vdpm_c.specs.Making.{size_told};
+ghost use Rattle.vdpm_c.specs.Border.{IsCopied};
+ghost use Rattle.vdpm_c.specs.Making.{no_fault, size_told};
 
 use crate::holding::{put_made, take_made};
 use crate::statuses::{DONE, NOT_SO, OUT_OF_RANGE};
@@ -30,8 +31,10 @@ pub extern "C" fn vdpm_build(
     ensures done { result ≡ 0 → (m : MadeText) × HasMade handle.new m
         × IsStreamOf (IsBuilt faces digits) (asked.Build faces digits) digits text.now m }
     ensures refused { result ≡ 1 → RefusedText (IsBuilt faces digits) text.now fault.new }
+    ensures untold { result ≢ 1 → fault.new ≡ no_fault }
     ensures out_of_range { result ≡ 2 ↔ (handle.old.open ≡ 0) × (4 < digits) }
     ensures not_so { result ≡ 6 ↔ (handle.old.open ≢ 0) }
+    ensures statuses { result ≢ 0 → result ≢ 1 → result ≢ 2 → result ≢ 6 → result ≡ 5 }
     ensures as_before { result ≢ 0 → handle.new ≡ handle.old }
 {
     *fault = NO_FAULT;
@@ -64,8 +67,10 @@ pub extern "C" fn vdpm_simplify(
         (asked.Simplify faces digits (border_told keep_border)) digits text.now m }
     ensures refused { result ≡ 1 → RefusedText
         (IsSimplifiedText (border_told keep_border) faces digits) text.now fault.new }
+    ensures untold { result ≢ 1 → fault.new ≡ no_fault }
     ensures out_of_range { result ≡ 2 ↔ (handle.old.open ≡ 0) × (4 < digits) }
     ensures not_so { result ≡ 6 ↔ (handle.old.open ≢ 0) }
+    ensures statuses { result ≢ 0 → result ≢ 1 → result ≢ 2 → result ≢ 6 → result ≡ 5 }
     ensures as_before { result ≢ 0 → handle.new ≡ handle.old }
 {
     *fault = NO_FAULT;
@@ -93,8 +98,10 @@ pub extern "C" fn vdpm_prepare(
     ensures done { result ≡ 0 → (m : MadeText) × HasMade handle.new m
         × IsPreparedOf (size_told size) text.now m × IsFitText m.bytes }
     ensures refused { result ≡ 1 → UnfitText (size_told size) text.now fault.new }
+    ensures untold { result ≢ 1 → fault.new ≡ no_fault }
     ensures out_of_range { result ≡ 2 ↔ (handle.old.open ≡ 0) × (32767 < size) }
     ensures not_so { result ≡ 6 ↔ (handle.old.open ≢ 0) }
+    ensures statuses { result ≢ 0 → result ≢ 1 → result ≢ 2 → result ≢ 6 → result ≡ 5 }
     ensures as_before { result ≢ 0 → handle.new ≡ handle.old }
 {
     *fault = NO_FAULT;
@@ -121,7 +128,8 @@ pub extern "C" fn vdpm_made_length(
     requires { IsWhole handle.old }
     ensures told { (m : MadeText) → HasMade handle.old m → (result ≡ 0)
         × (bytes.new ≡ length m.bytes) × (notes.new ≡ length m.notes) × HasMade handle.new m }
-    ensures not_so { handle.old.open ≢ 1 → (result ≡ 6) × (handle.new ≡ handle.old) }
+    ensures not_so { handle.old.open ≢ 1 → (result ≡ 6) × (handle.new ≡ handle.old)
+        × (bytes.new ≡ bytes.old) × (notes.new ≡ notes.old) }
 {
     if handle.open != 1 {
         return NOT_SO;
@@ -138,10 +146,11 @@ pub extern "C" fn vdpm_made_length(
 pub extern "C" fn vdpm_made_bytes(alloc: Global, handle: &mut MadeHandle, out: &mut [u8]) -> u32
     requires { IsWhole handle.old }
     ensures copied { (m : MadeText) → HasMade handle.old m → length m.bytes ≤ length out.old
-        → (result ≡ 0) × (take (length m.bytes) out.new ≡ m.bytes) × HasMade handle.new m }
+        → (result ≡ 0) × IsCopied m.bytes out.old out.new × HasMade handle.new m }
     ensures no_room { (m : MadeText) → HasMade handle.old m → (length m.bytes ≤ length out.old → ⊥)
         → (result ≡ 7) × (out.new ≡ out.old) × HasMade handle.new m }
-    ensures not_so { handle.old.open ≢ 1 → (result ≡ 6) × (handle.new ≡ handle.old) }
+    ensures not_so { handle.old.open ≢ 1 → (result ≡ 6) × (handle.new ≡ handle.old)
+        × (out.new ≡ out.old) }
 {
     if handle.open != 1 {
         return NOT_SO;
@@ -157,10 +166,11 @@ pub extern "C" fn vdpm_made_bytes(alloc: Global, handle: &mut MadeHandle, out: &
 pub extern "C" fn vdpm_made_notes(alloc: Global, handle: &mut MadeHandle, out: &mut [u8]) -> u32
     requires { IsWhole handle.old }
     ensures copied { (m : MadeText) → HasMade handle.old m → length m.notes ≤ length out.old
-        → (result ≡ 0) × (take (length m.notes) out.new ≡ m.notes) × HasMade handle.new m }
+        → (result ≡ 0) × IsCopied m.notes out.old out.new × HasMade handle.new m }
     ensures no_room { (m : MadeText) → HasMade handle.old m → (length m.notes ≤ length out.old → ⊥)
         → (result ≡ 7) × (out.new ≡ out.old) × HasMade handle.new m }
-    ensures not_so { handle.old.open ≢ 1 → (result ≡ 6) × (handle.new ≡ handle.old) }
+    ensures not_so { handle.old.open ≢ 1 → (result ≡ 6) × (handle.new ≡ handle.old)
+        × (out.new ≡ out.old) }
 {
     if handle.open != 1 {
         return NOT_SO;
