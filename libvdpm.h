@@ -103,7 +103,7 @@ uint32_t vdpm_counts(vdpm_viewer *viewer, vdpm_sizes *sizes);
  * `faces`         F numbers: the kept faces, ascending
  * `corners`       3 F numbers: the corners of each face, as positions in `nodes` (an index buffer)
  * `corner_nodes`  3 F numbers: the same corners as node numbers
- * The room is counted in numbers, and may be more. */
+ * The room is counted in numbers, and may be more; the rest of it stays as it was. */
 uint32_t vdpm_frame(vdpm_viewer *viewer, uint32_t *nodes, size_t nodes_room, int32_t *places,
                     size_t places_room, uint32_t *faces, size_t faces_room, uint32_t *corners,
                     size_t corners_room, uint32_t *corner_nodes, size_t corner_nodes_room);
@@ -126,9 +126,9 @@ typedef struct vdpm_change_sizes {
  * `new_places`   3 new_nodes numbers: their coordinates x, y, z
  * `put_faces`    put_faces numbers
  * `put_corners`  3 put_faces numbers: the corners of each face, as node numbers
- * The room is counted in numbers, and may be more. Answers VDPM_DONE, VDPM_NOT_SO, or VDPM_NO_ROOM:
- * nothing is marked, and nothing written but *sizes, by which the caller makes room and asks again.
- */
+ * The room is counted in numbers, and may be more; the rest of it stays as it was. Answers
+ * VDPM_DONE, VDPM_NOT_SO, or VDPM_NO_ROOM: nothing is marked, and nothing written but *sizes, by
+ * which the caller makes room and asks again. */
 uint32_t vdpm_change(vdpm_viewer *viewer, uint32_t *gone_faces, size_t gone_faces_room,
                      uint32_t *gone_nodes, size_t gone_nodes_room, uint32_t *new_nodes,
                      size_t new_nodes_room, int32_t *new_places, size_t new_places_room,

@@ -1,6 +1,6 @@
 //! The exported function that tells a change.
 ghost use Rattle.std.specs.Prelude.{◌≡◌, ◌≢◌, ◌↔◌, length};
-ghost use Rattle.pm_change.specs.Arrays.{sizes_of_change, ChangeFits, BeginWith};
+ghost use Rattle.pm_change.specs.Arrays.{sizes_of_change, ChangeFits, BeginWith, LeavesBehind};
 ghost use Rattle.pm_session.specs.Session.{change_since};
 ghost use Rattle.pm_viewer.specs.Viewing.{Viewed};
 ghost use Rattle.vdpm_c.specs.Border.{IsSound, Has, IsMarked, change_counts};
@@ -45,6 +45,10 @@ pub extern "C" fn vdpm_change(
         → counts.new ≡ change_counts (sizes_of_change (change_since v.shown)) }
     ensures arrays { (v : Viewed) → Has handle.old v → result ≡ 0
         → BeginWith (change_since v.shown) gone_faces.new gone_nodes.new new_nodes.new
+        new_places.new put_faces.new put_corners.new }
+    ensures behind { (v : Viewed) → Has handle.old v → result ≡ 0
+        → LeavesBehind (change_since v.shown) gone_faces.old gone_nodes.old new_nodes.old
+        new_places.old put_faces.old put_corners.old gone_faces.new gone_nodes.new new_nodes.new
         new_places.new put_faces.new put_corners.new }
     ensures marked { (v : Viewed) → Has handle.old v → result ≡ 0
         → (w : Viewed) × Has handle.new w × IsMarked v w }

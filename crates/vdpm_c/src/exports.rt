@@ -3,7 +3,7 @@ ghost use Rattle.std.specs.Prelude.{◌≡◌, ◌≢◌, ◌≤◌, ◌<◌, �
 ghost use Rattle.pm_base.specs.Counts.{set_of};
 ghost use Rattle.pm_front.specs.Shown.{active_nodes, kept_faces};
 ghost use Rattle.pm_arrays.specs.Arrays.{place_array, position_array, node_array};
-ghost use Rattle.pm_viewer.specs.Viewing.{Viewed, FrameFits};
+ghost use Rattle.pm_viewer.specs.Viewing.{Viewed, FrameFits, FrameLeaves};
 ghost use Rattle.vdpm_c.specs.Border.{IsSound, Has, LineDone, Opened, Refused, AreCountsOf};
 ghost use Rattle.vdpm_c.specs.Border.{IsCopied};
 
@@ -154,6 +154,9 @@ pub extern "C" fn vdpm_frame(
     ensures corner_nodes { (v : Viewed) → Has handle.old v → result ≡ 0
         → take (3 * length (kept_faces v.shown.h (set_of v.shown.flags))) corner_nodes.new
         ≡ node_array v.shown.h (set_of v.shown.flags) }
+    ensures behind { (v : Viewed) → Has handle.old v → result ≡ 0
+        → FrameLeaves v.shown.h (set_of v.shown.flags) nodes.old places.old faces.old corners.old
+        corner_nodes.old nodes.new places.new faces.new corners.new corner_nodes.new }
     ensures not_so { handle.old.open ≢ 1 → (result ≡ 6) × (handle.new ≡ handle.old)
         × (nodes.new ≡ nodes.old) × (places.new ≡ places.old) × (faces.new ≡ faces.old)
         × (corners.new ≡ corners.old) × (corner_nodes.new ≡ corner_nodes.old) }
