@@ -20,7 +20,7 @@ from .mesh import (
     sides,
 )
 from .polygons import cut
-from .scan import UNITS, Soup, nearest, soup_of_text
+from .scan import PASSED_OVER, UNITS, Soup, nearest, soup_of_text
 
 
 NO_FACES = 12
@@ -282,6 +282,7 @@ class Prepared(NamedTuple):
     notes: List[Tuple[str, int]]
     rounded: int  # how many vertices were joined that stood at different points
     warning: str
+    first_other: int  # the first line that begins otherwise, or 0
 
 
 def prepared(soup: Soup, size: Optional[int]) -> Prepared:
@@ -309,7 +310,8 @@ def prepared(soup: Soup, size: Optional[int]) -> Prepared:
     notes = [
         ("polygons cut", len(soup.polygons)),
         ("polygons whose triangles overlap", overlapping),
-        ("weights passed over", len(soup.weights)),
+        *[(f"{kind} passed over", soup.passed.count(kind)) for kind in PASSED_OVER],
+        ("lines passed over", len(soup.others)),
         ("vertices joined", sum(names[v] != v for v in named)),
         ("faces that name a vertex twice", len(soup.faces) - len(three)),
         ("faces that became edges", flat),
@@ -333,7 +335,8 @@ def prepared(soup: Soup, size: Optional[int]) -> Prepared:
         warning = "a tenth of the triangles or more became edges: "
         warning += fit.longest({v: soup.points[v] for v in placed})
     rounded = len({soup.points[v] for v in named}) - len(set(places.values()))
-    return Prepared(Mesh(points, corners), fit, account, notes, rounded, warning)
+    first = soup.others[0] if soup.others else 0
+    return Prepared(Mesh(points, corners), fit, account, notes, rounded, warning, first)
 
 
 def head_line(made: Prepared) -> str:
@@ -343,6 +346,8 @@ def head_line(made: Prepared) -> str:
 def note_line(made: Prepared, what: str, count: int) -> str:
     """What goes with a count stands after it."""
     line = f"prepare: {what} {count}"
+    if what == "lines passed over":
+        line += f", the first {made.first_other}"
     if what == "vertices joined" and made.rounded:
         line += f", {made.rounded} of them by rounding"
     if what == "vertices split off":

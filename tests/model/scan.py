@@ -1,5 +1,5 @@
-"""What any OBJ text spells for `prepare`: points, triangles, polygons among them, and how many
-weights were passed over.
+"""What any OBJ text spells for `prepare`: points, triangles, polygons among them, and what was
+passed over.
 
 Numbers may have decimals and exponents, faces any number of corners, and a line that ends in a
 backslash is continued by the next. A byte order mark before the first line is passed over. Points
@@ -26,7 +26,7 @@ from .obj import (
 )
 from .polygons import Polygon, fan
 
-SIXTEEN_BITS, LONE_RETURN = 10, 11
+SIXTEEN_BITS, LONE_RETURN, GARBLED_WORD = 10, 11, 13
 BYTE_ORDER_MARK = b"\xef\xbb\xbf"
 
 GREATEST_EXPONENT = 999
@@ -34,11 +34,28 @@ UNITS = 10**18
 GREATEST_UNITS = 10**32
 
 
+# What lines are by their first word.
+KINDS = {
+    "texture places": b"vt",
+    "normals": b"vn",
+    "groups": b"g o s mg",
+    "materials": b"usemtl mtllib usemap maplib bevel c_interp d_interp lod shadow_obj trace_obj"
+    b" ctech stech",
+    "lines and points": b"l p",
+    "curves and surfaces": b"curv curv2 surf vp cstype deg bmat step parm trim hole scrv sp end"
+    b" con",
+    "calls": b"call csh",
+}
+KIND_OF = {word: kind for kind, words in KINDS.items() for word in words.split()}
+PASSED_OVER = ["weights", "colours", *KINDS]
+
+
 class Soup(NamedTuple):
     points: List[Point]
     faces: List[Corners]
     polygons: List[Polygon]
-    weights: List[bytes]  # the fourth number of each vertex line of four numbers, where it isn't 1
+    passed: List[str]  # of what kind each thing is that was passed over
+    others: List[int]  # the lines that begin otherwise
 
 
 def nearest(value: Fraction) -> int:
@@ -77,8 +94,26 @@ def begun_least(points: List[Point], corners: List[int]) -> List[int]:
     return corners[least:] + corners[:least]
 
 
-def take(soup: Soup, text: bytes) -> None:
-    """Adds what a line gives, which stands here with those that it continues."""
+def passed_after_place(fields: List[bytes]) -> List[str]:
+    """What stands after the three coordinates of a vertex."""
+    if len(fields) == 1 and is_weight(fields[0]):
+        return ["weights"]
+    return ["colours"] if len(fields) > 2 else []
+
+
+def pass_over(soup: Soup, word: bytes, number: int) -> None:
+    """Counts a line that is neither a vertex nor a face."""
+    common = (b"v", b"vt", b"vn", b"f")
+    if word not in common and re.sub(rb"[^A-Za-z]", b"", word) in common:
+        raise Fault(GARBLED_WORD)
+    if word in KIND_OF:
+        soup.passed.append(KIND_OF[word])
+    else:
+        soup.others.append(number)
+
+
+def take(soup: Soup, text: bytes, number: int) -> None:
+    """Adds what the line with this number gives, which stands here with those that it continues."""
     word, *fields = fields_of(text) or [b""]
     if word in (b"v", b"f") and len(fields) < 3:
         raise Fault(TOO_FEW_FIELDS)
@@ -87,7 +122,7 @@ def take(soup: Soup, text: bytes) -> None:
         if len(soup.points) == MOST_VERTICES:
             raise Fault(TOO_MANY)
         soup.points.append((x, y, z))
-        soup.weights.extend(field for field in fields[3:] if len(fields) == 4 and is_weight(field))
+        soup.passed.extend(passed_after_place(fields[3:]))
     elif word == b"f":
         corners = [vertex_named(field, len(soup.points)) for field in fields]
         if len(soup.faces) + len(corners) - 2 > MOST_FACES:
@@ -96,6 +131,8 @@ def take(soup: Soup, text: bytes) -> None:
             corners = begun_least(soup.points, corners)
             soup.polygons.append(Polygon(len(soup.faces), corners))
         soup.faces.extend(fan(corners))
+    elif word:
+        pass_over(soup, word, number)
 
 
 def read_of(number: int, line: bytes) -> bytes:
@@ -112,7 +149,7 @@ def read_of(number: int, line: bytes) -> bytes:
 def soup_of_text(text: bytes) -> Soup:
     """The points and triangles of a text, or the first fault of its first line with one. Of lines
     that go together the first is named."""
-    soup, begun, first = Soup([], [], [], []), b"", 1
+    soup, begun, first = Soup([], [], [], [], []), b"", 1
     for number, line in enumerate(lines_of(text), 1):
         if len(line) > MOST_LINE_BYTES:
             raise Fault(TOO_LONG, f"line {number}")
@@ -124,7 +161,7 @@ def soup_of_text(text: bytes) -> Soup:
             begun = begun[:-1] + b" "
             continue
         try:
-            take(soup, begun)
+            take(soup, begun, first)
         except Fault as fault:
             raise Fault(fault.number, f"line {first}") from None
         begun, first = b"", number + 1

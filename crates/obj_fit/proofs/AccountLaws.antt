@@ -14,7 +14,7 @@ pub texts_are_accounted : TextsAreAccounted
 texts_are_accounted size bytes s done means k =
     let cut = cut_in size s in
     let three = of_three cut in
-    let within = (meaning_sound bytes s means).scanning.within in
+    let within = (meaning_sound bytes s means).within in
     let long : length (places_in size s)
     ≡ length s.points = length-places_of size s.points (of_three s.faces) in
     let corners = three_all (AreVerticesBelow (length s.points)) cut (cut_below size s within) in

@@ -142,7 +142,7 @@ made_comes_back size bytes s done is means k read =
     let places = places_in size s in
     let three = of_three (cut_in size s) in
     let corners = three_all (AreVerticesBelow (length s.points)) (cut_in size s)
-    (cut_below size s (meaning_sound bytes s means).scanning.within) in
+    (cut_below size s (meaning_sound bytes s means).within) in
     let long : length s.points
     ≡ length places = sym (length-places_of size s.points (of_three s.faces)) in
     let low = subst (λ n. All (AreVerticesBelow n) three) long corners in

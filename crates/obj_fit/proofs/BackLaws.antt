@@ -50,7 +50,7 @@ made_leads_back size bytes s done is means k =
     let long : length places ≡ length s.points = length-places_of size s.points three in
     let own = subst (λ (n : ℕ). All (AreVerticesBelow n) cut) (sym long)
     (three_all (AreVerticesBelow (length s.points)) (cut_in size s)
-    (cut_below size s sound.scanning.within)) in
+    (cut_below size s sound.within)) in
     record {
       line = head_line fit;
       text_is = k.text_is;

@@ -3,7 +3,7 @@
 use Rattle.std.proofs.Common.{◌≡◌, ℕ, ◌+◌, ◌-◌, ◌^◌, ◌<◌, ◌≤◌, Bool, true, false, ◌==◌}
 use Rattle.std.proofs.lemmas.Grind.{common_steps}
 use Rattle.std.proofs.Common.{nat_lt, List, [], ◌∷◌, length, ℤ, Option, Some, None, Result, Ok, Err}
-use Rattle.std.proofs.Common.{IfOk, refl, subst, arith}
+use Rattle.std.proofs.Common.{IfOk, refl, subst, arith, if◌then◌else◌}
 use Rattle.std.specs.Prelude.{nat_le, unsigned_abs}
 use Rattle.std.specs.List.{All}
 use Rattle.std.proofs.lemmas.Bool.{ltb-false, or_parts}
@@ -15,19 +15,24 @@ use Rattle.obj_read.specs.declared.fault.ObjFault.TheVariants as faults
 use Rattle.obj_read.specs.Fields.{fields}
 use Rattle.obj_read.specs.Indices.{index_text}
 use Rattle.obj_scan.specs.Refusals.{Refused}
-use Rattle.obj_read.proofs.FormedLaws.{Gives, given, then_gives, unless, either, index_within}
+use Rattle.obj_read.proofs.FormedLaws.{Gives, given, then_gives, unless, index_within}
 use Rattle.obj_read.proofs.FormedLaws.{not_full}
 use Rattle.obj_read.proofs.DecimalLaws.{with_sign_abs}
 use Rattle.obj_prepare.specs.Exact.{AreExact}
 use Rattle.obj_prepare.specs.Numbers.{decimal_coordinate}
 use Rattle.obj_scan.specs.Judged.{Scanned, Found, nothing, vertex, polygon, scanned_vertex_line}
 use Rattle.obj_scan.specs.Judged.{indices, polygon_of, polygon_line, scanned_fields, scanned_line}
-use Rattle.obj_scan.specs.Judged.{has_weight, with_scanned}
+use Rattle.obj_scan.specs.Judged.{after_place, in_line, other_line, with_scanned}
+use Rattle.obj_scan.specs.declared.fault.ScanFault.{ScanFault}
+use Rattle.obj_scan.specs.Passing.{none_passed}
 use Rattle.obj_scan.specs.Meaning.{ScannedSoFar, nothing_scanned, and_continued}
-use Rattle.obj_scan.specs.Meaning.{and_scanned_line, judged_length, then_found, line_judged}
+use Rattle.obj_scan.specs.Meaning.{and_scanned_line, joined_text, judged_length, then_found}
+use Rattle.obj_scan.specs.Meaning.{line_judged}
+use Rattle.obj_prepare.specs.Named.{AreVerticesBelow}
+use Rattle.pm_ears.specs.Recutting.{IsPolygonWithin}
 use Rattle.obj_scan.specs.Meaning.{then_scanned_lines, at_end, scan_meaning_from, scan_meaning_of}
-use Rattle.obj_scan.specs.Reading.{IsScanning}
-use Rattle.obj_scan.proofs.ScanLaws.{vertex_scanning, polygon_scanning}
+use Rattle.obj_scan.specs.Meaning.{IsWithinLimits, first_number}
+use Rattle.obj_scan.proofs.ScanLaws.{vertex_within, polygon_kept}
 
 abbrev IsExact : ℤ → Type 0
 IsExact z = unsigned_abs z ≤ 10 ^ 32
@@ -39,8 +44,8 @@ coordinate_exact field =
 
 -- After n vertices and k triangles there is room for what a line gives.
 Suits : ℕ → ℕ → Found → Type 0
-Suits n k nothing = Unit {0}
-Suits n k (vertex p weighted) = (n < 1048576) × AreExact p
+Suits n k (nothing kind) = Unit {0}
+Suits n k (vertex p kind) = (n < 1048576) × AreExact p
 Suits n k (polygon corners) = All (λ (c : ℕ). c < n) corners × (k + (length corners - 2) ≤ 1048576)
 
 vertex_suits : (n k : ℕ) (fs : List (List ℕ)) → Gives (Suits n k) (scanned_vertex_line n fs)
@@ -52,7 +57,7 @@ vertex_suits n k (a ∷ b ∷ c ∷ more) =
     then_gives _ _ _ _ (coordinate_exact a)
     (λ x exact_x. then_gives _ _ _ _ (coordinate_exact b)
     (λ y exact_y. then_gives _ _ _ _ (coordinate_exact c) (λ z exact_z.
-    let v = vertex (record { x = x; y = y; z = z }) (has_weight more) in
+    let v = vertex (record { x = x; y = y; z = z }) (after_place more) in
     unless (Suits n k) (nat_le 1048576 n) faults.TooMany (Ok v)
     (λ room. given (Suits n k) v (not_full n room, (exact_x, exact_y, exact_z))))))
 
@@ -75,53 +80,81 @@ face_suits n k (a ∷ b ∷ []) = record { so = tt }
 face_suits n k (a ∷ b ∷ c ∷ more) =
     then_gives _ _ _ _ (indices_within n (a ∷ b ∷ c ∷ more)) (polygon_suits n k)
 
-nothing_suits : (n k : ℕ) → Gives (Suits n k) (Ok nothing)
+-- The same of a line, whatever it is.
+record LineGives {A : Type 0} (P : A → Type 0) (r : Result A ScanFault) : Type 0 where
+  so : IfOk r P
+
+of_fields : (P : Found → Type 0) (r : Result Found ObjFault) → Gives P r → LineGives P (in_line r)
+of_fields P (Ok f) is = record { so = is.so }
+of_fields P (Err e) is = record { so = tt }
+
+one_of : {A : Type 0} (P : A → Type 0) (b : Bool) (r s : Result A ScanFault) → LineGives P r
+    → LineGives P s → LineGives P (if b then r else s)
+one_of P true r s this that = this
+one_of P false r s this that = that
+
+other_suits : (n k : ℕ) (keyword : List ℕ) → LineGives (Suits n k) (other_line keyword)
+unfolding other_line Suits
+other_suits n k keyword = one_of _ _ _ _ (record { so = tt }) (record { so = tt })
+
+fields_suit : (n k : ℕ) (fs : List (List ℕ)) → LineGives (Suits n k) (scanned_fields n k fs)
 unfolding Suits
-nothing_suits n k = given (Suits n k) nothing tt
-
-fields_suit : (n k : ℕ) (fs : List (List ℕ)) → Gives (Suits n k) (scanned_fields n k fs)
-fields_suit n k [] = nothing_suits n k
+fields_suit n k [] = record { so = tt }
 fields_suit n k (keyword ∷ more) =
-    either _ _ _ _ (vertex_suits n k more)
-    (either _ _ _ _ (face_suits n k more) (nothing_suits n k))
+    one_of _ _ _ _ (of_fields _ _ (vertex_suits n k more))
+    (one_of _ _ _ _ (of_fields _ _ (face_suits n k more)) (other_suits n k keyword))
 
-line_suits : (n k : ℕ) (text : List ℕ) → Gives (Suits n k) (scanned_line n k text)
+line_suits : (n k : ℕ) (text : List ℕ) → LineGives (Suits n k) (scanned_line n k text)
 unfolding scanned_line
 line_suits n k text = fields_suit n k (fields text)
 
 pub record IsSound (s : Scanned) : Type 0 where
   pub exact : All AreExact s.points
-  pub scanning : IsScanning s
+  pub within : IsWithinLimits s
 
-with_found_sound : (s : Scanned) (f : Found) → IsSound s
-    → Suits (length s.points) (length s.faces) f → IsSound (with_scanned s f)
+with_found_sound : (s : Scanned) (line : ℕ) (f : Found) → IsSound s
+    → Suits (length s.points) (length s.faces) f → IsSound (with_scanned s line f)
 unfolding Suits
-with_found_sound s nothing sound suits = sound
-with_found_sound s (vertex p weighted) sound suits =
-    grind (arith, common_steps, All-push AreExact s.points p sound.exact suits.1, vertex_scanning s)
-with_found_sound s (polygon corners) sound suits = record {
+with_found_sound s line (nothing kind) sound suits =
+    record {
+      exact = sound.exact;
+      within = record {
+        points = sound.within.points;
+        faces = sound.within.faces;
+        corners = sound.within.corners;
+        polygons = sound.within.polygons;
+        polygons_few = sound.within.polygons_few;
+      };
+    }
+with_found_sound s line (vertex p kind) sound suits = record {
+  exact = All-push AreExact s.points p sound.exact suits.1;
+  within = vertex_within s line p kind sound.within suits.0;
+}
+with_found_sound s line (polygon corners) sound suits = record {
   exact = sound.exact;
-  scanning = polygon_scanning s (with_scanned s (polygon corners)) corners sound.scanning suits.0
-      suits.1 refl;
+  within = polygon_kept s line corners sound.within suits.0 suits.1;
 }
 
 abbrev AfterSound : ScannedSoFar → Type 0
 AfterSound s = IsSound s.scanned
 
-then_found_sound : (r : Result Found ObjFault) (s : ScannedSoFar) (line : List ℕ)
-    → Gives (Suits (length s.scanned.points) (length s.scanned.faces)) r → AfterSound s
-    → Gives AfterSound (then_found r s line)
+then_found_sound : (r : Result Found ScanFault) (s : ScannedSoFar) (line : List ℕ)
+    → LineGives (Suits (length s.scanned.points) (length s.scanned.faces)) r → AfterSound s
+    → LineGives AfterSound (then_found r s line)
 unfolding and_scanned_line
-then_found_sound (Ok f) s line suits sound = given _ _ (with_found_sound s.scanned f sound suits.so)
+then_found_sound (Ok f) s line suits sound =
+    record { so = with_found_sound s.scanned (first_number s) f sound suits.so }
 then_found_sound (Err e) s line suits sound = record { so = tt }
 
 judged_sound : (s : ScannedSoFar) (line : List ℕ) → AfterSound s
-    → Gives AfterSound (line_judged s line)
-unfolding line_judged and_continued
-judged_sound s line sound = grind (arith, common_steps, either, given, line_suits, then_found_sound)
+    → LineGives AfterSound (line_judged s line)
+unfolding line_judged joined_text and_continued
+judged_sound s line sound =
+    one_of _ _ _ _ (record { so = sound })
+    (then_found_sound _ s line (line_suits _ _ _) sound)
 
-then_lines_sound : (r : Option Refused) (next : Result ScannedSoFar ObjFault) (s : ScannedSoFar)
-    (line : List ℕ) (more : ScannedSoFar → Result Scanned Refused) → Gives AfterSound next
+then_lines_sound : (r : Option Refused) (next : Result ScannedSoFar ScanFault) (s : ScannedSoFar)
+    (line : List ℕ) (more : ScannedSoFar → Result Scanned Refused) → LineGives AfterSound next
     → ((t : ScannedSoFar) → AfterSound t → IfOk (more t) IsSound)
     → IfOk (then_scanned_lines r next s line more) IsSound
 then_lines_sound (Some r) next s line more sound keeps = tt
@@ -141,8 +174,18 @@ meaning_from_sound s (line ∷ more) sound =
     (λ t. scan_meaning_from t more) (judged_sound s line sound)
     (λ t keeps. meaning_from_sound t more keeps)
 
-nothing_sound : IsSound (record { points = []; faces = []; polygons = []; weights = 0 })
-nothing_sound = grind (arith, common_steps, All-nil)
+nothing_sound : IsSound
+    (record { points = []; faces = []; polygons = []; passed = none_passed })
+nothing_sound = record {
+  exact = All-nil AreExact;
+  within = record {
+    points = omega arith;
+    faces = omega arith;
+    corners = All-nil (AreVerticesBelow 0);
+    polygons = All-nil (IsPolygonWithin 0);
+    polygons_few = omega arith;
+  };
+}
 
 pub meaning_sound : (bytes : List ℕ) (s : Scanned) → scan_meaning_of bytes ≡ Ok s → IsSound s
 unfolding scan_meaning_of

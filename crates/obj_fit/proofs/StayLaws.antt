@@ -16,7 +16,7 @@ use Rattle.obj_read.proofs.FormedLaws.{meaning_formed}
 use Rattle.obj_read.proofs.PlacedLaws.{meaning_placed}
 use Rattle.obj_scan.specs.Judged.{Scanned}
 use Rattle.obj_scan.specs.Meaning.{scan_meaning_of}
-use Rattle.obj_scan.specs.Laws.{scanned_mesh, with_weights, weights_in, scaled_up}
+use Rattle.obj_scan.specs.Laws.{scanned_mesh, with_passed, passed_in, scaled_up}
 use Rattle.obj_scan.proofs.ReadLaws.{read_scanned}
 use Rattle.obj_prepare.specs.declared.placing.Fit.TheVariants as fits
 use Rattle.obj_scan.specs.Meaning.{IsWithinLimits}
@@ -32,7 +32,8 @@ use Rattle.obj_prepare.proofs.ThreeLaws.{three_of_manifold, three_of_mesh}
 use Rattle.obj_prepare.proofs.TurnedLaws.{turned_stand}
 use Rattle.std.specs.Prelude.{codes}
 use Rattle.obj_fit.specs.Thin.{thin_count}
-use Rattle.obj_fit.specs.Texts.{output_text, note_line, last_note, notes_text}
+use Rattle.obj_scan.specs.declared.passed.PassedOver.{PassedOver}
+use Rattle.obj_fit.specs.Texts.{output_text, note_line, passed_notes, last_note, notes_text}
 use Rattle.obj_fit.specs.Outcome.{Done, MakesPrepared, cut_in, fit_in, places_in, counts_in}
 use Rattle.obj_fit.specs.Outcome.{IsPreparedText, made}
 use Rattle.obj_fit.specs.Laws.{NeedsNothing, as_it_is, FitScansStay, FitTextsStay}
@@ -75,7 +76,7 @@ stays_made : (size : Option ℕ) (bytes : List ℕ) (s : Scanned) → scan_meani
     → NeedsNothing size s → (k : ℕ) × AreInsideOut (net_of (cut_in size s)) (places_in size s) k
     × MakesPrepared size s (as_it_is size s k)
 stays_made size bytes s means needs =
-    let limits = (meaning_sound bytes s means).scanning.within in
+    let limits = (meaning_sound bytes s means).within in
     let places = places_in size s in
     let cut = cut_in size s in
     let fans = of_three s.faces in
@@ -115,18 +116,19 @@ fit_scans_stay size bytes s means needs =
     (k, inward, made s (as_it_is size s k) means makes)
 
 -- A mesh on the grid all of whose vertices are used stands as it is.
-abbrev standing_as_it_is : ℕ → Mesh → ℕ → Done
+abbrev standing_as_it_is : PassedOver → Mesh → ℕ → Done
 standing_as_it_is n m k = record {
   text = output_text fits.Standing m;
-  notes = note_line (codes "weights passed over") n
+  notes = passed_notes n
       ++ note_line (codes "closed surfaces that enclose a void or face inward") k
       ++ note_line (codes "faces without area") (thin_count m.points m.faces)
       ++ last_note fits.Standing;
 }
 
-stands_as_it_is : (n : ℕ) (m : Mesh) (k : ℕ) → of_three m.faces ≡ m.faces → All IsPlace m.points
+stands_as_it_is : (n : PassedOver) (m : Mesh) (k : ℕ) → of_three m.faces ≡ m.faces
+    → All IsPlace m.points
     → ((v : ℕ) → v < length m.points → IsUsed (net_of m.faces) v)
-    → as_it_is None (with_weights n (scanned_mesh m)) k ≡ standing_as_it_is n m k
+    → as_it_is None (with_passed n (scanned_mesh m)) k ≡ standing_as_it_is n m k
 unfolding note_line
 stands_as_it_is n m k three placed used =
     let points = map scaled_up m.points in
@@ -135,7 +137,7 @@ stands_as_it_is n m k three placed used =
     ∙ standing_places m.points m.faces placed used in
     λ i. record {
       text = output_text (fit i) (record { points = places i; faces = m.faces });
-      notes = note_line (codes "weights passed over") n
+      notes = passed_notes n
           ++ note_line (codes "closed surfaces that enclose a void or face inward") k
           ++ note_line (codes "faces without area") (thin_count (places i) m.faces)
           ++ last_note (fit i);
@@ -149,15 +151,15 @@ fit_texts_stay bytes m formed_so read some manifold fit =
     ≡ m.faces = three_of_mesh (length m.points) m.faces formed.corners in
     let places = ap (prepared_places_of None (map scaled_up m.points)) three
     ∙ standing_places m.points m.faces placed fit.used in
-    let n = weights_in (scan_meaning_of bytes) in
-    let needs : NeedsNothing None (with_weights n (scanned_mesh m)) = record {
+    let n = passed_in (scan_meaning_of bytes) in
+    let needs : NeedsNothing None (with_passed n (scanned_mesh m)) = record {
       some = some;
       stand = λ e l. (mesh_side m formed e l).0;
       manifold = manifold;
       fit = subst (λ (ps : List Place). AreFit ps m.faces) (sym places) fit;
     } in
     let (k, inward, stays) =
-    fit_scans_stay None bytes (with_weights n (scanned_mesh m))
+    fit_scans_stay None bytes (with_passed n (scanned_mesh m))
     (read_scanned bytes m formed_so read) needs in (
       k,
       subst (λ (ps : List Place). AreInsideOut (net_of m.faces) ps k) places inward,

@@ -15,7 +15,7 @@ use Rattle.obj_read.specs.Coordinates.{magnitude, with_sign}
 use Rattle.obj_read.specs.Meaning.{meaning_of}
 use Rattle.obj_scan.specs.Judged.{Scanned}
 use Rattle.obj_scan.specs.Meaning.{scan_meaning_of}
-use Rattle.obj_scan.specs.Laws.{IsFormed, scanned_mesh, weights_in}
+use Rattle.obj_scan.specs.Laws.{IsFormed, scanned_mesh, passed_in}
 use Rattle.obj_prepare.specs.declared.notes.Notes.{Notes}
 use Rattle.obj_prepare.specs.declared.placing.Fit.TheVariants as fits
 use Rattle.obj_prepare.specs.Named.{is_some_corner, of_three}
@@ -27,7 +27,7 @@ use Rattle.obj_prepare.specs.Prepared.{IsPreparedWith}
 use Rattle.obj_prepare.specs.Laws.{AreFit}
 use Rattle.obj_fit.specs.declared.fault.Fault.{Fault}
 use Rattle.obj_fit.specs.Thin.{thin_count}
-use Rattle.obj_fit.specs.Texts.{output_text, note_line, notes_text, last_note}
+use Rattle.obj_fit.specs.Texts.{output_text, note_line, passed_notes, notes_text, last_note}
 use Rattle.obj_fit.specs.Outcome.{Done, MakesPrepared, IsPreparedText, cut_in, overlapping_in}
 use Rattle.obj_fit.specs.Outcome.{fit_in, places_in, counts_in}
 use Rattle.pm_io.specs.Letters.{line_feed, carriage_return, hash_sign}
@@ -149,7 +149,7 @@ TextsComeBack = (size : Option ℕ) (bytes : List ℕ) (done : Done) (place : Op
     → ComesBack done.text m
 
 -- The text of an oriented manifold with faces whose vertices are used and stand apart comes back
--- with nothing said of it but weights that were passed over, closed surfaces that look inward and
+-- with nothing said of it but what was passed over, closed surfaces that look inward and
 -- faces without area, where its lines are well formed.
 abbrev pub FitTextsStay : Type 0
 FitTextsStay = (bytes : List ℕ) (m : Mesh) → IsFormed bytes → meaning_of 0 bytes ≡ Ok m
@@ -158,7 +158,7 @@ FitTextsStay = (bytes : List ℕ) (m : Mesh) → IsFormed bytes → meaning_of 0
     × IsPreparedText None bytes
     (Ok (record {
       text = output_text fits.Standing m;
-      notes = note_line (codes "weights passed over") (weights_in (scan_meaning_of bytes))
+      notes = passed_notes (passed_in (scan_meaning_of bytes))
           ++ note_line (codes "closed surfaces that enclose a void or face inward") inside_out
           ++ note_line (codes "faces without area") (thin_count m.points m.faces)
           ++ last_note fits.Standing;
@@ -174,14 +174,14 @@ pub record NeedsNothing (size : Option ℕ) (s : Scanned) : Type 0 where
   pub fit : AreFit (places_in size s) (cut_in size s)
 
 -- The output and the notes of these triangles over the places of these points: polygons that were
--- cut, those that overlap, weights that were passed over, closed surfaces that look inward, faces
+-- cut, those that overlap, what was passed over, closed surfaces that look inward, faces
 -- without area, and how places lead back.
 abbrev pub as_it_is : Option ℕ → Scanned → ℕ → Done
 as_it_is size s inside_out = record {
   text = output_text (fit_in size s) (record { points = places_in size s; faces = cut_in size s });
   notes = note_line (codes "polygons cut") (length s.polygons)
       ++ note_line (codes "polygons whose triangles overlap") (overlapping_in size s)
-      ++ note_line (codes "weights passed over") s.weights
+      ++ passed_notes s.passed
       ++ note_line (codes "closed surfaces that enclose a void or face inward") inside_out
       ++ note_line (codes "faces without area") (thin_count (places_in size s) (cut_in size s))
       ++ last_note (fit_in size s);

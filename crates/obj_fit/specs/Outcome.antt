@@ -48,8 +48,8 @@ abbrev pub overlapping_in : Option ℕ → Scanned → ℕ
 overlapping_in size s = overlapping_count (places_in size s) s.polygons s.faces
 
 -- How many vertices and triangles there were, and came out; how many polygons were cut, and how
--- many of them overlap; how many weights were passed over; how many of these triangles name a
--- vertex twice; and how many faces came out without area.
+-- many of them overlap; how much was passed over; how many of these triangles name a vertex twice;
+-- and how many faces came out without area.
 abbrev pub counts_of : Scanned → List Corners → ℕ → Mesh → Counts
 counts_of s cut overlapping m = record {
   vertices_in = length s.points;
@@ -58,7 +58,7 @@ counts_of s cut overlapping m = record {
   triangles_out = length m.faces;
   polygons = length s.polygons;
   overlapping = overlapping;
-  weights = s.weights;
+  passed = s.passed;
   twice = length cut - length (of_three cut);
   thin = thin_count m.points m.faces;
 }

@@ -13,6 +13,7 @@ use Rattle.obj_fit.specs.declared.counts.Counts.{Counts}
 use Rattle.obj_prepare.specs.declared.longest.Axis.{Axis}
 use Rattle.obj_prepare.specs.declared.longest.Axis.TheVariants as axes
 use Rattle.obj_prepare.specs.declared.longest.LongestAxis.{LongestAxis}
+use Rattle.obj_scan.specs.declared.passed.PassedOver.{PassedOver}
 use Rattle.obj_prepare.specs.Back.{WayBack, way_back_of, within_of}
 
 -- The extent of a box, and the steps that it is divided into.
@@ -80,11 +81,39 @@ joined_line joined rounded =
     if joined == 0 then codes ""
     else codes "prepare: vertices joined " ++ decimal joined ++ rounding_text rounded ++ codes "\n"
 
--- What is said of polygons, and of vertices with a weight.
+-- How many lines were passed over that begin otherwise, and the first of them.
+unfoldable pub others_line : ℕ → ℕ → List ℕ
+others_line n first =
+    if n == 0 then codes ""
+    else codes "prepare: lines passed over " ++ decimal n ++ codes ", the first " ++ decimal first
+    ++ codes "\n"
+
+-- What was passed over: what stands after places, and what goes with faces;
+unfoldable pub shading_notes : PassedOver → List ℕ
+shading_notes p =
+    note_line (codes "weights passed over") p.weights
+    ++ note_line (codes "colours passed over") p.colours
+    ++ note_line (codes "texture places passed over") p.textures
+    ++ note_line (codes "normals passed over") p.normals
+    ++ note_line (codes "groups passed over") p.groups
+
+-- what is shown beside faces, or how; and all other lines.
+unfoldable pub beside_notes : PassedOver → List ℕ
+beside_notes p =
+    note_line (codes "materials passed over") p.materials
+    ++ note_line (codes "lines and points passed over") p.elements
+    ++ note_line (codes "curves and surfaces passed over") p.curves
+    ++ note_line (codes "calls passed over") p.calls
+    ++ others_line p.others p.first_other
+
+unfoldable pub passed_notes : PassedOver → List ℕ
+passed_notes p = shading_notes p ++ beside_notes p
+
+-- What is said of polygons, and of what was passed over.
 unfoldable pub line_notes : Counts → List ℕ
 line_notes c = note_line (codes "polygons cut") c.polygons
     ++ note_line (codes "polygons whose triangles overlap") c.overlapping
-    ++ note_line (codes "weights passed over") c.weights
+    ++ passed_notes c.passed
 
 -- What is said of the faces and places of the input, of which so many were joined by rounding.
 unfoldable pub face_notes : Counts → Notes → ℕ → List ℕ

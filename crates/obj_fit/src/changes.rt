@@ -1,11 +1,13 @@
 //! The lines of what was done to lines, faces and vertices of the input.
 ghost use Rattle.std.specs.Prelude.{◌≡◌, ◌++◌, OnOk};
 ghost use Rattle.obj_fit.specs.Texts.{note_line, rounding_text, joined_line, line_notes};
+ghost use Rattle.obj_fit.specs.Texts.{others_line, shading_notes, beside_notes, passed_notes};
 ghost use Rattle.obj_fit.specs.Texts.{face_notes, turn_notes, apart_line, vertex_notes};
 
 use crate::counts::Counts;
 use crate::text::add_number;
 use obj_prepare::Notes;
+use obj_scan::PassedOver;
 use pm_turn::TurnCounts;
 use std::alloc::AllocError;
 
@@ -53,7 +55,58 @@ fn add_joined(text: &mut Vec<u8>, joined: u32, rounded: u32) -> Result<(), Alloc
     Ok(())
 }
 
-// Adds what is said of polygons and weights.
+// Adds how many lines were passed over that begin otherwise, and the first of them.
+#[tactic(auto, unfolding(crate::specs::Texts::others_line), using(crate::proofs::TextLaws::nothing_added))]
+fn add_others(text: &mut Vec<u8>, n: u32, first: u32) -> Result<(), AllocError>
+    ensures { OnOk result (text.new.items ≡ text.old.items ++ others_line n first) }
+{
+    if n == 0 {
+        return Ok(());
+    }
+    text.extend_from_slice(b"prepare: lines passed over ")?;
+    add_number(text, u64::from(n))?;
+    text.extend_from_slice(b", the first ")?;
+    add_number(text, u64::from(first))?;
+    text.extend_from_slice(b"\n")?;
+    Ok(())
+}
+
+// Adds what was passed over after places, and beside faces.
+#[tactic(auto, unfolding(crate::specs::Texts::shading_notes))]
+fn add_shading(text: &mut Vec<u8>, passed: &PassedOver) -> Result<(), AllocError>
+    ensures { OnOk result (text.new.items ≡ text.old.items ++ shading_notes passed.now) }
+{
+    add_note(text, b"weights passed over", passed.weights)?;
+    add_note(text, b"colours passed over", passed.colours)?;
+    add_note(text, b"texture places passed over", passed.textures)?;
+    add_note(text, b"normals passed over", passed.normals)?;
+    add_note(text, b"groups passed over", passed.groups)?;
+    Ok(())
+}
+
+#[tactic(auto, unfolding(crate::specs::Texts::beside_notes))]
+fn add_beside(text: &mut Vec<u8>, passed: &PassedOver) -> Result<(), AllocError>
+    ensures { OnOk result (text.new.items ≡ text.old.items ++ beside_notes passed.now) }
+{
+    add_note(text, b"materials passed over", passed.materials)?;
+    add_note(text, b"lines and points passed over", passed.elements)?;
+    add_note(text, b"curves and surfaces passed over", passed.curves)?;
+    add_note(text, b"calls passed over", passed.calls)?;
+    add_others(text, passed.others, passed.first_other)?;
+    Ok(())
+}
+
+// Adds what was passed over.
+#[tactic(auto, unfolding(crate::specs::Texts::passed_notes))]
+fn add_passed(text: &mut Vec<u8>, passed: &PassedOver) -> Result<(), AllocError>
+    ensures { OnOk result (text.new.items ≡ text.old.items ++ passed_notes passed.now) }
+{
+    add_shading(text, passed)?;
+    add_beside(text, passed)?;
+    Ok(())
+}
+
+// Adds what is said of polygons, and of what was passed over.
 #[tactic(auto, unfolding(crate::specs::Texts::line_notes))]
 fn add_line_notes(text: &mut Vec<u8>, counts: Counts) -> Result<(), AllocError>
     ensures { OnOk result (text.new.items ≡ text.old.items ++ line_notes counts) }
@@ -64,7 +117,7 @@ fn add_line_notes(text: &mut Vec<u8>, counts: Counts) -> Result<(), AllocError>
         b"polygons whose triangles overlap",
         counts.overlapping,
     )?;
-    add_note(text, b"weights passed over", counts.weights)?;
+    add_passed(text, &counts.passed)?;
     Ok(())
 }
 

@@ -8,7 +8,7 @@ ghost use Rattle.obj_scan.specs.Meaning.{IsWithinLimits};
 ghost use Rattle.obj_fit.specs.Outcome.{counts_of};
 
 use crate::thin::count_thin;
-use obj_scan::Scan;
+use obj_scan::{PassedOver, Scan};
 use pm_base::{Corners, Mesh};
 use pm_ears::Recut;
 
@@ -23,8 +23,7 @@ pub struct Counts {
     pub polygons: u32,
     /// Polygons that keep a fan of which a triangle is turned over.
     pub overlapping: u32,
-    /// Vertices with a weight that isn't 1.
-    pub weights: u32,
+    pub passed: PassedOver,
     /// Triangles that name a vertex twice.
     pub twice: u32,
     /// Faces that came out without area.
@@ -50,7 +49,7 @@ pub fn counts_of(scan: &Scan, cut: &Recut, three: &[Corners], mesh: &Mesh) -> Co
         triangles_out: mesh.faces.len() as u32,
         polygons: scan.polygons.len() as u32,
         overlapping: cut.overlapping,
-        weights: scan.weights,
+        passed: scan.passed,
         twice: cut.faces.len() as u32 - three.len() as u32,
         thin: count_thin(mesh.points.as_slice(), mesh.faces.as_slice()),
     }

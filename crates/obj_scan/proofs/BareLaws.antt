@@ -1,10 +1,11 @@
--- The lines of a canonical text have no weights.
+-- Of the lines of a canonical text nothing is passed over.
 use Rattle.std.proofs.Common.{◌≡◌, ℕ, suc, ◌+◌, ◌<◌, ◌≤◌, Bool, true, false, List, [], ◌∷◌, ◌++◌}
+use Rattle.std.proofs.Common.{Option, Some, None, ◌==◌, ◌||◌, if◌then◌else◌}
 use Rattle.std.proofs.Common.{length, refl, sym, ◌∙◌, ap, subst, arith, append_assoc}
 use Rattle.std.specs.Prelude.{unsigned_abs}
 use Rattle.std.specs.Fmt.{decimal}
 use Rattle.std.specs.List.{All, flat_map}
-use Rattle.std.proofs.lemmas.Bool.{and_parts, and_from, le-leb}
+use Rattle.std.proofs.lemmas.Bool.{and_parts, and_from, le-leb, eqb-true}
 use Rattle.std.proofs.lemmas.List.{append-nil}
 use Rattle.std.proofs.lemmas.List.Folds.{list_all-append}
 use Rattle.pm_io.specs.Bytes.{onto}
@@ -19,21 +20,75 @@ use Rattle.obj_lines.proofs.PlainLaws.{is_plain, are_plain, plain_text, comment_
 use Rattle.obj_read.specs.Fields.{is_blank, begins_blank, fields}
 use Rattle.obj_read.proofs.WordLaws.{is_inner, are_inner, IsWord, inner_filled, word_plain}
 use Rattle.obj_read.proofs.WordLaws.{coordinate_word, decimal_word}
-use Rattle.obj_scan.specs.Judged.{has_weight}
+use Rattle.obj_read.specs.Fields.{is_letter}
+use Rattle.obj_scan.specs.declared.passed.Kind.{Kind}
+use Rattle.obj_scan.specs.Judged.{after_place}
+use Rattle.obj_scan.specs.Passing.{kind_of, is_garbled, is_common}
+use Rattle.obj_scan.specs.Laws.{begins_garbled}
 
--- The fields of a line have a weight, if they are a vertex's.
-abbrev pub line_weight : List (List ℕ) → Bool
-line_weight (keyword ∷ a ∷ b ∷ c ∷ more) = has_weight more
-line_weight _ = false
+-- What is passed over of the fields of a line, where they have no fault.
+abbrev pub after_three : List (List ℕ) → Option Kind
+after_three (a ∷ b ∷ c ∷ more) = after_place more
+after_three _ = None
 
--- A weight stands in the line.
+abbrev pub fields_passed : List (List ℕ) → Option Kind
+fields_passed [] = None
+fields_passed (keyword ∷ more) =
+    if is_letter 118 keyword then after_three more
+    else if is_letter 102 keyword then None
+    else Some (kind_of keyword)
+
+abbrev pub line_passed : List ℕ → Option Kind
+line_passed line = fields_passed (fields (content (until 10 line)))
+
+-- The fields are none, or three after `v` or `f`.
+abbrev pub are_bare : List (List ℕ) → Bool
+are_bare [] = true
+are_bare (keyword ∷ a ∷ b ∷ c ∷ []) = is_letter 118 keyword || is_letter 102 keyword
+are_bare _ = false
+
 abbrev pub line_has : List ℕ → Bool
-line_has line = line_weight (fields (content (until 10 line)))
+line_has line = are_bare (fields (content (until 10 line)))
 
--- Lines of which each has no weight.
+-- Lines that are all so.
 abbrev pub AreBare : List (List ℕ) → Type 0
 AreBare [] = Unit {0}
-AreBare (line ∷ more) = (line_has line ≡ false) × AreBare more
+AreBare (line ∷ more) = (line_has line ≡ true) × AreBare more
+
+-- Nothing of them is passed over, and their first word isn't garbled.
+
+letter_case : (x y z : List ℕ) (keyword : List ℕ) (v f : Bool) → is_letter 118 keyword ≡ v
+    → is_letter 102 keyword ≡ f → (v || f) ≡ true
+    → fields_passed (keyword ∷ x ∷ y ∷ z ∷ []) ≡ None
+unfolding after_place
+letter_case x y z keyword true f a b is = rw a refl
+letter_case x y z keyword false true a b is = rw (a, b) refl
+letter_case x y z keyword false false a b is = cc
+
+pub none_of_bare : (parts : List (List ℕ)) → are_bare parts ≡ true → fields_passed parts ≡ None
+none_of_bare [] is = refl
+none_of_bare (keyword ∷ []) is = cc
+none_of_bare (keyword ∷ x ∷ []) is = cc
+none_of_bare (keyword ∷ x ∷ y ∷ []) is = cc
+none_of_bare (keyword ∷ x ∷ y ∷ z ∷ []) is = letter_case x y z keyword _ _ refl refl is
+none_of_bare (keyword ∷ x ∷ y ∷ z ∷ w ∷ more) is = cc
+
+clear_case : (b : ℕ) (v f : Bool) → (b == 118) ≡ v → (b == 102) ≡ f → (v || f) ≡ true
+    → is_garbled (b ∷ []) ≡ false
+unfolding is_garbled is_common
+clear_case b true f a c is = rw (eqb-true b 118 a) refl
+clear_case b false true a c is = rw (eqb-true b 102 c) refl
+clear_case b false false a c is = cc
+
+pub clear_of_bare : (parts : List (List ℕ)) → are_bare parts ≡ true → begins_garbled parts ≡ false
+clear_of_bare [] is = refl
+clear_of_bare (keyword ∷ []) is = cc
+clear_of_bare (keyword ∷ x ∷ []) is = cc
+clear_of_bare (keyword ∷ x ∷ y ∷ []) is = cc
+clear_of_bare ([] ∷ x ∷ y ∷ z ∷ []) is = cc
+clear_of_bare ((b ∷ []) ∷ x ∷ y ∷ z ∷ []) is = clear_case b _ _ refl refl is
+clear_of_bare ((b ∷ c ∷ bs) ∷ x ∷ y ∷ z ∷ []) is = cc
+clear_of_bare (keyword ∷ x ∷ y ∷ z ∷ w ∷ more) is = cc
 
 -- The fields of three words after a letter.
 
@@ -72,25 +127,24 @@ plain_three x y z first second third =
     (plain_both y (32 ∷ z) (word_plain y second.inner) (word_plain z third.inner))
 
 -- A line and those after it.
-bare_more : (line rest : List ℕ) → until 10 line ≡ line → line_has (line ++ 10 ∷ []) ≡ false
+bare_more : (line rest : List ℕ) → until 10 line ≡ line → line_has (line ++ 10 ∷ []) ≡ true
     → AreBare (lines rest) → AreBare (lines ((line ++ 10 ∷ []) ++ rest))
 bare_more line rest clean first bare =
     subst AreBare (sym (ap lines (append_assoc line (10 ∷ []) rest) ∙ lines_whole line rest clean))
     (first, bare)
 
 three_bare : (letter : ℕ) (x y z rest : List ℕ) → is_plain letter ≡ true → is_blank letter ≡ false
-    → IsWord x → IsWord y → IsWord z
+    → (letter == 118 || letter == 102) ≡ true → IsWord x → IsWord y → IsWord z
     → AreBare (lines rest) → AreBare (lines (((letter ∷ 32 ∷ three x y z) ++ 10 ∷ []) ++ rest))
-unfolding has_weight
-three_bare letter x y z rest plain filled first second third bare =
+three_bare letter x y z rest plain filled known first second third bare =
     let line = letter ∷ 32 ∷ three x y z in
     let whole = plain_text line (omega arith)
     (and_from _ _ plain (plain_three x y z first second third)) in
     let words : fields line ≡ (letter ∷ []) ∷ x ∷ y ∷ z ∷ [] = rw filled
     (ap (λ (l : List (List ℕ)). (letter ∷ []) ∷ l) (three_words x y z first second third)) in
     bare_more line rest whole.clean
-    (ap (λ t. line_weight (fields (content t))) (before_end line whole.clean)
-    ∙ ap (λ t. line_weight (fields t)) whole.read ∙ ap line_weight words) bare
+    (ap (λ t. are_bare (fields (content t))) (before_end line whole.clean)
+    ∙ ap (λ t. are_bare (fields t)) whole.read ∙ ap are_bare words ∙ known) bare
 
 -- The words of a line from the left, and from the right.
 joined : (x y z : List ℕ)
@@ -108,7 +162,7 @@ point_bare p rest (in_x, in_y, in_z) bare =
     let z = coordinate_text 0 p.z in
     subst (λ l. AreBare (lines (l ++ rest)))
     (sym (ap (λ (l : List ℕ). 118 ∷ 32 ∷ l) (joined x y z)))
-    (three_bare 118 x y z rest refl refl
+    (three_bare 118 x y z rest refl refl refl
     (coordinate_word 0 p.x (omega arith) (le-leb (unsigned_abs p.x) 32767 in_x))
     (coordinate_word 0 p.y (omega arith) (le-leb (unsigned_abs p.y) 32767 in_y))
     (coordinate_word 0 p.z (omega arith) (le-leb (unsigned_abs p.z) 32767 in_z)) bare)
@@ -131,7 +185,7 @@ face_bare n f rest few is bare =
     let z = decimal (f.c + 1) in
     subst (λ l. AreBare (lines (l ++ rest)))
     (sym (ap (λ (l : List ℕ). 102 ∷ 32 ∷ l) (joined x y z)))
-    (three_bare 102 x y z rest refl refl
+    (three_bare 102 x y z rest refl refl refl
     (decimal_word (f.a + 1) (omega (arith, few, is.a)))
     (decimal_word (f.b + 1) (omega (arith, few, is.b)))
     (decimal_word (f.c + 1) (omega (arith, few, is.c))) bare)
@@ -150,9 +204,9 @@ unfolding canonical_text
 canonical_bare line m clean formed places =
     let comment = 35 ∷ line in
     let comment_clean : until 10 comment ≡ comment = ap (λ (l : List ℕ). 35 ∷ l) clean in
-    let nothing : line_has (comment ++ 10 ∷ []) ≡ false =
-    ap (λ t. line_weight (fields (content t))) (before_end comment comment_clean)
-    ∙ ap (λ t. line_weight (fields t)) (comment_read line) in
+    let nothing : line_has (comment ++ 10 ∷ []) ≡ true =
+    ap (λ t. are_bare (fields (content t))) (before_end comment comment_clean)
+    ∙ ap (λ t. are_bare (fields t)) (comment_read line) in
     let text = flat_map (point_line 0) m.points ++ flat_map corner_line m.faces in
     subst (λ l. AreBare (lines l)) (append_assoc comment (10 ∷ []) text)
     (bare_more comment text comment_clean nothing

@@ -20,7 +20,9 @@ use Rattle.obj_lines.proofs.PlainLaws.{lines_joined}
 use Rattle.obj_read.proofs.WordLaws.{is_inner, are_inner, IsWord, coordinate_word, decimal_word}
 use Rattle.obj_scan.specs.Forms.{has_lone_return, is_marked, is_wide, without_mark, line_content}
 use Rattle.obj_scan.specs.Forms.{form_fault}
-use Rattle.obj_scan.specs.Laws.{IsFormed}
+use Rattle.obj_read.specs.Fields.{fields}
+use Rattle.obj_scan.specs.Laws.{IsFormed, begins_garbled, has_clear_word}
+use Rattle.obj_scan.proofs.BareLaws.{AreBare, clear_of_bare, canonical_bare}
 
 -- What begins with no mark has no front that does.
 mark_front : (a rest : List ℕ) → is_marked (a ++ rest) ≡ false → is_marked a ≡ false
@@ -84,6 +86,7 @@ content_unmarked text is =
 pub record IsPlain (number : ℕ) (line : List ℕ) : Type 0 where
   pub formed : form_fault number (until 10 line) ≡ None
   pub read : line_content number (until 10 line) ≡ content (until 10 line)
+  pub clear : begins_garbled (fields (content (until 10 line))) ≡ false
 
 -- So are these, of which the first has this number.
 abbrev pub ArePlain : ℕ → List (List ℕ) → Type 0
@@ -99,43 +102,52 @@ not_true false is = refl
 not_true true is = cc
 
 later_plain : (number : ℕ) (line : List ℕ) → 1 < number → is_ended line ≡ true
-    → IsPlain number line
+    → has_clear_word line ≡ true → IsPlain number line
 unfolding form_fault line_content
-later_plain number line later ended =
+later_plain number line later ended clear =
     let n : (number == 1) ≡ false = ne_eqb number 1 (λ e. omega (arith, e, later)) in
-    record { formed = rw (n, not_true _ ended) refl; read = rw n refl }
+    record {
+      formed = rw (n, not_true _ ended) refl;
+      read = rw n refl;
+      clear = not_true _ clear;
+    }
 
 later_are_plain : (number : ℕ) (ls : List (List ℕ)) → 1 < number → list_all is_ended ls ≡ true
-    → ArePlain number ls
-later_are_plain number [] later ended = tt
-later_are_plain number (line ∷ more) later ended =
-    let parts = and_parts (is_ended line) (list_all is_ended more) ended in (
-      later_plain number line later parts.0,
-      later_are_plain (number + 1) more (omega (arith, later)) parts.1,
+    → list_all has_clear_word ls ≡ true → ArePlain number ls
+later_are_plain number [] later ended clear = tt
+later_are_plain number (line ∷ more) later ended clear =
+    let parts = and_parts (is_ended line) (list_all is_ended more) ended in
+    let words = and_parts (has_clear_word line) (list_all has_clear_word more) clear in (
+      later_plain number line later parts.0 words.0,
+      later_are_plain (number + 1) more (omega (arith, later)) parts.1 words.1,
     )
 
-first_plain : (line : List ℕ) → is_ended line ≡ true → IsUnmarked (content (until 10 line))
-    → IsPlain 1 line
+first_plain : (line : List ℕ) → is_ended line ≡ true → has_clear_word line ≡ true
+    → IsUnmarked (content (until 10 line)) → IsPlain 1 line
 unfolding form_fault line_content without_mark
-first_plain line ended is = record {
+first_plain line ended clear is = record {
   formed = rw (is.narrow, not_true _ ended) refl;
   read = rw is.unmarked refl;
+  clear = not_true _ clear;
 }
 
 lines_plain : (bytes : List ℕ) (ls : List (List ℕ)) → bytes ≡ concat ls
-    → list_all is_ended ls ≡ true → IsUnmarked bytes → ArePlain 1 ls
-lines_plain bytes [] joined ended is = tt
-lines_plain bytes (line ∷ more) joined ended is =
+    → list_all is_ended ls ≡ true → list_all has_clear_word ls ≡ true → IsUnmarked bytes
+    → ArePlain 1 ls
+lines_plain bytes [] joined ended clear is = tt
+lines_plain bytes (line ∷ more) joined ended clear is =
     let parts = and_parts (is_ended line) (list_all is_ended more) ended in
+    let words = and_parts (has_clear_word line) (list_all has_clear_word more) clear in
     let first = front_unmarked line bytes (record { rest = concat more; whole = joined }) is in (
-      first_plain line parts.0
+      first_plain line parts.0 words.0
           (content_unmarked (until 10 line)
           (front_unmarked (until 10 line) line (until_is_front 10 line) first)),
-      later_are_plain 2 more (omega arith) parts.1,
+      later_are_plain 2 more (omega arith) parts.1 words.1,
     )
 
 pub formed_plain : (bytes : List ℕ) → IsFormed bytes → ArePlain 1 (lines bytes)
-formed_plain bytes is = lines_plain bytes (lines bytes) (sym (lines_joined bytes)) is.ended
+formed_plain bytes is =
+    lines_plain bytes (lines bytes) (sym (lines_joined bytes)) is.ended is.words
     (record { unmarked = is.unmarked; narrow = is.narrow })
 
 -- A text without a CR has none that doesn't end its line.
@@ -279,15 +291,24 @@ comment_narrow : (text : List ℕ) → is_wide (35 ∷ text) ≡ false
 unfolding is_wide
 comment_narrow text = and_false (nat_lt 1 (length (35 ∷ text)))
 
+-- Lines of which nothing is passed over begin with no garbled word.
+bare_clear : (ls : List (List ℕ)) → AreBare ls → list_all has_clear_word ls ≡ true
+bare_clear [] bare = refl
+bare_clear (line ∷ more) bare =
+    and_from _ _ (ap not (clear_of_bare (fields (content (until 10 line))) bare.0))
+    (bare_clear more bare.1)
+
 -- It stands well formed after a comment.
-pub commented_formed : (line : List ℕ) (m : Mesh) → until 13 line ≡ line → IsWellFormed m
-    → All IsPlace m.points → IsFormed ((35 ∷ line) ++ 10 ∷ canonical_text 0 m)
-commented_formed line m clean formed places =
+pub commented_formed : (line : List ℕ) (m : Mesh) → until 10 line ≡ line → until 13 line ≡ line
+    → IsWellFormed m → All IsPlace m.points
+    → IsFormed ((35 ∷ line) ++ 10 ∷ canonical_text 0 m)
+commented_formed line m whole clean formed places =
     let text = (35 ∷ line) ++ 10 ∷ canonical_text 0 m in
     let lacks : lacks_return text ≡ true = both_lack (35 ∷ line) (10 ∷ canonical_text 0 m)
     (clean_lacks line clean) (canonical_lacks m formed places) in
     record {
       ended = all_ended (lines text) (lines_lack text lacks);
+      words = bare_clear (lines text) (canonical_bare line m whole formed places);
       unmarked = comment_unmarked (line ++ 10 ∷ canonical_text 0 m);
       narrow = comment_narrow (line ++ 10 ∷ canonical_text 0 m);
     }

@@ -1,7 +1,8 @@
 -- What `obj_read` finds in a line, with whole coordinates, is found in it here too.
 use Rattle.std.specs.Prelude.{nat_le}
 use Rattle.std.proofs.Common.{◌≡◌, ℕ, ◌+◌, ℤ, Bool, true, false, ◌==◌, ◌||◌, nat_lt, List, [], ◌∷◌}
-use Rattle.std.proofs.Common.{Result, Ok, Err, refl, sym, ap, arith, if◌then◌else◌}
+use Rattle.std.proofs.Common.{Option, Some, None, Result, Ok, Err, refl, sym, ap, arith}
+use Rattle.std.proofs.Common.{if◌then◌else◌}
 use Rattle.std.proofs.lemmas.Bool.{le-ltb, leb-false}
 use Rattle.std.proofs.lemmas.List.{map-append}
 use Rattle.pm_base.specs.Meshes.{Mesh}
@@ -19,27 +20,34 @@ use Rattle.obj_read.specs.Judged.{line_found as read_line}
 use Rattle.obj_read.specs.Fits.{with_found as with_read}
 use Rattle.obj_scan.specs.Polygons.{triangles}
 use Rattle.obj_scan.specs.Judged.{Found, polygon_of, scanned_vertex_line, polygon_line}
-use Rattle.obj_scan.specs.Judged.{scanned_fields, scanned_line, with_scanned, has_weight}
-use Rattle.obj_scan.specs.Judged.{weights_after}
-use Rattle.obj_scan.specs.Laws.{scaled_up, scanned_mesh, with_weights}
-use Rattle.obj_scan.proofs.BareLaws.{line_weight}
+use Rattle.obj_scan.specs.Judged.{scanned_fields, scanned_line, with_scanned, after_place}
+use Rattle.obj_scan.specs.Judged.{in_line, other_line}
+use Rattle.obj_scan.specs.declared.fault.ScanFault.{ScanFault}
+use Rattle.obj_scan.specs.declared.passed.Kind.{Kind}
+use Rattle.obj_scan.specs.declared.passed.PassedOver.{PassedOver}
+use Rattle.obj_scan.specs.Passing.{kind_of, is_garbled, passed_after}
+use Rattle.obj_scan.specs.Laws.{scaled_up, scanned_mesh, with_passed, begins_garbled}
+use Rattle.obj_scan.proofs.BareLaws.{after_three, fields_passed}
 use Rattle.obj_scan.proofs.NumberLaws.{whole_in_units}
 
--- What `obj_read` finds, as it is found here, where a weight stands after a vertex or none.
-abbrev pub found_of : Bool → ReadFound → Found
-found_of weighted reads.Nothing = Found.nothing
-found_of weighted (reads.Vertex p) = Found.vertex (scaled_up p) weighted
-found_of weighted (reads.Face f) = Found.polygon (f.a ∷ f.b ∷ f.c ∷ [])
+-- What `obj_read` finds, as it is found here, where this is passed over.
+abbrev pub found_of : Option Kind → ReadFound → Found
+found_of kind reads.Nothing = Found.nothing kind
+found_of kind (reads.Vertex p) = Found.vertex (scaled_up p) kind
+found_of kind (reads.Face f) = Found.polygon (f.a ∷ f.b ∷ f.c ∷ [])
 
-abbrev given : Bool → Result ReadFound ObjFault → Result Found ObjFault
-given weighted (Ok f) = Ok (found_of weighted f)
-given weighted (Err e) = Err e
+abbrev given : Option Kind → Result ReadFound ObjFault → Result Found ObjFault
+given kind (Ok f) = Ok (found_of kind f)
+given kind (Err e) = Err e
+
+abbrev given_here : Option Kind → Result ReadFound ObjFault → Result Found ScanFault
+given_here kind r = in_line (given kind r)
 
 vertex_case : (n : ℕ) (a b c : List ℕ) (more : List (List ℕ)) (f : ReadFound)
     (x y z : Result ℤ ObjFault) (full : Bool) → coordinate 0 a ≡ x → coordinate 0 b ≡ y
     → coordinate 0 c ≡ z → nat_le 1048576 n ≡ full
     → vertex_of 0 n a b c ≡ Ok f → scanned_vertex_line n (a ∷ b ∷ c ∷ more) ≡ Ok
-    (found_of (has_weight more) f)
+    (found_of (after_place more) f)
 unfolding vertex_of
 vertex_case n a b c more f (Err e) y z full p q r room is = let k = rw p at is in cc
 vertex_case n a b c more f (Ok x) (Err e) z full p q r room is = let k = rw (p, q) at is in cc
@@ -50,19 +58,18 @@ vertex_case n a b c more f (Ok x) (Ok y) (Ok z) true p q r room is = let k =
 vertex_case n a b c more f (Ok x) (Ok y) (Ok z) false p q r room is =
     let k = rw (p, q, r, room) at is in
     rw (whole_in_units a x p, whole_in_units b y q, whole_in_units c z r, room)
-    (ap (given (has_weight more)) k)
+    (ap (given (after_place more)) k)
 
-vertex_found : (n : ℕ) (keyword : List ℕ) (more : List (List ℕ)) (f : ReadFound)
-    → read_vertex 0 n more ≡ Ok f → scanned_vertex_line n more ≡ Ok
-    (found_of (line_weight (keyword ∷ more)) f)
-vertex_found n keyword [] f is = cc
-vertex_found n keyword (a ∷ []) f is = cc
-vertex_found n keyword (a ∷ b ∷ []) f is = cc
-vertex_found n keyword (a ∷ b ∷ c ∷ more) f is =
+vertex_found : (n : ℕ) (more : List (List ℕ)) (f : ReadFound) → read_vertex 0 n more ≡ Ok f
+    → scanned_vertex_line n more ≡ Ok (found_of (after_three more) f)
+vertex_found n [] f is = cc
+vertex_found n (a ∷ []) f is = cc
+vertex_found n (a ∷ b ∷ []) f is = cc
+vertex_found n (a ∷ b ∷ c ∷ more) f is =
     vertex_case n a b c more f _ _ _ _ refl refl refl refl is
 
-face_case : (weighted : Bool) (n k : ℕ) (x y z : List ℕ) (f : ReadFound) (a b c : Result ℕ ObjFault)
-    (full : Bool) → index n (index_text x) ≡ a → index n (index_text y) ≡ b
+face_case : (weighted : Option Kind) (n k : ℕ) (x y z : List ℕ) (f : ReadFound)
+    (a b c : Result ℕ ObjFault) (full : Bool) → index n (index_text x) ≡ a → index n (index_text y) ≡ b
     → index n (index_text z) ≡ c → nat_le 1048576 k ≡ full
     → face_read n k x y z ≡ Ok f → polygon_line n k (x ∷ y ∷ z ∷ []) ≡ Ok (found_of weighted f)
 unfolding face_read
@@ -85,7 +92,7 @@ face_case weighted n k x y z f (Ok a) (Ok b) (Ok c) full p q r room is =
         let within : nat_lt 1048576 (k + 1) ≡ false = le-ltb _ _ (omega (arith, some)) in
         rw within (ap (given weighted) is)
 
-face_found : (weighted : Bool) (n k : ℕ) (more : List (List ℕ)) (f : ReadFound)
+face_found : (weighted : Option Kind) (n k : ℕ) (more : List (List ℕ)) (f : ReadFound)
     → read_face n k more ≡ Ok f → polygon_line n k more ≡ Ok (found_of weighted f)
 face_found weighted n k [] f is = cc
 face_found weighted n k (x ∷ []) f is = cc
@@ -95,62 +102,66 @@ face_found weighted n k (x ∷ y ∷ z ∷ []) f is =
 face_found weighted n k (x ∷ y ∷ z ∷ w ∷ more) f is = cc
 
 keyword_case : (n k : ℕ) (keyword : List ℕ) (more : List (List ℕ)) (f : ReadFound) (v t : Bool)
-    → is_letter 118 keyword ≡ v → is_letter 102 keyword ≡ t
+    → is_letter 118 keyword ≡ v → is_letter 102 keyword ≡ t → is_garbled keyword ≡ false
     → read_fields 0 n k (keyword ∷ more) ≡ Ok f
-    → scanned_fields n k (keyword ∷ more) ≡ Ok (found_of (line_weight (keyword ∷ more)) f)
-keyword_case n k keyword more f true t a b is = rw a (vertex_found n keyword more f (rw a at is))
-keyword_case n k keyword more f false true a b is =
-    rw (a, b) (face_found (line_weight (keyword ∷ more)) n k more f (rw (a, b) at is))
-keyword_case n k keyword more f false false a b is =
-    let e = rw (a, b) at is in rw (a, b) (ap (given (line_weight (keyword ∷ more))) e)
+    → scanned_fields n k (keyword ∷ more) ≡ Ok (found_of (fields_passed (keyword ∷ more)) f)
+unfolding other_line
+keyword_case n k keyword more f true t a b clear is =
+    rw a (ap in_line (vertex_found n more f (rw a at is)))
+keyword_case n k keyword more f false true a b clear is =
+    rw (a, b) (ap in_line (face_found None n k more f (rw (a, b) at is)))
+keyword_case n k keyword more f false false a b clear is =
+    let e = rw (a, b) at is in
+    rw (a, b, clear) (ap (given_here (Some (kind_of keyword))) e)
 
 fields_are_found : (n k : ℕ) (parts : List (List ℕ)) (f : ReadFound)
-    → read_fields 0 n k parts ≡ Ok f → scanned_fields n k parts ≡ Ok
-    (found_of (line_weight parts) f)
-fields_are_found n k [] f is = ap (given false) is
-fields_are_found n k (keyword ∷ more) f is = keyword_case n k keyword more f _ _ refl refl is
+    → begins_garbled parts ≡ false → read_fields 0 n k parts ≡ Ok f
+    → scanned_fields n k parts ≡ Ok (found_of (fields_passed parts) f)
+fields_are_found n k [] f clear is = ap (given_here None) is
+fields_are_found n k (keyword ∷ more) f clear is =
+    keyword_case n k keyword more f _ _ refl refl clear is
 
 -- A line isn't continued, and what is read of it gives this.
 pub record IsFound (n k : ℕ) (text : List ℕ) (f : ReadFound) : Type 0 where
   pub ended : is_continued text ≡ false
-  pub gives : scanned_line n k text ≡ Ok (found_of (line_weight (fields text)) f)
+  pub gives : scanned_line n k text ≡ Ok (found_of (fields_passed (fields text)) f)
 
 line_case : (n k : ℕ) (text : List ℕ) (f : ReadFound) (ends : Bool) → is_continued text ≡ ends
-    → read_line 0 n k text ≡ Ok f → IsFound n k text f
+    → begins_garbled (fields text) ≡ false → read_line 0 n k text ≡ Ok f → IsFound n k text f
 unfolding read_line scanned_line
-line_case n k text f true ends is = let e = rw ends at is in cc
-line_case n k text f false ends is = record {
+line_case n k text f true ends clear is = let e = rw ends at is in cc
+line_case n k text f false ends clear is = record {
   ended = ends;
-  gives = fields_are_found n k (fields text) f (rw ends at is);
+  gives = fields_are_found n k (fields text) f clear (rw ends at is);
 }
 
-pub line_is_found : (n k : ℕ) (text : List ℕ) (f : ReadFound) → read_line 0 n k text ≡ Ok f
-    → IsFound n k text f
-line_is_found n k text f is = line_case n k text f (is_continued text) refl is
+pub line_is_found : (n k : ℕ) (text : List ℕ) (f : ReadFound) → begins_garbled (fields text) ≡ false
+    → read_line 0 n k text ≡ Ok f → IsFound n k text f
+line_is_found n k text f clear is = line_case n k text f (is_continued text) refl clear is
 
 -- It is put into what was scanned so far as it is put into the mesh.
-pub weights_with : Bool → ℕ → ReadFound → ℕ
-weights_with weighted n reads.Nothing = n
-weights_with weighted n (reads.Vertex p) = weights_after n weighted
-weights_with weighted n (reads.Face f) = n
+pub passed_with : Option Kind → ℕ → PassedOver → ReadFound → PassedOver
+passed_with kind line p reads.Nothing = passed_after p line kind
+passed_with kind line p (reads.Vertex q) = passed_after p line kind
+passed_with kind line p (reads.Face f) = p
 
-pub scanned_with : (weighted : Bool) (n : ℕ) (m : Mesh) (f : ReadFound)
-    → with_scanned (with_weights n (scanned_mesh m)) (found_of weighted f) ≡ with_weights
-    (weights_with weighted n f) (scanned_mesh (with_read m f))
-unfolding triangles weights_with
-scanned_with weighted n m reads.Nothing = refl
-scanned_with weighted n m (reads.Vertex p) =
+pub scanned_with : (kind : Option Kind) (line : ℕ) (p : PassedOver) (m : Mesh) (f : ReadFound)
+    → with_scanned (with_passed p (scanned_mesh m)) line (found_of kind f) ≡ with_passed
+    (passed_with kind line p f) (scanned_mesh (with_read m f))
+unfolding triangles passed_with
+scanned_with kind line p m reads.Nothing = refl
+scanned_with kind line p m (reads.Vertex q) =
     ap (λ points. record {
       points = points;
       faces = m.faces;
       polygons = [];
-      weights = weights_after n weighted;
-    }) (sym (map-append scaled_up m.points (p ∷ [])))
-scanned_with weighted n m (reads.Face f) = refl
+      passed = passed_after p line kind;
+    }) (sym (map-append scaled_up m.points (q ∷ [])))
+scanned_with kind line p m (reads.Face f) = refl
 
--- Without a weight there are no more.
-pub weights_stay : (n : ℕ) (f : ReadFound) → weights_with false n f ≡ n
-unfolding weights_with
-weights_stay n reads.Nothing = refl
-weights_stay n (reads.Vertex p) = refl
-weights_stay n (reads.Face f) = refl
+-- Where nothing is passed over it stays.
+pub passed_stays : (line : ℕ) (p : PassedOver) (f : ReadFound) → passed_with None line p f ≡ p
+unfolding passed_with
+passed_stays line p reads.Nothing = refl
+passed_stays line p (reads.Vertex q) = refl
+passed_stays line p (reads.Face f) = refl

@@ -4,7 +4,7 @@ pub mod ScanLaws
 pub mod ReturnLaws
 pub mod ReaderLaws
 pub mod NumberLaws
-pub mod FormLaws
 pub mod BareLaws
+pub mod FormLaws
 pub mod FoundLaws
 pub mod ReadLaws

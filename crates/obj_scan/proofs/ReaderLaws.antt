@@ -1,5 +1,6 @@
 -- What a text means is what its lines give by the rules.
-use Rattle.std.proofs.Common.{◌≡◌, ℕ, Bool, true, false, ◌==◌, List, [], ◌∷◌, ◌++◌, length, nat_lt}
+use Rattle.std.proofs.Common.{◌≡◌, ℕ, ◌-◌, ◌<◌, Bool, true, false, ◌==◌, List, [], ◌∷◌, ◌++◌}
+use Rattle.std.proofs.Common.{length, nat_lt}
 use Rattle.std.proofs.Common.{Option, Some, None, Result, Ok, Err, IfSome, refl, sym, ◌∙◌, ap}
 use Rattle.std.proofs.Common.{arith}
 use Rattle.std.proofs.lemmas.List.Elements.{All-nil}
@@ -11,7 +12,6 @@ use Rattle.obj_lines.specs.Rules.{SoFar, is_past, is_long, judged}
 use Rattle.obj_lines.specs.Rules.{reading, text_read}
 use Rattle.obj_lines.specs.Fails.{IsRefusal, FailsBefore}
 use Rattle.obj_lines.proofs.ToldLaws.{told, told_ok, told_fault, told_before}
-use Rattle.obj_read.specs.declared.fault.ObjFault.{ObjFault}
 use Rattle.obj_scan.specs.declared.fault.ScanFault.{ScanFault}
 use Rattle.obj_scan.specs.Forms.{line_content, form_fault}
 use Rattle.obj_scan.specs.Judged.{Scanned, Found, scanned_line}
@@ -21,6 +21,7 @@ use Rattle.obj_scan.specs.Meaning.{scan_meaning_of}
 use Rattle.obj_scan.specs.Reading.{HeldLines, nothing_held, scanned_after, taken, line_taken}
 use Rattle.obj_scan.specs.Reading.{scan_rules, IsReadyToScan}
 use Rattle.obj_scan.specs.Fails.{ScanFailsBefore}
+use Rattle.obj_scan.specs.Passing.{none_passed, passed_count}
 
 abbrev so_far : ScannedSoFar → SoFar HeldLines
 so_far s = record {
@@ -34,7 +35,7 @@ lines_scanned h = h.scanned
 
 -- What follows from a line by the rules is what its meaning says, as the lines after it are.
 line_same : (s : ScannedSoFar) (line : List ℕ) (more : List (List ℕ)) (past long joined ends : Bool)
-    (form : Option ScanFault) (found : Result Found ObjFault)
+    (form : Option ScanFault) (found : Result Found ScanFault)
     → is_past s.bytes (length line) ≡ past → is_long line ≡ long
     → form_fault s.number (until 10 line) ≡ form
     → nat_lt 65536 (length (s.begun ++ line_content s.number (until 10 line))) ≡ joined
@@ -77,6 +78,10 @@ text_same bytes start is =
     lines_same nothing_scanned (lines bytes)
     ∙ ap (λ (h : HeldLines). told lines_scanned (text_read scan_rules h bytes)) (sym is)
 
+nothing_counted : passed_count none_passed < 1 - 0
+unfolding passed_count
+nothing_counted = omega arith
+
 -- Before the first line.
 pub start_ready : (h : HeldLines) → h ≡ nothing_held → IsReadyToScan h 1
 start_ready h is =
@@ -90,7 +95,7 @@ start_ready h is =
           polygons = All-nil (IsPolygonWithin 0);
           polygons_few = omega arith;
         };
-        weights = omega arith;
+        passed = nothing_counted;
       };
     })
 

@@ -1,7 +1,7 @@
 -- Laws of what lines gave.
 use Rattle.std.proofs.Common.{◌≡◌, ℕ, zero, suc, ◌+◌, ◌-◌, ◌<◌, ◌≤◌, Bool, true, false, ◌==◌}
-use Rattle.std.proofs.Common.{nat_lt, List, [], ◌∷◌, ◌++◌, length, take, drop, Result, refl, sym}
-use Rattle.std.proofs.Common.{◌∙◌, ap, subst, arith, length-append}
+use Rattle.std.proofs.Common.{nat_lt, List, [], ◌∷◌, ◌++◌, length, take, drop, Option, Result, refl}
+use Rattle.std.proofs.Common.{sym, ◌∙◌, ap, subst, arith, length-append}
 use Rattle.std.specs.List.{All}
 use Rattle.std.proofs.lemmas.Bool.{ltb-true}
 use Rattle.std.proofs.lemmas.List.{take-append-drop}
@@ -16,8 +16,17 @@ use Rattle.obj_read.specs.declared.fault.ObjFault.{ObjFault}
 use Rattle.obj_read.specs.declared.fault.ObjFail.{ObjFail}
 use Rattle.obj_read.specs.declared.fault.ObjFail.TheVariants as fails
 use Rattle.obj_read.specs.Fails.{IsLineFault}
+use Rattle.obj_lines.specs.declared.fault.LineFault.{LineFault}
+use Rattle.obj_lines.specs.declared.fault.TextFail.{TextFail}
+use Rattle.obj_lines.specs.declared.fault.TextFail.TheVariants as text_fails
+use Rattle.obj_lines.specs.Fails.{IsLineFault as IsTextFault}
 use Rattle.obj_scan.specs.Polygons.{before_least, begun_least, fan, fan_of, triangles}
-use Rattle.obj_scan.specs.Judged.{Scanned, Found, polygons_after, weights_after, with_scanned}
+use Rattle.obj_scan.specs.declared.fault.ScanFault.{ScanFault}
+use Rattle.obj_scan.specs.declared.passed.Kind.{Kind}
+use Rattle.obj_scan.specs.Judged.{Scanned, Found, in_line, polygons_after, with_scanned}
+use Rattle.obj_scan.specs.Meaning.{IsWithinLimits}
+use Rattle.obj_scan.specs.Passing.{passed_count}
+use Rattle.obj_scan.specs.Refusals.{of_line}
 use Rattle.obj_prepare.specs.Named.{AreVerticesBelow}
 use Rattle.obj_scan.specs.Reading.{IsScanning, given, ended}
 
@@ -98,28 +107,25 @@ wider n k fs le all = λ i d l. let f =
     all i d l in
     record { a = omega (arith, f.a, le); b = omega (arith, f.b, le); c = omega (arith, f.c, le) }
 
-weights_case : (n k : ℕ) (weighted : Bool) → n ≤ k → weights_after n weighted ≤ k + 1
-weights_case n k true le = omega (arith, le)
-weights_case n k false le = omega (arith, le)
+pub vertex_within : (s : Scanned) (line : ℕ) (p : Place) (kind : Option Kind) → IsWithinLimits s
+    → length s.points < 1048576 → IsWithinLimits (with_scanned s line (Found.vertex p kind))
+vertex_within s line p kind within room = record {
+  points = omega (arith, room, length-append s.points (p ∷ []));
+  faces = within.faces;
+  corners = wider (length s.points) (length (s.points ++ p ∷ [])) s.faces
+      (omega (arith, length-append s.points (p ∷ []))) within.corners;
+  polygons = within.polygons;
+  polygons_few = within.polygons_few;
+}
 
-pub vertex_scanning : (s t : Scanned) (p : Place) (weighted : Bool) → IsScanning s
-    → length s.points < 1048576 → t ≡ with_scanned s (Found.vertex p weighted) → IsScanning t
-vertex_scanning s t p weighted scanning room is = rw is (record {
-  within = record {
-    points = omega (arith, room, length-append s.points (p ∷ []));
-    faces = scanning.within.faces;
-    corners = wider (length s.points) (length (s.points ++ p ∷ [])) s.faces
-        (omega (arith, length-append s.points (p ∷ []))) scanning.within.corners;
-    polygons = scanning.within.polygons;
-    polygons_few = scanning.within.polygons_few;
-  };
-  weights = omega (
-    arith,
-    weights_case s.weights
-        (length s.points) weighted scanning.weights,
-    length-append s.points (p ∷ []),
-  );
-})
+pub vertex_scanning : (s t : Scanned) (line : ℕ) (p : Place) (kind : Option Kind)
+    → IsScanning line s → length s.points < 1048576
+    → t ≡ with_scanned s line (Found.vertex p kind) → passed_count t.passed < line + 1
+    → IsScanning (line + 1) t
+vertex_scanning s t line p kind scanning room is few = record {
+  within = subst IsWithinLimits (sym is) (vertex_within s line p kind scanning.within room);
+  passed = few;
+}
 
 -- One polygon more is at most so many triangles more, and is among them.
 polygons_case : (ps : List Polygon) (faces : ℕ) (corners : List ℕ) (b : Bool)
@@ -140,10 +146,10 @@ polygons_within ps faces corners true some all =
     (All-cons (IsPolygonWithin n) p [] (omega arith) (All-nil (IsPolygonWithin n))))
 polygons_within ps faces corners false few all = rw few (λ i d l. omega (arith, all i d l))
 
-pub polygon_scanning : (s t : Scanned) (corners : List ℕ) → IsScanning s
+pub polygon_kept : (s : Scanned) (line : ℕ) (corners : List ℕ) → IsWithinLimits s
     → All (λ (c : ℕ). c < length s.points) corners → length s.faces + (length corners - 2) ≤ 1048576
-    → t ≡ with_scanned s (Found.polygon corners) → IsScanning t
-polygon_scanning s t corners scanning within room is =
+    → IsWithinLimits (with_scanned s line (Found.polygon corners))
+polygon_kept s line corners limits within room =
     let all = s.faces ++ triangles s.points corners in
     let n : length all ≡ length s.faces + (length corners - 2) =
     omega (
@@ -152,39 +158,45 @@ polygon_scanning s t corners scanning within room is =
       triangles_length s.points
           corners,
     ) in
-    rw is (record {
-      within = record {
-        points = scanning.within.points;
-        faces = omega (arith, n, room);
-        corners = All-append (AreVerticesBelow (length s.points)) s.faces
-            (triangles s.points corners) scanning.within.corners
-            (corners_case s.points (length s.points) corners (length corners == 3) refl within);
-        polygons = subst (λ k. All (IsPolygonWithin k)
-            (polygons_after s.polygons (length s.faces) corners)) (sym n)
-            (polygons_within s.polygons (length s.faces) corners (nat_lt 3 (length corners)) refl
-            scanning.within.polygons);
-        polygons_few = omega (
-          arith,
-          n,
-          polygons_case s.polygons (length s.faces) corners
-              (nat_lt 3 (length corners)) refl scanning.within.polygons_few,
-        );
-      };
-      weights = scanning.weights;
-    })
+    record {
+      points = limits.points;
+      faces = omega (arith, n, room);
+      corners = All-append (AreVerticesBelow (length s.points)) s.faces
+          (triangles s.points corners) limits.corners
+          (corners_case s.points (length s.points) corners (length corners == 3) refl within);
+      polygons = subst (λ k. All (IsPolygonWithin k)
+          (polygons_after s.polygons (length s.faces) corners)) (sym n)
+          (polygons_within s.polygons (length s.faces) corners (nat_lt 3 (length corners)) refl
+          limits.polygons);
+      polygons_few = omega (
+        arith,
+        n,
+        polygons_case s.polygons (length s.faces) corners
+            (nat_lt 3 (length corners)) refl limits.polygons_few,
+      );
+    }
+
+pub polygon_scanning : (s t : Scanned) (line : ℕ) (corners : List ℕ) → IsScanning line s
+    → All (λ (c : ℕ). c < length s.points) corners → length s.faces + (length corners - 2) ≤ 1048576
+    → t ≡ with_scanned s line (Found.polygon corners) → IsScanning (line + 1) t
+polygon_scanning s t line corners scanning within room is = rw is (record {
+  within = polygon_kept s line corners scanning.within within room;
+  passed = omega (arith, scanning.passed);
+})
 
 -- A fault of what a text gives is the line's.
 pub given_fault : (s : Scanned) (r : Result Found ObjFault) (fail : ObjFail) (line : ℕ)
-    → IsLineFault fail line r → IsLineFault fail line (given s r)
+    → IsLineFault fail line r → IsTextFault (of_line fail) (given s line (in_line r))
 given_fault s r fails.Read line fault = fault
 given_fault s r fails.OutOfMemory line fault = tt
-given_fault s r (fails.Fault e l) line (at, is) = (at, ap (given s) is)
+given_fault s r (fails.Fault e l) line (at, is) =
+    rw at (ap (λ (f : Result Found ObjFault). given s line (in_line f)) is)
 
-pub ended_fault : (r : Result Scanned ObjFault) (fail : ObjFail) (line : ℕ)
-    → IsLineFault fail line r → IsLineFault fail line (ended r)
-ended_fault r fails.Read line fault = fault
-ended_fault r fails.OutOfMemory line fault = tt
-ended_fault r (fails.Fault e l) line (at, is) = (at, ap ended is)
+pub ended_fault : (r : Result Scanned (LineFault ScanFault)) (fail : TextFail ScanFault)
+    → IsTextFault fail r → IsTextFault fail (ended r)
+ended_fault r text_fails.Read fault = fault
+ended_fault r text_fails.OutOfMemory fault = tt
+ended_fault r (text_fails.Fault e) is = ap ended is
 
 -- A text without its backslash, after another.
 last_case : (begun text : List ℕ) → 0 < length text

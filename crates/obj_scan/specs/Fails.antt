@@ -15,8 +15,8 @@ scanned_of s =
       points = s.points.items;
       faces = s.faces.items;
       polygons = s.polygons.items;
-      weights =
-          s.weights;
+      passed =
+          s.passed;
     }
 
 -- The bytes that were taken don't reach the place of the first fault, where the source tells its

@@ -1,6 +1,7 @@
 -- A line judged alone: what it gives, or its first fault. A unit is 10^-18.
 use Rattle.std.specs.Prelude.{ℕ, ◌+◌, ◌-◌, ◌^◌, ℤ, pos, Bool, true, false, not, List, [], ◌∷◌, ◌++◌}
-use Rattle.std.specs.Prelude.{nat_le, nat_lt, length, Result, Ok, Err, if◌then◌else◌}
+use Rattle.std.specs.Prelude.{nat_le, nat_lt, length, Option, Some, None, Result, Ok, Err}
+use Rattle.std.specs.Prelude.{if◌then◌else◌}
 use Rattle.std.specs.Ordering.{int_eq}
 use Rattle.pm_base.specs.declared.limits.TheConstants.{MOST_FACES, MOST_VERTICES}
 use Rattle.pm_base.specs.declared.mesh.Corners.{Corners}
@@ -12,22 +13,28 @@ use Rattle.obj_read.specs.Indices.{index, index_text}
 use Rattle.obj_read.specs.Judged.{◌>>=◌}
 use Rattle.obj_prepare.specs.Numbers.{decimal_coordinate}
 use Rattle.pm_ears.specs.declared.recut.Polygon.{Polygon}
+use Rattle.obj_scan.specs.declared.fault.ScanFault.{ScanFault}
+use Rattle.obj_scan.specs.declared.fault.ScanFault.TheVariants as scan_faults
+use Rattle.obj_scan.specs.declared.passed.Kind.{Kind}
+use Rattle.obj_scan.specs.declared.passed.Kind.TheVariants as kinds
+use Rattle.obj_scan.specs.declared.passed.PassedOver.{PassedOver}
+use Rattle.obj_scan.specs.Passing.{is_garbled, kind_of, passed_after}
 use Rattle.obj_scan.specs.Polygons.{triangles}
 use Rattle.pm_io.specs.Letters.{letter_f, letter_v}
 
 -- What the lines so far gave: points in units of 10^-18, triangles, where those of each face of
--- more than three corners begin and how many they are, and how many vertices have a weight.
+-- more than three corners begin and how many they are, and how much was passed over.
 pub record Scanned : Type 0 where
   pub points : List Place
   pub faces : List Corners
   pub polygons : List Polygon
-  pub weights : ℕ
+  pub passed : PassedOver
 
--- What a line gives: nothing, a point and whether a weight stands after it, or the vertex numbers
--- of a polygon's corners.
+-- What a line gives: nothing or a point, and what is passed over of it, if anything is; or the
+-- vertex numbers of a polygon's corners.
 pub data Found : Type 0 where
-  nothing : Found
-  vertex : Place → Bool → Found
+  nothing : Option Kind → Found
+  vertex : Place → Option Kind → Found
   polygon : List ℕ → Found
 
 -- A field with this coordinate is a weight: it is a number, and not 1 to the nearest unit. A number
@@ -37,17 +44,19 @@ is_weight (Ok w) = not (int_eq w (pos (10 ^ 18)))
 is_weight (Err faults.OutOfRange) = true
 is_weight (Err _) = false
 
--- One field after the three coordinates, as in `v x y z w`, is a weight. Several are colours.
-unfoldable pub has_weight : List (List ℕ) → Bool
-has_weight (w ∷ []) = is_weight (decimal_coordinate w)
-has_weight _ = false
+-- What stands after the three coordinates: one field that is a weight, as in `v x y z w`, or three
+-- or more, as a colour.
+unfoldable pub after_place : List (List ℕ) → Option Kind
+after_place (w ∷ []) = if is_weight (decimal_coordinate w) then Some kinds.Weight else None
+after_place (r ∷ g ∷ b ∷ more) = Some kinds.Colour
+after_place _ = None
 
 -- The fields after `v`. Those after the third make no fault.
 abbrev pub scanned_vertex_line : ℕ → List (List ℕ) → Result Found ObjFault
 scanned_vertex_line vertices (a ∷ b ∷ c ∷ more) =
     decimal_coordinate a >>= λ x. decimal_coordinate b >>= λ y. decimal_coordinate c >>= λ z.
     if nat_le MOST_VERTICES vertices then Err faults.TooMany
-    else Ok (vertex (record { x = x; y = y; z = z }) (has_weight more))
+    else Ok (vertex (record { x = x; y = y; z = z }) (after_place more))
 scanned_vertex_line vertices _ = Err faults.TooFewFields
 
 -- The vertices that these fields name, or the first fault.
@@ -68,17 +77,27 @@ polygon_line vertices faces (a ∷ b ∷ c ∷ more) =
     indices vertices (a ∷ b ∷ c ∷ more) >>= polygon_of faces
 polygon_line vertices faces _ = Err faults.TooFewFields
 
--- The fields of a line. One that begins with neither `v` nor `f` is skipped, as is one without
--- fields.
-abbrev pub scanned_fields : ℕ → ℕ → List (List ℕ) → Result Found ObjFault
-scanned_fields vertices faces [] = Ok nothing
+-- What is read of a vertex or a face.
+abbrev pub in_line : Result Found ObjFault → Result Found ScanFault
+in_line (Ok f) = Ok f
+in_line (Err e) = Err (scan_faults.Line e)
+
+-- What a line gives that is neither.
+unfoldable pub other_line : List ℕ → Result Found ScanFault
+other_line keyword =
+    if is_garbled keyword then Err scan_faults.GarbledWord
+    else Ok (nothing (Some (kind_of keyword)))
+
+-- The fields of a line.
+abbrev pub scanned_fields : ℕ → ℕ → List (List ℕ) → Result Found ScanFault
+scanned_fields vertices faces [] = Ok (nothing None)
 scanned_fields vertices faces (keyword ∷ more) =
-    if is_letter letter_v keyword then scanned_vertex_line vertices more
-    else if is_letter letter_f keyword then polygon_line vertices faces more
-    else Ok nothing
+    if is_letter letter_v keyword then in_line (scanned_vertex_line vertices more)
+    else if is_letter letter_f keyword then in_line (polygon_line vertices faces more)
+    else other_line keyword
 
 -- What is read of a line after so many vertices and triangles.
-unfoldable pub scanned_line : ℕ → ℕ → List ℕ → Result Found ObjFault
+unfoldable pub scanned_line : ℕ → ℕ → List ℕ → Result Found ScanFault
 scanned_line vertices faces text = scanned_fields vertices faces (fields text)
 
 -- With a face of these corners after so many triangles.
@@ -88,21 +107,14 @@ polygons_after ps faces corners =
     then ps ++ record { first = faces; triangles = length corners - 2 } ∷ []
     else ps
 
-abbrev pub weights_after : ℕ → Bool → ℕ
-weights_after n weighted = if weighted then n + 1 else n
-
--- With what a line gives.
-abbrev pub with_scanned : Scanned → Found → Scanned
-with_scanned s nothing = s
-with_scanned s (vertex p weighted) = record {
+-- With what a line gives that has this number.
+abbrev pub with_scanned : Scanned → ℕ → Found → Scanned
+with_scanned s line (nothing kind) = record s { passed = passed_after s.passed line kind }
+with_scanned s line (vertex p kind) = record s {
   points = s.points ++ p ∷ [];
-  faces = s.faces;
-  polygons = s.polygons;
-  weights = weights_after s.weights weighted;
+  passed = passed_after s.passed line kind;
 }
-with_scanned s (polygon corners) = record {
-  points = s.points;
+with_scanned s line (polygon corners) = record s {
   faces = s.faces ++ triangles s.points corners;
   polygons = polygons_after s.polygons (length s.faces) corners;
-  weights = s.weights;
 }

@@ -2,6 +2,7 @@ pub mod Forms
 pub mod Refusals
 pub mod Polygons
 pub mod Digits
+pub mod Passing
 pub mod Judged
 pub mod Meaning
 pub mod Fails

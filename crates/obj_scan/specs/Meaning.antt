@@ -8,7 +8,6 @@ use Rattle.pm_ears.specs.Recutting.{IsPolygonWithin}
 use Rattle.obj_lines.specs.declared.limits.TheConstants.{MOST_LINE_BYTES}
 use Rattle.obj_lines.specs.Text.{until, lines, is_continued}
 use Rattle.obj_lines.specs.Rules.{is_past, is_long, place}
-use Rattle.obj_read.specs.declared.fault.ObjFault.{ObjFault}
 use Rattle.obj_read.specs.declared.fault.ObjFault.TheVariants as line_faults
 use Rattle.obj_prepare.specs.Named.{AreVerticesBelow}
 use Rattle.obj_scan.specs.declared.fault.ScanFault.{ScanFault}
@@ -16,6 +15,7 @@ use Rattle.obj_scan.specs.declared.fault.ScanFault.TheVariants as faults
 use Rattle.obj_scan.specs.Forms.{line_content, form_fault}
 use Rattle.obj_scan.specs.Refusals.{Refused}
 use Rattle.obj_scan.specs.Judged.{Scanned, Found, scanned_line, with_scanned}
+use Rattle.obj_scan.specs.Passing.{none_passed}
 use Rattle.pm_io.specs.Letters.{line_feed, space}
 
 -- What the lines before gave: how many bytes they have, the number of the next line, how many of
@@ -52,7 +52,7 @@ and_scanned_line s line f = record {
   number = s.number + 1;
   continued = 0;
   begun = [];
-  scanned = with_scanned s.scanned f;
+  scanned = with_scanned s.scanned (first_number s) f;
 }
 
 -- The first of two reasons to refuse a line: what is wrong with its form, and the other.
@@ -86,12 +86,13 @@ judged_length s line =
       place = place s.bytes line;
     }) else None)
 
-abbrev pub then_found : Result Found ObjFault → ScannedSoFar → List ℕ → Result ScannedSoFar ObjFault
+abbrev pub then_found : Result Found ScanFault → ScannedSoFar → List ℕ
+    → Result ScannedSoFar ScanFault
 then_found (Ok f) s line = Ok (and_scanned_line s line f)
 then_found (Err e) s line = Err e
 
 -- A line judged after those before it: what they give together, or the first fault.
-unfoldable pub line_judged : ScannedSoFar → List ℕ → Result ScannedSoFar ObjFault
+unfoldable pub line_judged : ScannedSoFar → List ℕ → Result ScannedSoFar ScanFault
 line_judged s line =
     if is_continued (line_content s.number (until line_feed line)) then Ok (and_continued s line)
     else then_found
@@ -99,12 +100,12 @@ line_judged s line =
     line
 
 -- The first line with a fault ends the reading.
-abbrev pub then_scanned_lines : Option Refused → Result ScannedSoFar ObjFault → ScannedSoFar
+abbrev pub then_scanned_lines : Option Refused → Result ScannedSoFar ScanFault → ScannedSoFar
     → List ℕ → (ScannedSoFar → Result Scanned Refused) → Result Scanned Refused
 then_scanned_lines (Some r) next s line more = Err r
 then_scanned_lines None (Ok t) s line more = more t
 then_scanned_lines None (Err e) s line more = Err
-    (record { fault = faults.Line e; line = first_number s; place = place s.bytes line })
+    (record { fault = e; line = first_number s; place = place s.bytes line })
 
 -- At the end no line waits for the next one.
 abbrev pub at_end : ScannedSoFar → Result Scanned Refused
@@ -125,7 +126,7 @@ nothing_scanned =
       number = 1;
       continued = 0;
       begun = [];
-      scanned = record { points = []; faces = []; polygons = []; weights = 0 };
+      scanned = record { points = []; faces = []; polygons = []; passed = none_passed };
     }
 
 -- The points and triangles of the bytes, or their first line with a fault.

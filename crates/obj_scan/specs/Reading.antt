@@ -5,7 +5,6 @@ use Rattle.obj_lines.specs.declared.limits.TheConstants.{MOST_LINE_BYTES}
 use Rattle.obj_lines.specs.declared.fault.LineFault.{LineFault}
 use Rattle.obj_lines.specs.Text.{is_continued}
 use Rattle.obj_lines.specs.Rules.{Rules}
-use Rattle.obj_read.specs.declared.fault.ObjFault.{ObjFault}
 use Rattle.obj_read.specs.declared.fault.ObjFault.TheVariants as faults
 use Rattle.obj_scan.specs.declared.fault.ScanFault.{ScanFault}
 use Rattle.obj_scan.specs.declared.fault.ScanFault.TheVariants as scan_faults
@@ -13,6 +12,7 @@ use Rattle.obj_scan.specs.declared.scanner.Scanner.{Scanner}
 use Rattle.obj_scan.specs.Forms.{line_content, form_fault}
 use Rattle.obj_scan.specs.Judged.{Scanned, Found, scanned_line, with_scanned}
 use Rattle.obj_scan.specs.Meaning.{IsWithinLimits}
+use Rattle.obj_scan.specs.Passing.{none_passed, passed_count}
 use Rattle.obj_scan.specs.Fails.{scanned_of}
 use Rattle.pm_io.specs.Letters.{space}
 
@@ -32,27 +32,29 @@ nothing_held =
     record {
       continued = 0;
       begun = [];
-      scanned = record { points = []; faces = []; polygons = []; weights = 0 };
+      scanned = record { points = []; faces = []; polygons = []; passed = none_passed };
     }
 
--- With what a line gives, or its fault.
-abbrev pub given : Scanned → Result Found ObjFault → Result Scanned ObjFault
-given s (Ok f) = Ok (with_scanned s f)
-given s (Err e) = Err e
+-- With what a line gives that has this number, or its fault.
+abbrev pub given : Scanned → ℕ → Result Found ScanFault → Result Scanned (LineFault ScanFault)
+given s line (Ok f) = Ok (with_scanned s line f)
+given s line (Err e) = Err (record { fault = e; line = line })
 
 -- With what a text gives.
-unfoldable pub scanned_after : Scanned → List ℕ → Result Scanned ObjFault
-scanned_after s text = given s (scanned_line (length s.points) (length s.faces) text)
+unfoldable pub scanned_after : Scanned → ℕ → List ℕ → Result Scanned (LineFault ScanFault)
+scanned_after s line text = given s line (scanned_line (length s.points) (length s.faces) text)
 
 -- No line waits for the next one.
-abbrev pub ended : Result Scanned ObjFault → Result HeldLines ObjFault
+abbrev pub ended : Result Scanned (LineFault ScanFault) → Result HeldLines (LineFault ScanFault)
 ended (Ok s) = Ok (record { continued = 0; begun = []; scanned = s })
 ended (Err e) = Err e
 
--- One line more, of which this is read.
-unfoldable pub taken : HeldLines → List ℕ → Result HeldLines ObjFault
-taken h text =
-    if nat_lt MOST_LINE_BYTES (length (h.begun ++ text)) then Err faults.LineTooLong
+-- One line more, of which this is read. The first of those that go together has this number, by
+-- which a fault is named.
+unfoldable pub taken : ℕ → HeldLines → List ℕ → Result HeldLines (LineFault ScanFault)
+taken line h text =
+    if nat_lt MOST_LINE_BYTES (length (h.begun ++ text)) then Err
+    (record { fault = scan_faults.Line faults.LineTooLong; line = line })
     else if is_continued text then
     Ok (record {
       continued = h.continued + 1;
@@ -60,12 +62,7 @@ taken h text =
           take (length (h.begun ++ text) - 1) (h.begun ++ text) ++ space ∷ [];
       scanned = h.scanned;
     })
-    else ended (scanned_after h.scanned (h.begun ++ text))
-
--- A fault of what is read is the first line's of those that go together.
-abbrev pub named : ℕ → Result HeldLines ObjFault → Result HeldLines (LineFault ScanFault)
-named line (Ok h) = Ok h
-named line (Err e) = Err (record { fault = scan_faults.Line e; line = line })
+    else ended (scanned_after h.scanned line (h.begun ++ text))
 
 -- A line whose form is right gives what is read of it.
 abbrev pub if_formed : Option ScanFault → ℕ → Result HeldLines (LineFault ScanFault)
@@ -77,17 +74,18 @@ if_formed None number taken = taken
 -- fault.
 unfoldable pub line_taken : ℕ → HeldLines → List ℕ → Result HeldLines (LineFault ScanFault)
 line_taken number h text = if_formed (form_fault number text) number
-    (named (number - h.continued) (taken h (line_content number text)))
+    (taken (number - h.continued) h (line_content number text))
 
--- What the lines gave is within the limits. Each weight has a vertex.
-pub record IsScanning (s : Scanned) : Type 0 where
+-- What the lines before this one gave is within the limits. No line has two things that are passed
+-- over.
+pub record IsScanning (line : ℕ) (s : Scanned) : Type 0 where
   pub within : IsWithinLimits s
-  pub weights : s.weights ≤ length s.points
+  pub passed : passed_count s.passed < line
 
 -- The line with this number may come.
 pub record IsReadyToScan (h : HeldLines) (number : ℕ) : Type 0 where
   pub continued : h.continued < number
-  pub scanned : IsScanning h.scanned
+  pub scanned : IsScanning (number - h.continued) h.scanned
 
 -- At the end no line waits for the next one.
 abbrev pub end_fault : ℕ → HeldLines → Option (LineFault ScanFault)

@@ -17,6 +17,7 @@ abbrev pub fault_number : ScanFault → ℕ
 fault_number (faults.Line fault) = line_fault_number fault
 fault_number faults.SixteenBits = 10
 fault_number faults.LoneReturn = 11
+fault_number faults.GarbledWord = 13
 
 abbrev pub of_line : ObjFail → TextFail ScanFault
 of_line (line_fails.Fault fault line) = text_fails.Fault

@@ -14,11 +14,13 @@ pub enum ScanFault {
     SixteenBits,
     /// A CR stands in the line that doesn't end it.
     LoneReturn,
+    /// The first word is `v`, `vt`, `vn` or `f` but for bytes that aren't letters.
+    GarbledWord,
 }
 
 impl ScanFault {
     /// The number by which programs tell the fault. The faults of what is read have their numbers
-    /// in `obj_read`, of which 10 doesn't come here.
+    /// in `obj_read`, of which 10 doesn't come here; 12 is that no face comes out.
     pub fn number(self) -> u32
         ensures { result ≡ fault_number self }
     {
@@ -26,6 +28,7 @@ impl ScanFault {
             ScanFault::Line(fault) => fault.number(),
             ScanFault::SixteenBits => 10,
             ScanFault::LoneReturn => 11,
+            ScanFault::GarbledWord => 13,
         }
     }
 }

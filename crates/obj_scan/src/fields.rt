@@ -1,6 +1,8 @@
 //! The fields of a line after its keyword.
 ghost use Rattle.std.specs.Prelude.{ℕ, ◌∷◌, ◌≡◌, ◌+◌, ◌-◌, ◌*◌, ◌^◌, ◌<◌, ◌≤◌, nat_le};
 ghost use Rattle.std.specs.Prelude.{length, unsigned_abs, Ok, Err, OnOk, IfOk, IfErr, IfSome};
+ghost use Rattle.std.specs.Prelude.{Some, None, if◌then◌else◌};
+ghost use Rattle.obj_scan.specs.declared.passed.Kind.TheVariants as kinds;
 ghost use Rattle.std.specs.List.{All};
 ghost use Rattle.obj_read.specs.declared.fault.ObjFault.TheVariants as faults;
 ghost use Rattle.obj_read.specs.declared.fault.ObjFail.TheVariants as fails;
@@ -10,8 +12,9 @@ ghost use Rattle.obj_read.specs.Fields.{fields};
 ghost use Rattle.obj_prepare.specs.Numbers.{decimal_coordinate as decimal_coordinate_of};
 ghost use Rattle.obj_scan.specs.Digits.{IsOfDigits};
 ghost use Rattle.obj_scan.specs.Judged.{Found, scanned_vertex_line, indices, polygon_line};
-ghost use Rattle.obj_scan.specs.Judged.{is_weight, has_weight};
+ghost use Rattle.obj_scan.specs.Judged.{is_weight, after_place};
 
+use crate::passed::Kind;
 use obj_prepare::{ExactPoint, decimal_coordinate};
 use obj_read::{ObjFail, ObjFault, index, is_negative, next_field, without_sign};
 use pm_base::{MOST_FACES, MOST_VERTICES};
@@ -23,11 +26,11 @@ const ONE: i128 = 1_000_000_000_000_000_000;
 // Whole numbers below it are read by their digits alone.
 const SMALL: u64 = 100_000_000_000_000;
 
-/// A point, and whether a weight stands after it.
+/// A point, and what is passed over that stands after it.
 #[derive(Clone, Copy, Debug, PartialEq, Eq)]
 pub struct Vertex {
     pub point: ExactPoint,
-    pub weighted: bool,
+    pub passed: Option<Kind>,
 }
 
 // Whether a field is a number that isn't 1.
@@ -40,14 +43,31 @@ fn is_weight(field: &[u8]) -> bool
     }
 }
 
-// Whether one field stands there, and is a weight.
-#[tactic(auto, unfolding(crate::specs::Judged::has_weight))]
-fn has_weight(text: &[u8]) -> bool
-    ensures { result ≡ has_weight (fields text.now) }
+// What one field is that stands alone after a place.
+fn weight(field: &[u8]) -> Option<Kind>
+    ensures { result ≡ if is_weight (decimal_coordinate_of field.now) then Some kinds.Weight
+        else None }
 {
-    match next_field(text) {
-        None => false,
-        Some((weight, rest)) => next_field(rest).is_none() && is_weight(weight),
+    if is_weight(field) {
+        Some(Kind::Weight)
+    } else {
+        None
+    }
+}
+
+// What is passed over after a place: one field that is a weight, or three or more.
+#[tactic(auto, unfolding(crate::specs::Judged::after_place))]
+fn after_place(text: &[u8]) -> Option<Kind>
+    ensures { result ≡ after_place (fields text.now) }
+{
+    let (first, rest) = next_field(text)?;
+    let Some((_, rest)) = next_field(rest) else {
+        return weight(first);
+    };
+    if next_field(rest).is_some() {
+        Some(Kind::Colour)
+    } else {
+        None
     }
 }
 
@@ -90,7 +110,7 @@ fn number(field: &[u8]) -> Result<i128, ObjFault>
 fn vertex_of(x: &[u8], y: &[u8], z: &[u8], rest: &[u8], vertices: u32) -> Result<Vertex, ObjFault>
     ensures ok { IfOk result
         (λ v. scanned_vertex_line vertices (x.now ∷ y.now ∷ z.now ∷ fields rest.now)
-        ≡ Ok (Found.vertex v.point v.weighted)) }
+        ≡ Ok (Found.vertex v.point v.passed)) }
     ensures fault { IfErr result
         (λ e. scanned_vertex_line vertices (x.now ∷ y.now ∷ z.now ∷ fields rest.now) ≡ Err e) }
     ensures room { OnOk result (vertices < MOST_VERTICES) }
@@ -104,7 +124,7 @@ fn vertex_of(x: &[u8], y: &[u8], z: &[u8], rest: &[u8], vertices: u32) -> Result
     match ExactPoint::new(x, y, z) {
         Some(point) => Ok(Vertex {
             point,
-            weighted: has_weight(rest),
+            passed: after_place(rest),
         }),
         None => Err(ObjFault::OutOfRange),
     }
@@ -113,7 +133,7 @@ fn vertex_of(x: &[u8], y: &[u8], z: &[u8], rest: &[u8], vertices: u32) -> Result
 /// What a vertex spells after so many: three coordinates, and fields that make no fault.
 pub fn vertex_line(vertices: u32, text: &[u8]) -> Result<Vertex, ObjFault>
     ensures ok { IfOk result (λ v. scanned_vertex_line vertices (fields text.now)
-        ≡ Ok (Found.vertex v.point v.weighted)) }
+        ≡ Ok (Found.vertex v.point v.passed)) }
     ensures fault { IfErr result (λ e. scanned_vertex_line vertices (fields text.now) ≡ Err e) }
     ensures room { OnOk result (vertices < MOST_VERTICES) }
 {

@@ -5,6 +5,7 @@
 mod fault;
 mod fields;
 mod form;
+mod passed;
 mod polygons;
 mod reader;
 mod scan;
@@ -12,6 +13,7 @@ mod scanner;
 mod theory;
 
 pub use fault::{ScanFail, ScanFault};
+pub use passed::PassedOver;
 pub use scan::{Scan, scan_obj};
 pub use theory::scans_are_sound;
 

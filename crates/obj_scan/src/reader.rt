@@ -1,7 +1,7 @@
 //! The scanner takes the lines of a text: their form, and what is read of them.
 ghost use Rattle.obj_scan.specs.Reading.{HeldLines, held_of, scan_rules, IsReadyToScan};
 
-use crate::fault::{ScanFault, of_line};
+use crate::fault::ScanFault;
 use crate::form::{form_fault, line_content};
 use crate::scanner::Scanner;
 use obj_lines::{LineFault, LineReader, Lines, TextFail};
@@ -35,10 +35,7 @@ impl LineReader for Scanner {
                 line: number,
             }));
         }
-        match self.take_content(line_content(content, number), number) {
-            Ok(()) => Ok(()),
-            Err(fail) => Err(of_line(fail)),
-        }
+        self.take_content(line_content(content, number), number)
     }
 
     // At the end no line waits for the next one.

@@ -7,6 +7,7 @@ ghost use Rattle.obj_scan.specs.Meaning.{scan_meaning_of, IsWithinLimits};
 ghost use Rattle.obj_scan.specs.Refusals.{of_source};
 
 use crate::fault::ScanFail;
+use crate::passed::PassedOver;
 use crate::scanner::Scanner;
 use obj_lines::{TextFail, read_lines};
 use obj_prepare::ExactPoint;
@@ -16,14 +17,13 @@ use pm_io::Source;
 use std::alloc::Global;
 
 /// What a text spells: points in units of 10^-18, triangles, where the fan of each face of more
-/// than three corners stands among them, and how many vertices have a weight that isn't 1, as in `v
-/// x y z w`.
+/// than three corners stands among them, and how much was passed over.
 #[derive(Drop)]
 pub struct Scan {
     pub points: Vec<ExactPoint>,
     pub faces: Vec<Corners>,
     pub polygons: Vec<Polygon>,
-    pub weights: u32,
+    pub passed: PassedOver,
 }
 
 /// Reads a source to its end, and answers the points and triangles that its bytes spell.
@@ -32,13 +32,15 @@ pub struct Scan {
 /// letter is refused, and so is a
 /// line with a CR that doesn't end it.
 ///
-/// Lines that begin with neither `v` nor `f` are skipped, and one that ends in a backslash is
-/// continued by the next. A coordinate is the nearest whole number of 10^-18. Of a vertex the first
-/// three are read; where one number more stands there, which other programs divide by, it is
-/// counted if it isn't 1, and passed over. A polygon is cut into triangles, begun at the corner
-/// whose point is least. All bytes that are held are judged before more are asked for, so a fault
-/// is answered as soon as the byte that shows it has come. However the source cuts its bytes, the
-/// answer is the same.
+/// Lines that begin with neither `v` nor `f` are counted by what they are and passed over, but for
+/// those whose first word is `v`, `vt`, `vn` or `f` once bytes that aren't letters are dropped:
+/// these are refused. A line that ends in a backslash is continued by the next. A coordinate is the
+/// nearest whole number of 10^-18. Of a vertex the first three are read; where one number more
+/// stands there, which other programs divide by, it is counted if it isn't 1, and passed over; so
+/// are colours. A polygon is cut into triangles, begun at the corner whose point is least.
+///
+/// All bytes that are held are judged before more are asked for, so a fault is answered as soon as
+/// the byte that shows it has come. However the source cuts its bytes, the answer is the same.
 ///
 /// Each byte, and each corner, is looked at a constant number of times. Memory is taken for the
 /// window, for one line, for lines that are continued, for the corners of one face, and for what is

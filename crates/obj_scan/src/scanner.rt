@@ -5,19 +5,22 @@ ghost use Rattle.std.specs.Prelude.{take, Ok, OnOk, IfErr};
 ghost use Rattle.std.specs.List.{All};
 ghost use Rattle.pm_base.specs.declared.limits.TheConstants.{MOST_FACES, MOST_VERTICES};
 ghost use Rattle.obj_lines.specs.Text.{is_continued};
+ghost use Rattle.obj_lines.specs.Fails.{IsLineFault as IsTextFault};
 ghost use Rattle.obj_read.specs.Fails.{IsLineFault};
 ghost use Rattle.obj_read.specs.Fields.{fields};
 ghost use Rattle.obj_scan.specs.Fails.{scanned_of};
 ghost use Rattle.obj_scan.specs.Judged.{Found, scanned_vertex_line, polygon_line, polygons_after};
-ghost use Rattle.obj_scan.specs.Judged.{weights_after, with_scanned};
+ghost use Rattle.obj_scan.specs.Judged.{in_line, other_line, with_scanned};
 ghost use Rattle.obj_scan.specs.Reading.{IsScanning, given, scanned_after, held_of, nothing_held};
 ghost use Rattle.obj_scan.specs.Reading.{taken};
 
 use crate::OutOfMemory;
+use crate::fault::{ScanFault, of_line};
 use crate::fields::{face_line, vertex_line};
+use crate::passed::{PassedOver, is_garbled, kind_of};
 use crate::polygons::push_polygon;
 use crate::scan::Scan;
-use obj_lines::{MOST_LINE_BYTES, is_continued};
+use obj_lines::{LineFault, MOST_LINE_BYTES, TextFail, is_continued};
 use obj_read::{ObjFail, ObjFault, is_letter, next_field};
 use pm_ears::Polygon;
 use std::alloc::Global;
@@ -32,22 +35,14 @@ pub struct Scanner {
     pub corners: Vec<u32>,
 }
 
-// How many vertices had a weight, after one more.
-fn weights_after(weights: u32, weighted: bool) -> u32
-    requires { weights < MOST_VERTICES }
-    ensures { result ≡ weights_after weights weighted }
-{
-    if weighted { weights + 1 } else { weights }
-}
-
 // Takes a vertex.
 fn take_vertex(scan: &mut Scan, text: &[u8], line: u32) -> Result<(), ObjFail>
-    requires scanning { IsScanning (scanned_of scan.old) }
+    requires scanning { IsScanning line (scanned_of scan.old) }
     ensures ok { OnOk result
-        (given (scanned_of scan.old)
-        (scanned_vertex_line (length scan.old.points.items) (fields text.now))
+        (given (scanned_of scan.old) line
+        (in_line (scanned_vertex_line (length scan.old.points.items) (fields text.now)))
         ≡ Ok (scanned_of scan.new)) }
-    ensures scanning { OnOk result (IsScanning (scanned_of scan.new)) }
+    ensures scanning { OnOk result (IsScanning (line + 1) (scanned_of scan.new)) }
     ensures fault { IfErr result
         (λ e. IsLineFault e line
         (scanned_vertex_line (length scan.old.points.items) (fields text.now))) }
@@ -55,7 +50,7 @@ fn take_vertex(scan: &mut Scan, text: &[u8], line: u32) -> Result<(), ObjFail>
     match vertex_line(scan.points.len() as u32, text) {
         Err(fault) => Err(ObjFail::Fault { fault, line }),
         Ok(vertex) => {
-            scan.weights = weights_after(scan.weights, vertex.weighted);
+            scan.passed.take(line, vertex.passed);
             match scan.points.push(vertex.point) {
                 Ok(()) => Ok(()),
                 Err(_) => Err(ObjFail::OutOfMemory),
@@ -84,8 +79,8 @@ fn put_face(scan: &mut Scan, corners: &mut Vec<u32>) -> Result<(), OutOfMemory>
     requires within { All (λ (c : ℕ). c < length scan.old.points.items) corners.old.items }
     requires room { length scan.old.faces.items + (length corners.old.items - 2) ≤ MOST_FACES }
     ensures { OnOk result
-        (scanned_of scan.new
-        ≡ with_scanned (scanned_of scan.old) (Found.polygon corners.old.items)) }
+        ((line : ℕ) → scanned_of scan.new
+        ≡ with_scanned (scanned_of scan.old) line (Found.polygon corners.old.items)) }
 {
     note_polygon(&mut scan.polygons, scan.faces.len() as u32, corners)?;
     push_polygon(&scan.points, &mut scan.faces, corners)
@@ -93,12 +88,12 @@ fn put_face(scan: &mut Scan, corners: &mut Vec<u32>) -> Result<(), OutOfMemory>
 
 // Takes a face.
 fn take_face(scan: &mut Scan, corners: &mut Vec<u32>, text: &[u8], line: u32) -> Result<(), ObjFail>
-    requires scanning { IsScanning (scanned_of scan.old) }
+    requires scanning { IsScanning line (scanned_of scan.old) }
     ensures ok { OnOk result
-        (given (scanned_of scan.old)
-        (polygon_line (length scan.old.points.items) (length scan.old.faces.items)
-        (fields text.now)) ≡ Ok (scanned_of scan.new)) }
-    ensures scanning { OnOk result (IsScanning (scanned_of scan.new)) }
+        (given (scanned_of scan.old) line
+        (in_line (polygon_line (length scan.old.points.items) (length scan.old.faces.items)
+        (fields text.now))) ≡ Ok (scanned_of scan.new)) }
+    ensures scanning { OnOk result (IsScanning (line + 1) (scanned_of scan.new)) }
     ensures fault { IfErr result
         (λ e. IsLineFault e line
         (polygon_line (length scan.old.points.items) (length scan.old.faces.items)
@@ -112,20 +107,54 @@ fn take_face(scan: &mut Scan, corners: &mut Vec<u32>, text: &[u8], line: u32) ->
     }
 }
 
-// Takes what a text gives. One that begins with neither `v` nor `f` is skipped.
-#[tactic(auto, unfolding(crate::specs::Reading::scanned_after, crate::specs::Judged::scanned_line), using(crate::proofs::ScanLaws::given_fault))]
-fn take_text(scan: &mut Scan, corners: &mut Vec<u32>, text: &[u8], line: u32) -> Result<(), ObjFail>
-    requires scanning { IsScanning (scanned_of scan.old) }
-    ensures ok { OnOk result (scanned_after (scanned_of scan.old) text.now
+// Takes a line that is neither a vertex nor a face.
+#[tactic(auto, unfolding(crate::specs::Judged::other_line))]
+fn take_other(scan: &mut Scan, keyword: &[u8], line: u32) -> Result<(), TextFail<ScanFault>>
+    requires scanning { IsScanning line (scanned_of scan.old) }
+    ensures ok { OnOk result (given (scanned_of scan.old) line (other_line keyword.now)
         ≡ Ok (scanned_of scan.new)) }
-    ensures scanning { OnOk result (IsScanning (scanned_of scan.new)) }
+    ensures scanning { OnOk result (IsScanning (line + 1) (scanned_of scan.new)) }
     ensures fault { IfErr result
-        (λ e. IsLineFault e line (scanned_after (scanned_of scan.old) text.now)) }
+        (λ e. IsTextFault e (given (scanned_of scan.old) line (other_line keyword.now))) }
 {
-    match next_field(text) {
-        Some((keyword, rest)) if is_letter(b'v', keyword) => take_vertex(scan, rest, line),
-        Some((keyword, rest)) if is_letter(b'f', keyword) => take_face(scan, corners, rest, line),
-        _ => Ok(()),
+    if is_garbled(keyword) {
+        return Err(TextFail::Fault(LineFault {
+            fault: ScanFault::GarbledWord,
+            line,
+        }));
+    }
+    scan.passed.take(line, Some(kind_of(keyword)));
+    Ok(())
+}
+
+// Takes what a text gives.
+#[tactic(auto, unfolding(crate::specs::Reading::scanned_after, crate::specs::Judged::scanned_line), using(crate::proofs::ScanLaws::given_fault))]
+fn take_text(
+    scan: &mut Scan,
+    corners: &mut Vec<u32>,
+    text: &[u8],
+    line: u32,
+) -> Result<(), TextFail<ScanFault>>
+    requires scanning { IsScanning line (scanned_of scan.old) }
+    ensures ok { OnOk result (scanned_after (scanned_of scan.old) line text.now
+        ≡ Ok (scanned_of scan.new)) }
+    ensures scanning { OnOk result (IsScanning (line + 1) (scanned_of scan.new)) }
+    ensures fault { IfErr result
+        (λ e. IsTextFault e (scanned_after (scanned_of scan.old) line text.now)) }
+{
+    let Some((keyword, rest)) = next_field(text) else {
+        return Ok(());
+    };
+    let taken = if is_letter(b'v', keyword) {
+        take_vertex(scan, rest, line)
+    } else if is_letter(b'f', keyword) {
+        take_face(scan, corners, rest, line)
+    } else {
+        return take_other(scan, keyword, line);
+    };
+    match taken {
+        Ok(()) => Ok(()),
+        Err(fail) => Err(of_line(fail)),
     }
 }
 
@@ -152,7 +181,7 @@ impl Scanner {
                 points: Vec::new(alloc),
                 faces: Vec::new(alloc),
                 polygons: Vec::new(alloc),
-                weights: 0,
+                passed: PassedOver::new(),
             },
             continued: 0,
             begun: Vec::new(alloc),
@@ -161,24 +190,24 @@ impl Scanner {
     }
 
     // Takes what a line gives that isn't continued, with the lines that it continues.
-    fn take_joined(&mut self, text: &[u8], line: u32) -> Result<(), ObjFail>
-        requires scanning { IsScanning (scanned_of self.old.scan) }
+    fn take_joined(&mut self, text: &[u8], line: u32) -> Result<(), TextFail<ScanFault>>
+        requires scanning { IsScanning line (scanned_of self.old.scan) }
         ensures ok { OnOk result
-            (scanned_after (scanned_of self.old.scan) (self.old.begun.items ++ text.now)
+            (scanned_after (scanned_of self.old.scan) line (self.old.begun.items ++ text.now)
             ≡ Ok (scanned_of self.new.scan)) }
-        ensures scanning { OnOk result (IsScanning (scanned_of self.new.scan)) }
+        ensures scanning { OnOk result (IsScanning (line + 1) (scanned_of self.new.scan)) }
         ensures begun { OnOk result (self.new.begun.items ≡ []) }
         ensures continued { OnOk result (self.new.continued ≡ 0) }
         ensures fault { IfErr result
-            (λ e. IsLineFault e line
-            (scanned_after (scanned_of self.old.scan) (self.old.begun.items ++ text.now))) }
+            (λ e. IsTextFault e
+            (scanned_after (scanned_of self.old.scan) line (self.old.begun.items ++ text.now))) }
     {
         self.continued = 0;
         if self.begun.is_empty() {
             return take_text(&mut self.scan, &mut self.corners, text, line);
         }
         if self.begun.extend_from_slice(text).is_err() {
-            return Err(ObjFail::OutOfMemory);
+            return Err(TextFail::OutOfMemory);
         }
         match take_text(&mut self.scan, &mut self.corners, &self.begun, line) {
             Err(fail) => Err(fail),
@@ -192,27 +221,29 @@ impl Scanner {
     /// Takes one line more: this is what is read of it, and its number. A fault of what is read has
     /// the number of the first of the lines that go together.
     #[tactic(auto, unfolding(crate::specs::Reading::taken), using(crate::proofs::ScanLaws::ended_fault))]
-    pub fn take_content(&mut self, text: &[u8], number: u32) -> Result<(), ObjFail>
-        requires scanning { IsScanning (scanned_of self.old.scan) }
+    pub fn take_content(&mut self, text: &[u8], number: u32) -> Result<(), TextFail<ScanFault>>
         requires continued { self.old.continued < number }
-        ensures ok { OnOk result (taken (held_of self.old) text.now ≡ Ok (held_of self.new)) }
-        ensures scanning { OnOk result (IsScanning (scanned_of self.new.scan)) }
+        requires scanning { IsScanning (number - self.old.continued) (scanned_of self.old.scan) }
+        ensures ok { OnOk result (taken (number - self.old.continued) (held_of self.old) text.now
+            ≡ Ok (held_of self.new)) }
         ensures continued { OnOk result (self.new.continued ≤ number) }
+        ensures scanning { OnOk result
+            (IsScanning (number + 1 - self.new.continued) (scanned_of self.new.scan)) }
         ensures fault { IfErr result
-            (λ e. IsLineFault e (number - self.old.continued) (taken (held_of self.old) text.now)) }
+            (λ e. IsTextFault e (taken (number - self.old.continued) (held_of self.old) text.now)) }
     {
         let line = number - self.continued;
         if self.begun.len() + text.len() > MOST_LINE_BYTES {
-            return Err(ObjFail::Fault {
-                fault: ObjFault::LineTooLong,
+            return Err(TextFail::Fault(LineFault {
+                fault: ScanFault::Line(ObjFault::LineTooLong),
                 line,
-            });
+            }));
         }
         if !is_continued(text) {
             return self.take_joined(text, line);
         }
         match join_continued(&mut self.begun, text) {
-            Err(_) => Err(ObjFail::OutOfMemory),
+            Err(_) => Err(TextFail::OutOfMemory),
             Ok(()) => {
                 self.continued += 1;
                 Ok(())

@@ -1,0 +1,7 @@
+use Rattle.obj_fit.specs.Texts.{passed_notes}
+use Rattle.obj_fit.proofs.TextLaws.{added_two}
+use Rattle.obj_fit.proofs.changes.add_passed.Goals as goal
+
+pub returns : goal.returns
+unfolding passed_notes
+returns c = added_two _ _ _ _ _ c.in_ok-add_shading.ensures c.in_ok-add_beside.ensures
