@@ -9,7 +9,9 @@ use Rattle.std.specs.List.{All}
 use Rattle.std.proofs.lemmas.Bool.{ltb-false, or_parts}
 use Rattle.std.proofs.lemmas.Bool.Decides.{nat_tests}
 use Rattle.std.proofs.lemmas.List.Elements.{All-nil, All-cons, All-push}
-use Rattle.obj_lines.specs.Text.{lines}
+use Rattle.pm_io.specs.Letters.{line_feed}
+use Rattle.obj_lines.specs.Text.{until, lines, is_continued}
+use Rattle.obj_scan.specs.Forms.{line_content}
 use Rattle.obj_read.specs.declared.fault.ObjFault.{ObjFault}
 use Rattle.obj_read.specs.declared.fault.ObjFault.TheVariants as faults
 use Rattle.obj_read.specs.Fields.{fields}
@@ -24,7 +26,8 @@ use Rattle.obj_scan.specs.Judged.{Scanned, Found, nothing, vertex, polygon, scan
 use Rattle.obj_scan.specs.Judged.{indices, polygon_of, polygon_line, scanned_fields, scanned_line}
 use Rattle.obj_scan.specs.Judged.{after_place, in_line, other_line, with_scanned}
 use Rattle.obj_scan.specs.declared.fault.ScanFault.{ScanFault}
-use Rattle.obj_scan.specs.Passing.{none_passed}
+use Rattle.obj_scan.specs.declared.fault.ScanFault.TheVariants as scan_faults
+use Rattle.obj_scan.specs.Passing.{none_passed, is_garbled, kind_of}
 use Rattle.obj_scan.specs.Meaning.{ScannedSoFar, nothing_scanned, and_continued}
 use Rattle.obj_scan.specs.Meaning.{and_scanned_line, joined_text, judged_length, then_found}
 use Rattle.obj_scan.specs.Meaning.{line_judged}
@@ -95,7 +98,9 @@ one_of P false r s this that = that
 
 other_suits : (n k : ℕ) (keyword : List ℕ) → LineGives (Suits n k) (other_line keyword)
 unfolding other_line Suits
-other_suits n k keyword = one_of _ _ _ _ (record { so = tt }) (record { so = tt })
+other_suits n k keyword =
+    one_of (Suits n k) (is_garbled keyword) (Err scan_faults.GarbledWord)
+    (Ok (nothing (Some (kind_of keyword)))) (record { so = tt }) (record { so = tt })
 
 fields_suit : (n k : ℕ) (fs : List (List ℕ)) → LineGives (Suits n k) (scanned_fields n k fs)
 unfolding Suits
@@ -148,10 +153,15 @@ then_found_sound (Err e) s line suits sound = record { so = tt }
 
 judged_sound : (s : ScannedSoFar) (line : List ℕ) → AfterSound s
     → LineGives AfterSound (line_judged s line)
-unfolding line_judged joined_text and_continued
+unfolding line_judged and_continued
 judged_sound s line sound =
-    one_of _ _ _ _ (record { so = sound })
-    (then_found_sound _ s line (line_suits _ _ _) sound)
+    let n = length s.scanned.points in
+    let k = length s.scanned.faces in
+    let text = joined_text s line in
+    one_of AfterSound (is_continued (line_content s.number (until line_feed line)))
+    (Ok (and_continued s line)) (then_found (scanned_line n k text) s line)
+    (record { so = sound })
+    (then_found_sound (scanned_line n k text) s line (line_suits n k text) sound)
 
 then_lines_sound : (r : Option Refused) (next : Result ScannedSoFar ScanFault) (s : ScannedSoFar)
     (line : List ℕ) (more : ScannedSoFar → Result Scanned Refused) → LineGives AfterSound next

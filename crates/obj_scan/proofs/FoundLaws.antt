@@ -69,7 +69,8 @@ vertex_found n (a ∷ b ∷ c ∷ more) f is =
     vertex_case n a b c more f _ _ _ _ refl refl refl refl is
 
 face_case : (weighted : Option Kind) (n k : ℕ) (x y z : List ℕ) (f : ReadFound)
-    (a b c : Result ℕ ObjFault) (full : Bool) → index n (index_text x) ≡ a → index n (index_text y) ≡ b
+    (a b c : Result ℕ ObjFault) (full : Bool) → index n (index_text x) ≡ a
+    → index n (index_text y) ≡ b
     → index n (index_text z) ≡ c → nat_le 1048576 k ≡ full
     → face_read n k x y z ≡ Ok f → polygon_line n k (x ∷ y ∷ z ∷ []) ≡ Ok (found_of weighted f)
 unfolding face_read
