@@ -109,8 +109,8 @@ pub fn run<S: Source, K: Sink, E: Sink>(
     ensures leads_back { (asked : Asked) → Asks args asked → result ≡ 0
         → LeadsBack S.Source K.Sink asked.size input.old out.old out.new }
     // Triangles that need nothing were put as they are, over the places of their points. Only
-    // polygons that were cut, closed surfaces that look inward and faces without area are said, and
-    // how places lead back.
+    // polygons that were cut, what was passed over, closed surfaces that look inward and faces
+    // without area are said, and how places lead back.
     ensures stays { (asked : Asked) → Asks args asked → result ≡ 0
         → PutsAsItIs S.Source K.Sink E.Sink asked.size input.old out.old out.new err.old err.new }
     ensures read_whole { result ≡ 0 → AtEnd (S.left input.new) }
