@@ -3,30 +3,24 @@ import re
 
 from .stop import Stop
 
-STRING = re.compile(r'"(?:\\.|[^"\\])*"', re.S)
 GHOST_USE = re.compile(r"ghost\s+use\b[^;{}]*(?:\{[^{}]*\})?[^;{}]*;")
 GHOST = re.compile(r"ghost\s+[\w«»]+\s*[:=]\s*(?=\{)")
 GHOST_VALUE = re.compile(r"\s*=\s*(?=\{)")
 GHOST_END = re.compile(r"\s*[;,]")
 CLAUSE = re.compile(r"(?:requires|ensures)\*?\s*[\w«»]*\s*(?=\{)")
-# What could hide a brace or a quote from a count of them.
-HIDING = re.compile(r"--|\{-|'[{}\"]'")
+# Braces, strings, and what could hide one of these from a count.
+NEXT = re.compile(r"""(?P<hiding>--|\{-|'[{}"]')|"(?:\\.|[^"\\])*"|[{}]""", re.S)
 
 
 def after_braces(text: str, at: int) -> int:
     """The place after the braces that open at `at`."""
     depth = 0
-    while at < len(text):
-        if HIDING.match(text, at):
-            raise Stop("a comment or a character in antt", text, at)
-        string = STRING.match(text, at)
-        if string:
-            at = string.end()
-            continue
-        depth += (text[at] == "{") - (text[at] == "}")
-        at += 1
+    for found in NEXT.finditer(text, at):
+        if found["hiding"]:
+            raise Stop("a comment or a character in antt", text, found.start())
+        depth += (found.group() == "{") - (found.group() == "}")
         if depth == 0:
-            return at
+            return found.end()
     raise Stop("braces that don't end", text, at)
 
 

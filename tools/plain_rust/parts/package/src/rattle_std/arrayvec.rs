@@ -14,10 +14,17 @@ pub struct ArrayVec<T, const N: usize> {
     len: usize,
 }
 
+impl<T: Copy, const N: usize> Default for ArrayVec<T, N> {
+    #[inline]
+    fn default() -> ArrayVec<T, N> {
+        ArrayVec { items: None, len: 0 }
+    }
+}
+
 impl<T: Copy, const N: usize> ArrayVec<T, N> {
     #[inline]
     pub fn new() -> ArrayVec<T, N> {
-        ArrayVec { items: None, len: 0 }
+        ArrayVec::default()
     }
 
     #[inline]

@@ -18,9 +18,15 @@ pub fn write_digits(n: u64, buf: &mut [u8], end: usize) -> usize {
 /// The text of a number.
 pub struct Buffer([u8; 40]);
 
+impl Default for Buffer {
+    fn default() -> Buffer {
+        Buffer([0; 40])
+    }
+}
+
 impl Buffer {
     pub fn new() -> Buffer {
-        Buffer([0; 40])
+        Buffer::default()
     }
 
     pub fn format(&mut self, n: impl Into<u128>) -> &str {
