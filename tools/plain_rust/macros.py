@@ -28,8 +28,9 @@ def with_macros(tokens: Tokens) -> List[Token]:
 
 def begins_constant(tokens: Tokens, at: int) -> bool:
     """Whether `const` stands there, and not that of a pointer or of a function."""
-    of_other = get(tokens, at - 1).is_mark("*") or follows(tokens, at + 1, "fn")
-    return tokens[at].is_word("const") and not of_other
+    if not tokens[at].is_word("const"):
+        return False
+    return not get(tokens, at - 1).is_mark("*") and not follows(tokens, at + 1, "fn")
 
 
 def bracket_of(tokens: Tokens, at: int) -> int:
