@@ -184,11 +184,12 @@ class Stops(unittest.TestCase):
     def test_what_rust_runs_differently(self) -> None:
         self.assert_stops([
             "fn f() { for i in 3.. { } }", "fn f() { g((a..).take(3)) }", "fn f() { [x..] }",
-            "fn f() { let r = f()..; }", "fn f() { S { a: 1, ..b } }", "fn f(x: &dyn T) {}",
-            "fn f() { x.clone(); }", "fn f() { x.map(T::clone(y)) }", "fn f() { iter::once(1) }",
-            "fn f() { iter::empty() }", "fn f() { thread::spawn(x) }", "fn f<T: Send>() {}",
-            "use anyhow::Error;", "macro_rules! m { () => {} }", "static A: u8 = 1;",
-            "impl Drop for S {}", "fn f() { write!(s, x); }", "fn f() { format!(in a; x); }",
+            "fn f() { let r = f()..; }", "fn f() { S { a: 1, ..b } }", "fn f() { S { a, ..(b) } }",
+            "fn f(x: &dyn T) {}", "fn f() { x.clone(); }", "fn f() { x.map(T::clone(y)) }",
+            "fn f() { iter::once(1) }", "fn f() { iter::empty() }", "fn f() { thread::spawn(x) }",
+            "fn f() { s.try_send(x) }", "fn f<T: Send>() {}", "use anyhow::Error;",
+            "macro_rules! m { () => {} }", "static A: u8 = 1;", "impl Drop for S {}",
+            "fn f() { write!(s, x); }", "fn f() { format!(in a; x); }",
         ])  # fmt: skip
 
     def test_what_isnt_known(self) -> None:

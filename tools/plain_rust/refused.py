@@ -42,8 +42,7 @@ def refuse(tokens: Tokens) -> None:
 def refuse_word(code: List[Token], at: int) -> None:
     token, after, before = code[at], get(code, at + 1), get(code, at - 1)
     why = WORDS.get(token.text)
-    # (a field or a method of one's own may have any of these names)
-    if why and not before.is_mark("."):
+    if why:
         raise Refusal(token.line, f"{why}, which Rust runs differently: {token.text}")
     if token.text == "clone" and after.is_mark("(") and before.text in (".", ":"):
         raise Refusal(token.line, "a clone, which is a Result here and a value in Rust")
@@ -60,7 +59,7 @@ def refuse_range(code: List[Token], at: int) -> None:
     """Stops at a range without an end, unless it is an index, and at `..base`."""
     before, after = get(code, at - 1), get(code, at + 2)
     begins = before.kind in ("word", "number") or before.text in (")", "]", "?")
-    if before.is_mark(",") and (after.kind in ("word", "string") or after.text in ("*", "&")):
+    if before.is_mark(",") and (after.kind in ("word", "string") or after.text in ("*", "&", "(")):
         raise Refusal(code[at].line, "a value that takes its fields from another")
     if begins and (after is END or after.text in RANGE_ENDS):
         if not (after.is_mark("]") and is_index(code, at)):
