@@ -1,4 +1,5 @@
-"""What test_quick_start.py tries with --real: a clone of this commit, and the kit on the path."""
+"""What test_quick_start.py tries with --real: a clone of this commit, the kit on the path, and cargo
+where no kit is."""
 import os
 import shutil
 import subprocess
@@ -16,7 +17,9 @@ NUMBER = ("crates/pm_io/src/number.rt", ".min(most);", ";")
 TAKER = ("crates/pm_io/src/taker.rt", "if self.from < self.to {", "if self.from + 1 < self.to {")
 
 
-class OverRealKit(unittest.TestCase):
+class OverClone(unittest.TestCase):
+    notice = NOTICE
+
     def setUp(self) -> None:
         room = tempfile.TemporaryDirectory(prefix="quick-start-")
         self.addCleanup(room.cleanup)
@@ -49,9 +52,11 @@ class OverRealKit(unittest.TestCase):
 
     def assert_answer(self, ran: Tuple[int, str, str]) -> None:
         status, said, told = ran
-        self.assertEqual((status, told.splitlines()[-1]), (0, NOTICE))
+        self.assertEqual((status, told.splitlines()[-1]), (0, self.notice))
         self.assertIn("frame 6 8\n", said)
 
+
+class OverRealKit(OverClone):
     def test_first_answers_two_at_once_with_temporary_files_elsewhere(self) -> None:
         with tempfile.TemporaryDirectory(dir="/dev/shm") as elsewhere:
             self.environment["TMPDIR"] = elsewhere
@@ -81,3 +86,37 @@ class OverRealKit(unittest.TestCase):
         self.assertEqual(status, 1, told)
         self.assertIn("crate pm_io is not proved", told)
         self.assertIn("src/taker.rt:", told)
+
+
+@unittest.skipIf(shutil.which("cargo") is None, "there is no cargo")
+class OverRealCargo(OverClone):
+    notice = NOTICE.replace("./prove proves it", "cargo built it")
+
+    def setUp(self) -> None:
+        super().setUp()
+        folders = os.environ["PATH"].split(os.pathsep)
+        without_kit = [folder for folder in folders if not (Path(folder) / "rt").exists()]
+        self.environment["PATH"] = os.pathsep.join(without_kit)
+        # (where cargo is rustup's, it looks for its compilers at home)
+        self.environment.setdefault("RUSTUP_HOME", str(Path.home() / ".rustup"))
+
+    def test_first_answers_two_at_once(self) -> None:
+        for ran in self.timed("vdpm", "view", "5", times=2):
+            self.assert_answer(ran)
+        [ran] = self.timed("vdpm", "view", "5")
+        self.assert_answer(ran)
+        self.assertEqual(len(ran[2].splitlines()), 1)
+
+    def test_an_overflow_stops_the_program(self) -> None:
+        self.change(*NUMBER)
+        [(status, said, told)] = self.timed("vdpm", "build", "9" * 30)
+        self.assertNotIn(status, range(6))
+        self.assertEqual(said, "")
+        self.assertIn(self.notice, told)
+        self.assertIn("overflow", told)
+
+    def test_a_form_that_cannot_be_made_plain_rust(self) -> None:
+        self.change("crates/vdpm/src/main.rt", "fn main", "macro_rules! main")
+        [(status, said, told)] = self.timed("vdpm", "view", "5")
+        self.assertEqual((status, said), (70, ""))
+        self.assertIn("crates/vdpm/src/main.rt:", told)

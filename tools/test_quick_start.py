@@ -3,7 +3,7 @@ tests.
 
     python3 tools/test_quick_start.py [--real]
 
-With --real the kit on the path is tried too, which takes some minutes.
+With --real the kit on the path and cargo are tried too, which takes some minutes.
 """
 import os
 import shutil
@@ -362,5 +362,5 @@ class Library(OverTestKit):
 if __name__ == "__main__":
     if "--real" in sys.argv:
         sys.argv.remove("--real")
-        from real_quick_start import OverRealKit  # noqa: F401
+        from real_quick_start import OverRealCargo, OverRealKit  # noqa: F401
     unittest.main()
