@@ -94,9 +94,14 @@ class OverRealCargo(OverClone):
 
     def setUp(self) -> None:
         super().setUp()
+        # (cargo may stand where rt does)
+        tools = self.home / "tools"
+        tools.mkdir()
+        for name in ("cargo", "rustc"):
+            (tools / name).symlink_to(shutil.which(name) or name)
         folders = os.environ["PATH"].split(os.pathsep)
         without_kit = [folder for folder in folders if not (Path(folder) / "rt").exists()]
-        self.environment["PATH"] = os.pathsep.join(without_kit)
+        self.environment["PATH"] = os.pathsep.join([str(tools), *without_kit])
         # (where cargo is rustup's, it looks for its compilers at home)
         self.environment.setdefault("RUSTUP_HOME", str(Path.home() / ".rustup"))
 
