@@ -1,5 +1,5 @@
-"""What test_quick_start.py tries with --real: a clone of this commit, the kit on the path, and cargo
-where no kit is."""
+"""What test_quick_start.py tries with --real: a clone of this commit, with the kit on the path, and
+without it by cargo."""
 import os
 import shutil
 import subprocess
