@@ -13,6 +13,7 @@ use Rattle.pm_commands.specs.Build.{IsBuilt}
 use Rattle.pm_commands.specs.Simplified.{IsSimplifiedText}
 use Rattle.pm_commands.specs.Outcome.{Follows, GivesMeshBack, done_with}
 use Rattle.pm_commands.specs.Frames.{ShowsSurfacesOf}
+use Rattle.pm_commands.specs.Borders.{FramesShowBorder}
 use Rattle.pm_making.specs.declared.fail.BuildFail.{BuildFail}
 use Rattle.pm_making.specs.declared.fail.BuildFail.TheVariants as fails
 use Rattle.pm_making.specs.Making.{MadeText, IsStreamOf, IsRefusedBy, IsEndOf}
@@ -68,3 +69,14 @@ simplify_refused target digits border text (fails.Faulty f) end =
     faulty_of (IsSimplifiedText border target digits) digits text f end.1.all end.1.outcome
     end.1.fault_is
 simplify_refused target digits border text fails.OutOfMemory end = tt
+
+-- The same frames, of an equal text and of equal bytes.
+pub border_of :
+    (target digits : ℕ) (left text got items out : List ℕ) → left ≡ text → got ≡ []
+    → items ≡ out → FramesShowBorder target digits left (Some got) (Some out)
+    → FramesShowBorder target digits text (Some []) (Some items)
+border_of target digits left text got items out same none is shown =
+    subst (λ (l : List ℕ). FramesShowBorder target digits l (Some []) (Some items)) same
+    (subst (λ (l : List ℕ). FramesShowBorder target digits left (Some l) (Some items)) none
+    (subst (λ (l : List ℕ). FramesShowBorder target digits left (Some got) (Some l)) (sym is)
+    shown))
