@@ -66,13 +66,13 @@ class Work(NamedTuple):
 
 
 def works() -> List[Work]:
-    obj = (EXAMPLES / "octahedron.obj").read_bytes()
+    obj, scan = (EXAMPLES / "torus.obj").read_bytes(), (EXAMPLES / "ring_scan.obj").read_bytes()
     script = (EXAMPLES / "octahedron_glide.script").read_bytes()
     live = (EXAMPLES / "octahedron.vdpm").read_bytes() + script
     return [
-        Work("vdpm", ["canon"], obj), Work("vdpm", ["build", "4"], obj),
+        Work("vdpm", ["canon"], obj), Work("vdpm", ["build", "400"], obj),
         Work("vdpm", ["live", "9"], live), Work("simplify", ["--keep-border"], obj),
-        Work("prepare", ["100"], obj),
+        Work("prepare", ["100"], scan),
     ]  # fmt: skip
 
 

@@ -6,9 +6,9 @@
 The programs for Linux on x86-64, which run on any; libvdpm with its header; the Cargo package; a
 Python wheel that holds its library; the WebAssembly module, where a compiler for it is here;
 SHA256SUMS; and RELEASE.txt, which tells of what commit and by which compilers. The same commit and
-compilers make the same bytes. FOLDER is a system with libc6-dev and libgcc-s1, unpacked: libvdpm.so
-is linked with its glibc, and runs on that and later ones.
-Needs cargo and cc. What isn't committed isn't released.
+compilers make the same bytes. FOLDER has the packages libc6, libc6-dev and libgcc-s1 of an older
+Debian, as `dpkg -x` unpacks them, with links made relative: libvdpm.so is linked with their glibc,
+and runs on that and later ones. Needs cargo and cc. What isn't committed isn't released.
 """
 import argparse
 import shutil
@@ -27,7 +27,7 @@ from releasing.telling import proof_of, text, time_of
 from releasing.wheel import wheel
 
 TOP = Path(__file__).resolve().parent.parent
-PAGE = ("README.md", "LICENSE-APACHE", "LICENSE-MIT")
+LICENSES = ("LICENSE-APACHE", "LICENSE-MIT")
 
 
 def version_of(files: Files, commit: str) -> str:
@@ -69,9 +69,9 @@ def released(room: Path, commit: str, sysroot: Optional[Path]) -> Dict[str, byte
     files = package(TOP)
     write(files, room)
     version, built, module = version_of(files, commit), build(room, sysroot), made_module(room)
-    proof, time, by = proof_of(TOP), time_of(TOP), compilers()
+    proof, time, by = proof_of(TOP), time_of(TOP, commit), compilers()
     told = {**proof, "commit": commit, "time": time}
-    page = {name: Entry(files[name]) for name in PAGE}
+    page = {name: Entry(files[name]) for name in LICENSES}
     said = {"RELEASE.txt": text(version, told, built, module, by).encode()}
     page["RELEASE.txt"] = Entry(said["RELEASE.txt"])
     named = f"vdpm-{version}"

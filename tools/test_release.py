@@ -29,7 +29,7 @@ TOLD = {"commit": "0123456789ab", "built": "2026-01-01 00:00:00 UTC", "kit": "ru
         "sources": "5"}
 LIBRARY = b"\x7fELF\0GLIBC_2.2.5\0GLIBC_2.34\0GLIBC_PRIVATE\0"
 BUILT = Built({"vdpm": b"1", "prepare": b"2", "simplify": b"3"}, LIBRARY, b"!<arch>\n",
-              "static, by glibc", 34)
+              "statically with glibc", 34)
 # A cargo that leaves what it is asked for, and a list of what that was.
 CARGO = """#!/bin/sh
 echo "$@" >> asked
@@ -121,7 +121,7 @@ class Building(unittest.TestCase):
         (self.top / "old").mkdir()
         built = building.build(self.top, self.top / "old")
         self.assertEqual(built.programs["simplify"], b"simplify\n")
-        self.assertEqual((built.glibc, built.linked), (30, "static, by glibc"))
+        self.assertEqual((built.glibc, built.linked), (30, "statically with glibc"))
         asked = (self.top / "asked").read_text(encoding="ascii").splitlines()
         self.assertEqual(len(asked), 4)
         self.assertTrue(all("target-feature=+crt-static" in line for line in asked[:3]))
@@ -145,7 +145,7 @@ class Whole(unittest.TestCase):
         self.addCleanup(room.cleanup)
         self.room = Path(room.name)
         files = {"Cargo.toml": b'version = "0.0.0"\n', "src/lib.rs": b"// all\n"}
-        files.update({name: b"page" for name in release.PAGE})
+        files.update({name: b"page" for name in release.LICENSES})
         patches = [mock.patch.object(release, name, return_value=value) for name, value in (
             ("package", files), ("build", BUILT), ("compilers", ["rustc 1", "cargo 1", "cc 1"]),
             ("sum_of_all", "5"), ("time_of", "2026-01-01 00:00:00 UTC"))]
@@ -184,8 +184,8 @@ class Whole(unittest.TestCase):
         told = {**proof_of(TOP), "commit": "0123", "time": "now"}
         self.assertRegex(told["logic"], "^[0-9a-f]{16}$")
         said = text("0.0.0+0123", told, BUILT, None, ["rustc 1"])
-        for part in ("commit 0123", told["logic"], told["kit"], "- rustc 1", "static, by glibc",
-                     "glibc 2.34"):
+        for part in ("commit 0123", told["logic"], told["kit"], "- rustc 1",
+                     "statically with glibc", "glibc 2.34"):
             self.assertIn(part, said)
 
 

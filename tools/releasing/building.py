@@ -9,6 +9,7 @@ from typing import Dict, List, NamedTuple, Optional, Sequence
 PROGRAMS = ("vdpm", "prepare", "simplify")
 MUSL = "x86_64-unknown-linux-musl"
 RELEASE = "target/release"
+LIBRARIES = ("usr/lib/x86_64-linux-gnu", "lib/x86_64-linux-gnu")
 GLIBC = re.compile(rb"\0GLIBC_2\.(\d+)(?:\.\d+)?(?=\0)")
 # What is wanted of the programs, and tried for the library.
 WANTED_GLIBC = 31
@@ -59,7 +60,12 @@ def glibc_of(data: bytes) -> int:
 
 def sysroot_codes(sysroot: Optional[Path]) -> List[str]:
     """Has the linker take the C library of a system that is unpacked in a folder."""
-    return [f"link-arg=--sysroot={sysroot.resolve()}"] if sysroot else []
+    if sysroot is None:
+        return []
+    top = sysroot.resolve()
+    # (cc looks at the places of its own system first, whatever its root)
+    places = [f"link-arg=-L{top}/{place}" for place in LIBRARIES]
+    return [f"link-arg=--sysroot={top}", *places]
 
 
 def programs(package: Path) -> Dict[str, bytes]:
@@ -81,7 +87,7 @@ def build(package: Path, sysroot: Optional[Path] = None) -> Built:
     cargo(package, words, "strip=debuginfo", *sysroot_codes(sysroot))
     library = (package / RELEASE / "libvdpm.so").read_bytes()
     archive = (package / RELEASE / "libvdpm.a").read_bytes()
-    linked = "static, by musl" if has_musl() else "static, by glibc"
+    linked = "statically with musl" if has_musl() else "statically with glibc"
     return Built(made, library, archive, linked, glibc_of(library))
 
 

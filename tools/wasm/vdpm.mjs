@@ -9,6 +9,8 @@
 //
 // Each function does what one of libvdpm.h does; docs/LIBRARY.md and that header tell more. Nothing
 // in the module is proved. Calls don't wait for anything, so long ones belong into a worker.
+// Opening 199,712 faces took 0.8 to 1.3 s of a busy processor in node 20: the first opening, later
+// ones, one after many of a small mesh, and one by optimized code from its begin alike.
 import { STATUS, WORDS, Fault, check, numberTo } from "./faults.mjs";
 import { Memory, bytesOf } from "./memory.mjs";
 import { Session } from "./session.mjs";

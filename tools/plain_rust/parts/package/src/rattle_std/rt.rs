@@ -2,7 +2,9 @@
 
 use super::alloc::Global;
 use std::cell::RefCell;
-use std::io::{ErrorKind, Read, Result, Write};
+use std::io::ErrorKind;
+#[cfg(unix)]
+use std::io::{Read, Result, Write};
 
 pub(super) type Words = std::result::Result<std::vec::Vec<String>, ErrorKind>;
 
