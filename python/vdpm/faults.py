@@ -67,6 +67,8 @@ OF_ANY_TEXT: Table = {
     11: ("it has a CR that doesn't end it", "line", "end lines with LF"),
     12: ("no face comes out", "",
          "a point cloud has no faces; where all became edges, a vertex may lie far away"),
+    13: ("its first word is v, vt, vn or f but for bytes that aren't letters", "line",
+         "write the word alone: no byte order mark within the file, no blank but space and tab"),
 }
 
 

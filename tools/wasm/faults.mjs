@@ -13,7 +13,7 @@ const OF_TEXT = {
 };
 /** Of a text that `prepare` reads, each fault has a line or no place.
  * @type {Record<number, string>} */
-const OF_ANY_TEXT = { ...OF_TEXT, 11: "line" };
+const OF_ANY_TEXT = { ...OF_TEXT, 11: "line", 13: "line" };
 
 /** @typedef {Record<number, string>} Words */
 export const WORDS = { OF_STREAM, OF_TEXT, OF_ANY_TEXT };
