@@ -162,15 +162,15 @@ class Pages(unittest.TestCase):
 
     def test_too_many_words_are_told(self) -> None:
         rows = [
-            ({"README.md": 1350, "docs/A.md": 44000}, []),
-            ({"README.md": 1351}, [("README.md", "1351 words are more than 1350")]),
-            ({"docs/A.md": 46800, "b.md": 1}, [("all pages", "46801 words are more than 46800")]),
+            ({"README.md": 1400, "docs/A.md": 44100}, []),
+            ({"README.md": 1401}, [("README.md", "1401 words are more than 1400")]),
+            ({"docs/A.md": 47000, "b.md": 1}, [("all pages", "47001 words are more than 47000")]),
         ]
         for words, wanted in rows:
             self.assertEqual(list(pages.too_many_words(words)), wanted)
         self.assertIn(
-            "README.md: 1352 words are more than 1350",
-            faults({"README.md": "a - " * 1352}),
+            "README.md: 1402 words are more than 1400",
+            faults({"README.md": "a - " * 1402}),
         )
 
     def test_a_page_for_users_may_be_longer(self) -> None:
