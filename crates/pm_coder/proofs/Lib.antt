@@ -1,0 +1,10 @@
+pub mod IntervalLaws
+pub mod HoldLaws
+pub mod CodeLaws
+pub mod DecodeLaws
+pub mod CoderLaws
+pub mod UniformLaws
+pub mod GuessLaws
+pub mod NumberLaws
+pub mod ApartLaws
+pub mod SlotLaws

@@ -1,0 +1,9 @@
+pub mod Intervals
+pub mod Coding
+pub mod Laws
+pub mod Coders
+pub mod Uniform
+pub mod Questions
+pub mod Guesses
+pub mod RoundTrips
+pub mod Slots
