@@ -1,0 +1,4 @@
+pub mod SumLaws
+pub mod MeanLaws
+pub mod FrontSums
+pub mod ChannelLaws

@@ -1,0 +1,11 @@
+use Rattle.std.proofs.Common.{◌≡◌, ◌≢◌, ℕ, ◌/◌, ◌%◌, ◌<◌, get_or, length}
+use Rattle.pm_paint.proofs.channels.put_channel.Given as goal
+
+abbrev pub invariant-loop-node : goal.invariant-loop-node
+invariant-loop-node l = record {
+  len : length l.all.items ≡ length l.fn.all.items;
+  here : (k : ℕ) → k / l.channels < l.node → k % l.channels ≡ l.channel
+      → get_or l.all.items k 0 ≡ get_or l.means (k / l.channels) 0;
+  others : (k : ℕ) → k % l.channels ≢ l.channel
+      → get_or l.all.items k 0 ≡ get_or l.fn.all.items k 0;
+}
