@@ -149,6 +149,19 @@ uint32_t vdpm_ancestor(vdpm_viewer *viewer, uint32_t leaf, uint32_t *node);
  */
 uint32_t vdpm_place(vdpm_viewer *viewer, uint32_t node, int32_t *out, size_t room);
 
+/* Writes what all nodes have of numbers of the full mesh's vertices, as the parts of their colours:
+ * in each channel the whole number nearest to the mean over the leaves under a node, halves up.
+ * With C = channels, and leaves and nodes as vdpm_counts tells them:
+ * `by_vertex`  C leaves numbers: those of the first vertex of the text that the stream was made of,
+ *              then those of the second, in its order
+ * `by_node`    C nodes numbers: those of node 0, then those of node 1
+ * The room is counted in numbers, and may be more; the rest of it stays as it was. What is shown
+ * doesn't bear on it: the vertex nodes[i] of a frame has the C numbers from by_node[C nodes[i]] on.
+ * Answers VDPM_DONE; VDPM_OUT_OF_RANGE, where `length` isn't C leaves; VDPM_NO_ROOM;
+ * VDPM_NO_MEMORY; or VDPM_NOT_SO. Nothing is written where it isn't VDPM_DONE. */
+uint32_t vdpm_means(vdpm_viewer *viewer, uint32_t channels, const uint16_t *by_vertex,
+                    size_t length, uint16_t *by_node, size_t room);
+
 /* Closes a viewer and gives its memory back. One that isn't open stays as it is. */
 void vdpm_close(vdpm_viewer *viewer);
 
@@ -159,7 +172,7 @@ typedef struct vdpm_made {
     uint32_t open;
 } vdpm_made;
 
-/* A fault of a text, as the program tells it (docs/COMMANDS.md, "The faults of an OBJ text"). Both
+/* A fault of a text, as the program tells it (docs/COMMANDS.md). Both
  * are 0 beside each answer but VDPM_FAULTY. */
 typedef struct vdpm_fault {
     uint32_t number; /* 0 where there is none */
@@ -176,7 +189,8 @@ uint32_t vdpm_build(const uint8_t *text, size_t length, uint32_t faces, uint32_t
                     vdpm_made *made, vdpm_fault *fault);
 
 /* The same as the program `simplify FACES --digits DIGITS` does it, by finer costs; where
- * `keep_border` isn't 0, with its `--keep-border`: each frame shows the border of the mesh. */
+ * `keep_border` isn't 0, with its `--keep-border`: each frame shows the border of the mesh. A text
+ * with nothing of a mesh in it, as a file of another kind, has fault 14, without a place. */
 uint32_t vdpm_simplify(const uint8_t *text, size_t length, uint32_t faces, uint32_t digits,
                        uint32_t keep_border, vdpm_made *made, vdpm_fault *fault);
 

@@ -50,6 +50,8 @@ OF_TEXT: Table = {
     12: ("the faces at this vertex are no fan", "vertex",
          "split vertices at which parts of a surface only touch, or take the text through "
          "`prepare`"),
+    14: ("none of its lines is a vertex or a face", "",
+         "give it an OBJ text: export the mesh as one"),
 }
 
 OF_ANY_TEXT: Table = {

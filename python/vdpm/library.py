@@ -14,6 +14,7 @@ NONE = MOST_NUMBER = 0xFFFFFFFF
 BYTES = ctypes.POINTER(ctypes.c_uint8)
 NUMBERS = ctypes.POINTER(ctypes.c_uint32)
 SIGNED = ctypes.POINTER(ctypes.c_int32)
+SHORT = ctypes.POINTER(ctypes.c_uint16)
 
 
 class Handle(ctypes.Structure):
@@ -91,6 +92,7 @@ def load(path: Optional[str] = None) -> ctypes.CDLL:
         "maker": [handle, number, NUMBERS],
         "ancestor": [handle, number, NUMBERS],
         "place": [handle, number, SIGNED, size],
+        "means": [handle, number, SHORT, size, SHORT, size],
         "close": [handle],
         "build": [text, size, number, number, handle, told],
         "simplify": [text, size, number, number, number, handle, told],
@@ -119,6 +121,8 @@ def check(status: int, place: Optional[int] = None) -> None:
         raise IndexError("there is no node or leaf with this number")
     if status == NO_ROOM:
         raise ValueError("an array has too little room")
+    if status == OUT_OF_RANGE:
+        raise ValueError("a number is out of its range")
     raise Fault(status, place)
 
 

@@ -8,8 +8,11 @@ try:
 except ImportError:
     numpy = None
 
-from .library import (MOST_NUMBER, NO_ROOM, NONE, NUMBERS, SIGNED, Handle, bytes_of, check, load,
-                      number_to)
+from .library import (MOST_NUMBER, NO_ROOM, NONE, NUMBERS, SHORT, SIGNED, Handle, bytes_of, check,
+                      load, number_to)
+
+MOST_VALUE = 65535
+
 
 class Sizes(NamedTuple):
     """How large the mesh shown and the hierarchy are, and how many decimals a coordinate has."""
@@ -71,15 +74,33 @@ class Hit(NamedTuple):
 Strips = Tuple[Tuple[int, ...], ...]
 
 
+# By kind: what points at such numbers, their name in numpy, and their bytes.
+KINDS = {"I": (NUMBERS, "uint32", 4), "i": (SIGNED, "int32", 4), "H": (SHORT, "uint16", 2)}
+
+
 def _room(kind: str, count: int) -> Tuple[Any, Any]:
     """Room for so many numbers, and a pointer to it."""
-    pointed = SIGNED if kind == "i" else NUMBERS
+    pointed, name, size = KINDS[kind]
     if numpy is not None:
-        room = numpy.empty(max(count, 1), dtype=numpy.int32 if kind == "i" else numpy.uint32)
+        room = numpy.empty(max(count, 1), dtype=name)
         return room[:count], room.ctypes.data_as(pointed)
-    room = array.array(kind, bytes(4 * count))
+    room = array.array(kind, bytes(size * count))
     held = array.array(kind, [0]) if count == 0 else room
-    return room, ctypes.cast((ctypes.c_uint32 * max(count, 1)).from_buffer(held), pointed)
+    return room, ctypes.cast((ctypes.c_uint8 * (size * max(count, 1))).from_buffer(held), pointed)
+
+
+def _values(given: Any) -> Tuple[int, Any]:
+    """How many numbers there are, each from 0 to 65,535, and a pointer to them in a row."""
+    numbers = list(given) if numpy is None else numpy.asarray(given).ravel()
+    if len(numbers) > 0:
+        if numpy is not None and numbers.dtype.kind not in "ui":
+            raise TypeError("values aren't whole numbers")
+        ends = (min(numbers), max(numbers)) if numpy is None else (numbers.min(), numbers.max())
+        for end in ends:
+            number_to(MOST_VALUE, end, "a value")
+    room, at = _room("H", len(numbers))
+    room[:] = numbers if numpy is not None else array.array("H", numbers)
+    return len(room), at
 
 
 def _change_rooms(sizes: Sequence[int]) -> List[Tuple[Any, Any]]:
@@ -251,6 +272,25 @@ class Session:
         out = (ctypes.c_int32 * 3)()
         check(self._library.vdpm_place(self._viewer, node, out, 3))
         return out[0], out[1], out[2]
+
+    def means(self, values: Any, channels: int = 1) -> Any:
+        """What each node has, by number, of what the vertices of the full mesh have: the rounded
+        mean over the leaves under it, in each of the channels (three for a colour). It is the same
+        whatever is shown: `means(colours, 3)[frame.nodes]` are the colours of a frame's vertices.
+
+        `values`: so many whole numbers from 0 to 65,535 for each vertex of the mesh that the stream
+        was made of, in its order; in numpy in rows or not. Answers as many for each node, in numpy
+        a row for each where there is more than one. Raises ValueError where they don't fit.
+        """
+        number_to(MOST_NUMBER, channels, "channels")
+        sizes, (count, by_vertex) = self.sizes(), _values(values)
+        if count != channels * sizes.leaves:
+            raise ValueError(f"{count} values, and not {channels} for each of {sizes.leaves} "
+                             "vertices")
+        room, by_node = _room("H", channels * sizes.nodes)
+        check(self._library.vdpm_means(self._viewer, channels, by_vertex, count, by_node,
+                                       len(room)))
+        return room.reshape(-1, channels) if numpy is not None and channels > 1 else room
 
     def _told(self, function: Any, node: int) -> Optional[int]:
         number = ctypes.c_uint32()

@@ -1,5 +1,6 @@
 //! Filling arrays with a frame.
-ghost use Rattle.std.specs.Prelude.{◌≡◌, ◌≤◌, ◌*◌, true, false, OnOk, OnErr, length, take, drop};
+ghost use Rattle.std.specs.Prelude.{◌≡◌, ◌≤◌, ◌*◌, true, false, IfOk, OnOk, OnErr, length, take};
+ghost use Rattle.std.specs.Prelude.{drop};
 ghost use Rattle.pm_base.specs.Counts.{set_of};
 ghost use Rattle.pm_forest.specs.Forest.{node_count};
 ghost use Rattle.pm_front.specs.Shown.{active_nodes, kept_faces};
@@ -8,10 +9,18 @@ ghost use Rattle.pm_viewer.specs.Viewing.{FrameFits, FrameLeaves};
 
 use pm_arrays::{write_faces, write_nodes};
 use pm_front::Front;
+use std::alloc::{AllocError, Global};
 
 /// An array has less room than what is written into it. Nothing was written.
 #[derive(Clone, Copy, Debug, PartialEq, Eq)]
 pub struct TooSmall;
+
+/// A number for each node, as `write_frame` works with.
+pub(crate) fn positions_of(alloc: Global, front: &Front) -> Result<Vec<u32>, AllocError>
+    ensures { IfOk result (λ v. length v.items ≡ node_count front.now.h) }
+{
+    vec![in alloc; 0u32; front.hierarchy().nodes() as usize]
+}
 
 // Whether the mesh that a front shows fits into arrays.
 fn fits(

@@ -6,6 +6,7 @@ mod fail;
 mod filling;
 mod looking;
 mod opening;
+mod painting;
 mod reply;
 mod viewer;
 

@@ -13,11 +13,12 @@ ghost use Rattle.pm_session.specs.Script.{now_marked};
 ghost use Rattle.pm_session.specs.Session.{LineEnds, change_since};
 ghost use Rattle.pm_viewer.specs.Viewing.{live_deed, viewer_state, FrameFits, FrameLeaves};
 
-use crate::filling::{TooSmall, write_frame};
+use crate::filling::{TooSmall, positions_of, write_frame};
 use crate::looking::ancestor;
 use crate::reply::{LEAST_ROOM, Reply};
 use pm_base::{NodeId, Point};
 use pm_change::ChangeSizes;
+use pm_forest::Hierarchy;
 use pm_session::{Grammar, LineFail, Next, Session};
 use std::alloc::{AllocError, Global};
 use std::marker::Model;
@@ -54,13 +55,6 @@ impl Model for Viewer {
         (length v.positions.items ≡ node_count v.session.value.h) };
 }
 
-// A number for each node.
-fn positions_of(alloc: Global, session: &Session) -> Result<Vec<u32>, AllocError>
-    ensures { IfOk result (λ v. length v.items ≡ node_count session.now.h) }
-{
-    vec![in alloc; 0u32; session.front().hierarchy().nodes() as usize]
-}
-
 impl Viewer {
     // A viewer of a session, with an empty reply.
     pub(crate) fn of(
@@ -73,7 +67,7 @@ impl Viewer {
         ensures { IfOk result (λ v. v
             ≡ record { shown = session.value; digits = digits; reply = [] }) }
     {
-        let positions = positions_of(alloc, &session)?;
+        let positions = positions_of(alloc, session.front())?;
         let reply = Reply::new(alloc)?;
         Ok(Viewer {
             session,
@@ -135,6 +129,12 @@ impl Viewer {
         ensures { result ≡ length (kept_faces self.now.shown.h (set_of self.now.shown.flags)) }
     {
         self.session.front().kept_count()
+    }
+
+    pub(crate) fn hierarchy(&self) -> &Hierarchy
+        ensures { result.now ≡ self.now.shown.h }
+    {
+        self.session.front().hierarchy()
     }
 
     /// How many records the hierarchy has.

@@ -1,17 +1,21 @@
 //! What the exported functions do with a viewer.
-ghost use Rattle.std.specs.Prelude.{◌≡◌, ◌≢◌, ◌≤◌, ◌<◌, ℕ, List, length};
+ghost use Rattle.std.specs.Prelude.{◌≡◌, ◌≢◌, ◌≤◌, ◌<◌, ◌*◌, ◌↔◌, ℕ, List, length};
 ghost use Rattle.pm_base.specs.Counts.{set_of};
 ghost use Rattle.pm_forest.specs.Forest.{node_count, leaf_count, splitter_of, maker_of};
 ghost use Rattle.pm_forest.specs.Fronts.{ancestor_of};
 ghost use Rattle.pm_arrays.specs.Arrays.{coordinates_of};
+ghost use Rattle.pm_paint.specs.Means.{mean_array};
 ghost use Rattle.pm_viewer.specs.Causes.{IsRefusal};
 ghost use Rattle.vdpm_c.specs.Border.{LineDone, Refused, AreCountsOf, IsCopied};
 ghost use Rattle.vdpm_c.specs.Border.{line_status, record_told};
 
-use crate::statuses::{BAD_LINE, DONE, NO_MEMORY, NO_RECORD, NO_ROOM, NO_SUCH, NONE, QUIT};
+use crate::statuses::{
+    BAD_LINE, DONE, NO_MEMORY, NO_RECORD, NO_ROOM, NO_SUCH, NONE, OUT_OF_RANGE, QUIT,
+};
 use crate::tables::Counts;
 use pm_session::{LineFail, Next};
 use pm_viewer::{OpenFail, Viewer, cause_of};
+use std::alloc::Global;
 
 // The number of a fault, whose place goes out.
 pub(crate) fn refused(fail: OpenFail, place: &mut u64) -> u32
@@ -54,18 +58,18 @@ pub(crate) fn line(viewer: &mut Viewer, text: &[u8]) -> u32
     status_of(viewer.line(text))
 }
 
-// Copies bytes to the front of an array.
-pub(crate) fn copy(bytes: &[u8], out: &mut [u8]) -> u32
-    ensures copied { length bytes.now ≤ length out.old
-        → (result ≡ 0) × IsCopied bytes.now out.old out.new }
-    ensures no_room { (length bytes.now ≤ length out.old → ⊥) → (result ≡ 7) × (out.new
+// Copies items to the front of an array.
+pub(crate) fn copy<T: Copy>(items: &[T], out: &mut [T]) -> u32
+    ensures copied { length items.now ≤ length out.old
+        → (result ≡ 0) × IsCopied items.now out.old out.new }
+    ensures no_room { (length items.now ≤ length out.old → ⊥) → (result ≡ 7) × (out.new
         ≡ out.old) }
 {
-    let n = bytes.len();
+    let n = items.len();
     if n > out.len() {
         return NO_ROOM;
     }
-    out[..n].copy_from_slice(bytes);
+    out[..n].copy_from_slice(items);
     DONE
 }
 
@@ -154,4 +158,35 @@ pub(crate) fn place(viewer: &Viewer, node: u32, out: &mut [i32]) -> u32
     }
     out[..n].copy_from_slice(&coordinates);
     DONE
+}
+
+// Writes the means of all nodes.
+pub(crate) fn means(
+    alloc: Global,
+    viewer: &Viewer,
+    channels: u32,
+    by_vertex: &[u16],
+    by_node: &mut [u16],
+) -> u32
+    ensures done { result ≡ 0
+        → IsCopied (mean_array viewer.now.shown.h channels by_vertex.now) by_node.old by_node.new }
+    ensures out_of_range { result ≡ 2
+        ↔ (length by_vertex.now ≢ leaf_count viewer.now.shown.h * channels) }
+    ensures no_room { result ≡ 7
+        ↔ (length by_vertex.now ≡ leaf_count viewer.now.shown.h * channels)
+        × (length by_node.old < node_count viewer.now.shown.h * channels) }
+    ensures statuses { result ≢ 0 → result ≢ 2 → result ≢ 7 → result ≡ 5 }
+    ensures unwritten { result ≢ 0 → by_node.new ≡ by_node.old }
+{
+    let width = channels as usize;
+    if by_vertex.len() != viewer.leaves() as usize * width {
+        return OUT_OF_RANGE;
+    }
+    if by_node.len() < viewer.nodes() as usize * width {
+        return NO_ROOM;
+    }
+    match viewer.means(alloc, channels, by_vertex) {
+        Ok(means) => copy(&means, by_node),
+        Err(_) => NO_MEMORY,
+    }
 }

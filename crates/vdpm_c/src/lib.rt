@@ -10,6 +10,7 @@ mod loose;
 mod made;
 mod made_slot;
 mod making;
+mod means;
 mod nodes;
 mod slot;
 mod statuses;
