@@ -1,0 +1,3 @@
+pub mod VertexLaws
+pub mod FacetLaws
+pub mod LineLaws

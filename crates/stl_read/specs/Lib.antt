@@ -1,0 +1,7 @@
+pub mod Vertices
+pub mod Numbering
+pub mod Refusals
+pub mod Binary
+pub mod Ascii
+pub mod Stl
+pub mod Meaning
