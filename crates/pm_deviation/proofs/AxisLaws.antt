@@ -1,32 +1,36 @@
 -- Axes: their numbers, their lengths, and how small parts along them are.
 use Rattle.std.proofs.Common.{◌≡◌, ℕ, zero, suc, ◌+◌, ◌*◌, ◌/◌, ◌<◌, ◌≤◌, Bool, true, ◌-◌, List, []}
-use Rattle.std.proofs.Common.{◌∷◌, length, get_or, inl, inr, refl, sym, ap, ◌∙◌, subst, arith}
+use Rattle.std.proofs.Common.{◌∷◌, map, length, get_or, inl, inr, refl, sym, ap, ◌∙◌, subst, arith}
 use Rattle.std.proofs.lemmas.Grind.{common_steps}
 use Rattle.std.specs.Prelude.{ℤ, pos, negsuc, neg_ℤ, unwrap_or, Option, None, Some, IfSome, ◌+ℤ◌}
 use Rattle.std.specs.Prelude.{◌*ℤ◌, unsigned_abs}
 use Rattle.std.specs.Int.{div_ceil}
-use Rattle.std.specs.List.{list_all}
+use Rattle.std.specs.List.{list_all, filter}
 use Rattle.std.specs.Option.{option_map}
-use Rattle.std.proofs.lemmas.Bool.{and_parts, leb-true}
+use Rattle.std.proofs.lemmas.Bool.{and_parts, cases_Bool, leb-true}
 use Rattle.std.proofs.lemmas.Nat.{mul-le}
 use borrow.Author.Differences.{ints}
 use Rattle.pm_base.specs.Geometry.{Direction, norm2_of}
 use Rattle.pm_base.specs.Rounded.{root_up}
 use Rattle.pm_base.proofs.Range.{abs_product}
 use Rattle.pm_base.proofs.Root.{root_up_only}
-use Rattle.pm_forest.specs.declared.parts.Face.{Face}
 use Rattle.pm_forest.specs.Forest.{Hierarchy}
-use Rattle.pm_bounds.specs.Bounds.{normal_of, faces_under}
+use Rattle.pm_bounds.specs.Bounds.{normal_of, faces_under, has_corner_under}
 use Rattle.pm_deviation.specs.declared.axes.Axis.{Axis}
 use Rattle.pm_deviation.specs.declared.axes.TheConstants.{AXES}
+use Rattle.pm_deviation.specs.declared.heading.Heading.{Heading}
 use Rattle.pm_deviation.specs.declared.spread.Spread.{Spread}
 use Rattle.pm_deviation.specs.declared.unit_box.UnitBox.{UnitBox}
-use Rattle.pm_deviation.specs.Spreads.{times, along, mirrored, no_spread}
+use Rattle.pm_deviation.specs.Spreads.{times, along, mirrored, no_spread, joined_all}
 use Rattle.pm_deviation.specs.Normals.{root_down, share, part_of, direction_of, part_along}
 use Rattle.pm_deviation.specs.Normals.{spread_of, x_axis, y_axis, z_axis, unit_box_of, length_of}
-use Rattle.pm_deviation.specs.Tables.{IsSpreadWithin, IsPart, IsSum, IsUnitBox, is_axis}
+use Rattle.pm_deviation.specs.Normals.{box_by}
+use Rattle.pm_deviation.specs.Borders.{border_sides_under}
+use Rattle.pm_deviation.specs.Lines.{side_way, line_spread_of, line_box_of}
+use Rattle.pm_deviation.specs.Tables.{IsSpreadWithin, IsPart, IsSum, IsUnitBox, is_axis, leaves_of}
+use Rattle.pm_deviation.specs.Tables.{no_heading, heading_along, spread_among, AreHeadings}
 use Rattle.pm_bounds.proofs.BoxLaws.{min_small, max_small}
-use Rattle.pm_deviation.proofs.SpreadLaws.{joined-small, joined_all-holds}
+use Rattle.pm_deviation.proofs.SpreadLaws.{joined-small, join-holds, joined_all-holds}
 use Rattle.pm_deviation.proofs.CosineLaws.{quotient_most}
 use Rattle.pm_deviation.proofs.PartLaws.{ceil_least, root_down_is, root_down-some, roots_order}
 use Rattle.pm_deviation.proofs.PartLaws.{parts_of, unit_box_cases}
@@ -165,10 +169,8 @@ parts_small n some =
           (third_square (unsigned_abs n.x) (unsigned_abs n.y) (unsigned_abs n.z))),
     )
 
-part_along_small : (h : Hierarchy) (u : Axis) (f : Face) → is_axis u ≡ true
-    → IfSome (part_along h u f) IsSum
-part_along_small h u f axis =
-    let n = normal_of h f in
+part_along_small : (u : Axis) (n : Direction) → is_axis u ≡ true → IfSome (part_along u n) IsSum
+part_along_small u n axis =
     let small = λ (o : Option UnitBox). IfSome (option_map (λ b. along b (direction_of u)) o)
     IsSum in
     elim (unit_box_cases n) [
@@ -180,20 +182,68 @@ pub spread_small : (h : Hierarchy) (u : Axis) (v : ℕ) → is_axis u ≡ true
     → IfSome (spread_of h u v) IsSum
 unfolding spread_of
 spread_small h u v axis =
-    joined_all-holds IsSum (joined-small 49152) (part_along h u) (λ f. part_along_small h u f axis)
-    (faces_under h v)
+    joined_all-holds IsSum (joined-small 49152) (λ f. part_along u (normal_of h f))
+    (λ f. part_along_small u (normal_of h f) axis) (faces_under h v)
+
+pub line_spread_small : (h : Hierarchy) (u : Axis) (v : ℕ) → is_axis u ≡ true
+    → IfSome (line_spread_of h u v) IsSum
+unfolding line_spread_of
+line_spread_small h u v axis =
+    joined_all-holds IsSum (joined-small 49152) (λ e. part_along u (side_way h e))
+    (λ e. part_along_small u (side_way h e) axis) (border_sides_under h v)
+
+-- of headings that are small
+by_parts : (u : Axis) (o : Option UnitBox) → IfSome o IsUnitBox → is_axis u ≡ true
+    → IfSome (option_map (λ b. along b (direction_of u)) o) IsSum
+by_parts u None small axis = tt
+by_parts u (Some b) small axis = along_small b u small axis
+
+heading_small : (u : Axis) (d : Heading) → IfSome d.parts IsUnitBox → is_axis u ≡ true
+    → IfSome (heading_along u d) IsSum
+heading_small u d small axis = by_parts u d.parts small axis
 
 none_small : IsSum no_spread
 none_small = (omega arith, omega arith)
 
-under_small : (u : Axis) (o : Option Spread) → IfSome o IsSum → IsSum (unwrap_or o no_spread)
-under_small u None small = none_small
-under_small u (Some s) small = small
+under_small : (o : Option Spread) → IfSome o IsSum → IsSum (unwrap_or o no_spread)
+under_small None small = none_small
+under_small (Some s) small = small
 
-pub box_small : (h : Hierarchy) (v : ℕ) → IsSum (unit_box_of h v).x × IsSum (unit_box_of h v).y
-    × IsSum (unit_box_of h v).z
-box_small h v = (
-  under_small x_axis (spread_of h x_axis v) (spread_small h x_axis v refl),
-  under_small y_axis (spread_of h y_axis v) (spread_small h y_axis v refl),
-  under_small z_axis (spread_of h z_axis v) (spread_small h z_axis v refl),
+-- A box whose parts are small.
+abbrev pub IsSumBox : UnitBox → Type 0
+IsSumBox b = IsSum b.x × IsSum b.y × IsSum b.z
+
+box_by_small : (spread : Axis → Option Spread)
+    → ((u : Axis) → is_axis u ≡ true → IfSome (spread u) IsSum) → IsSumBox (box_by spread)
+box_by_small spread small = (
+  under_small (spread x_axis) (small x_axis refl),
+  under_small (spread y_axis) (small y_axis refl),
+  under_small (spread z_axis) (small z_axis refl),
 )
+
+pub box_small : (h : Hierarchy) (v : ℕ) → IsSumBox (unit_box_of h v)
+box_small h v = box_by_small (λ u. spread_of h u v) (λ u axis. spread_small h u v axis)
+
+pub line_box_small : (h : Hierarchy) (v : ℕ) → IsSumBox (line_box_of h v)
+line_box_small h v =
+    box_by_small (λ u. line_spread_of h u v) (λ u axis. line_spread_small h u v axis)
+
+-- The spreads of headings are small.
+filtered_small : (u : Axis) (p : Heading → Bool) (ds : List Heading) → is_axis u ≡ true
+    → ((i : ℕ) → i < length ds → IfSome (get_or ds i no_heading).parts IsUnitBox)
+    → IfSome (joined_all (map (heading_along u) (filter p ds))) IsSum
+filtered_small u p [] axis small = tt
+filtered_small u p (d ∷ ds) axis small =
+    let rest = filtered_small u p ds axis (λ i l. small (suc i) (omega arith)) in
+    elim (cases_Bool (p d)) [
+      | inl e ↦ (rw e (join-holds IsSum (joined-small 49152) (heading_along u d)
+          (joined_all (map (heading_along u) (filter p ds)))
+          (heading_small u d (small zero (omega arith)) axis) rest))
+      | inr e ↦ (rw e rest)
+    ]
+
+pub among_small : (h : Hierarchy) (ds : List Heading) (u : Axis) (v : ℕ) → AreHeadings h ds
+    → is_axis u ≡ true → IfSome (spread_among h ds u v) IsSum
+unfolding spread_among
+among_small h ds u v are axis =
+    filtered_small u (λ d. has_corner_under h v (leaves_of d)) ds axis (λ i l. (are i l).small)

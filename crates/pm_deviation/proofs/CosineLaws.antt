@@ -13,7 +13,6 @@ use Rattle.pm_base.specs.Rounded.{root_up}
 use Rattle.pm_base.proofs.Root.{root_up_is}
 use Rattle.pm_base.proofs.Squares.{root_le}
 use Rattle.pm_base.proofs.Lengths.{dot_le}
-use Rattle.pm_forest.specs.declared.parts.Face.{Face}
 use Rattle.pm_forest.specs.Forest.{Hierarchy, record_count, s_of, t_of, u_of, Makes}
 use Rattle.pm_forest.specs.Rules.{HasShape}
 use Rattle.pm_bounds.specs.Bounds.{normal_of, faces_under, greatest}
@@ -23,12 +22,15 @@ use Rattle.pm_deviation.specs.declared.spread.Spread.{Spread}
 use Rattle.pm_deviation.specs.declared.unit_box.UnitBox.{UnitBox}
 use Rattle.pm_deviation.specs.Spreads.{joined, join, along}
 use Rattle.pm_deviation.specs.Normals.{direction_of, part_along, spread_of, above_zero, length_of}
-use Rattle.pm_deviation.specs.Normals.{least_cosine, cosine_by, cosine_along, cosine_of}
+use Rattle.pm_deviation.specs.Normals.{least_cosine, cosine_by, greatest_cosine, cosine_of}
+use Rattle.pm_deviation.specs.Borders.{border_sides_under}
+use Rattle.pm_deviation.specs.Lines.{side_way, line_spread_of, line_cosine_of}
+use Rattle.pm_deviation.specs.Tables.{AreJoined}
 use Rattle.pm_deviation.proofs.Products.{scaled_along, between}
 use Rattle.pm_deviation.proofs.PartLaws.{times_neg, neg_falls, parts_of, parts_scaled, high_length}
 use Rattle.pm_deviation.proofs.PartLaws.{unit_box_cases}
 use Rattle.pm_deviation.proofs.SpreadLaws.{IsOver, over_left, over_right, joined_all-holds}
-use Rattle.pm_deviation.proofs.Children.{spread-split}
+use Rattle.pm_deviation.proofs.Children.{spread-split, line_spread-split}
 
 -- How much of a spread lies on one side of 0
 
@@ -115,23 +117,28 @@ along_within n u some =
     (within_length l _ v (norm2_of n) (norm2_of m) some
     (high_side l (along (parts_of n) m).high (dot_of n m) i.high) (dot_le n m) far)
 
-part_within : (h : Hierarchy) (u : Axis) (f : Face) → IfSome (part_along h u f) (IsWithinAxis u)
-part_within h u f =
-    let n = normal_of h f in
-    elim (unit_box_cases n) [
-      | inl none ↦
-          subst (λ (o : Option UnitBox). IfSome (option_map (λ b. along b (direction_of u)) o)
-          (IsWithinAxis u)) (sym none) tt
-      | inr (is, some) ↦
-          subst (λ (o : Option UnitBox). IfSome (option_map (λ b. along b (direction_of u)) o)
-          (IsWithinAxis u)) (sym is) (along_within n u some)
-    ]
+part_within : (u : Axis) (n : Direction) → IfSome (part_along u n) (IsWithinAxis u)
+part_within u n = elim (unit_box_cases n) [
+  | inl none ↦
+      subst (λ (o : Option UnitBox). IfSome (option_map (λ b. along b (direction_of u)) o)
+      (IsWithinAxis u)) (sym none) tt
+  | inr (is, some) ↦
+      subst (λ (o : Option UnitBox). IfSome (option_map (λ b. along b (direction_of u)) o)
+      (IsWithinAxis u)) (sym is) (along_within n u some)
+]
 
 pub spread_within : (h : Hierarchy) (u : Axis) (v : ℕ) → IfSome (spread_of h u v) (IsWithinAxis u)
 unfolding spread_of
 spread_within h u v =
-    joined_all-holds (IsWithinAxis u) (joined_within u) (part_along h u) (part_within h u)
-    (faces_under h v)
+    joined_all-holds (IsWithinAxis u) (joined_within u) (λ f. part_along u (normal_of h f))
+    (λ f. part_within u (normal_of h f)) (faces_under h v)
+
+pub line_spread_within : (h : Hierarchy) (u : Axis) (v : ℕ)
+    → IfSome (line_spread_of h u v) (IsWithinAxis u)
+unfolding line_spread_of
+line_spread_within h u v =
+    joined_all-holds (IsWithinAxis u) (joined_within u) (λ e. part_along u (side_way h e))
+    (λ e. part_within u (side_way h e)) (border_sides_under h v)
 
 -- Cosines
 
@@ -172,19 +179,36 @@ greatest_grows f g [] h = le_refl zero
 greatest_grows f g (x ∷ xs) h =
     max_le (f x) (greatest (map f xs)) (g x) (greatest (map g xs)) (h x) (greatest_grows f g xs h)
 
-module _ (h : Hierarchy) (shape : HasShape h) (k : ℕ) (l : k < record_count h) where
+-- where the spreads of a node that is split are those of its children together
+module _ (h : Hierarchy) (spread : Axis → ℕ → Option Spread)
+    (split : (u : Axis) → AreJoined h (spread u))
+    (within : (u : Axis) (v : ℕ) → IfSome (spread u v) (IsWithinAxis u)) (k : ℕ)
+    (l : k < record_count h) where
   joined_under : (u : Axis)
-      → IfSome (join (spread_of h u (t_of h k)) (spread_of h u (u_of h k))) (IsWithinAxis u)
+      → IfSome (join (spread u (t_of h k)) (spread u (u_of h k))) (IsWithinAxis u)
   joined_under u =
-      subst (λ (o : Option Spread). IfSome o (IsWithinAxis u)) (spread-split h shape u k l)
-      (spread_within h u (s_of h k))
+      subst (λ (o : Option Spread). IfSome o (IsWithinAxis u)) (split u k l)
+      (within u (s_of h k))
 
   along_falls : (v : ℕ) → Makes h k v → (u : Axis)
-      → cosine_along h (s_of h k) u ≤ cosine_along h v u
+      → cosine_by u (spread u (s_of h k)) ≤ cosine_by u (spread u v)
   along_falls v makes u =
-      grind (arith, common_steps, falls_left, falls_right, joined_under, spread-split)
+      grind (arith, common_steps, falls_left, falls_right, joined_under u, split u k l)
 
+  greatest_falls : (v : ℕ) → Makes h k v
+      → greatest_cosine (λ u. spread u (s_of h k)) ≤ greatest_cosine (λ u. spread u v)
+  greatest_falls v makes =
+      greatest_grows (λ u. cosine_by u (spread u (s_of h k))) (λ u. cosine_by u (spread u v)) AXES
+      (along_falls v makes)
+
+module _ (h : Hierarchy) (shape : HasShape h) (k : ℕ) (l : k < record_count h) where
   pub cosine_falls : (v : ℕ) → Makes h k v → cosine_of h (s_of h k) ≤ cosine_of h v
   unfolding cosine_of
   cosine_falls v makes =
-      greatest_grows (cosine_along h (s_of h k)) (cosine_along h v) AXES (along_falls v makes)
+      greatest_falls h (spread_of h) (spread-split h shape) (spread_within h) k l v makes
+
+  pub line_cosine_falls : (v : ℕ) → Makes h k v → line_cosine_of h (s_of h k) ≤ line_cosine_of h v
+  unfolding line_cosine_of
+  line_cosine_falls v makes =
+      greatest_falls h (line_spread_of h) (line_spread-split h shape) (line_spread_within h) k l v
+      makes

@@ -1,6 +1,7 @@
 -- The table of cosines while axes are gone through.
 use Rattle.std.proofs.Common.{◌≡◌, ℕ, ◌+◌, ◌<◌, ◌≤◌, max, List, [], ◌∷◌, ◌++◌, length, map, take}
-use Rattle.std.proofs.Common.{get_or, set, length-set, inl, inr, refl, sym, ap, ◌∙◌, subst, arith}
+use Rattle.std.proofs.Common.{get_or, set, Option, None, length-set, inl, inr, sym, ap, ◌∙◌, subst}
+use Rattle.std.proofs.Common.{arith}
 use Rattle.std.proofs.lemmas.Grind.{common_steps}
 use Rattle.std.proofs.lemmas.Bool.{cases_eq}
 use Rattle.std.proofs.lemmas.List.{map-append, take_more, get_or-set_same, get_or-set_other}
@@ -8,73 +9,88 @@ use Rattle.pm_forest.specs.Forest.{Hierarchy, node_count}
 use Rattle.pm_bounds.specs.Bounds.{greatest}
 use Rattle.pm_deviation.specs.declared.axes.Axis.{Axis}
 use Rattle.pm_deviation.specs.declared.axes.TheConstants.{AXES}
-use Rattle.pm_deviation.specs.Normals.{cosine_along, cosine_of}
-use Rattle.pm_deviation.specs.Tables.{AreCosines}
+use Rattle.pm_deviation.specs.declared.spread.Spread.{Spread}
+use Rattle.pm_deviation.specs.Normals.{cosine_by, greatest_cosine}
+use Rattle.pm_deviation.specs.Tables.{AreOfNodes}
 use Rattle.pm_bounds.proofs.LeafLaws.{greatest-more}
 
--- The cosine of a node by the first n axes.
-abbrev pub cosine_in : Hierarchy → ℕ → ℕ → ℕ
-cosine_in h n v = greatest (map (cosine_along h v) (take n AXES))
+module _ (spread : Axis → ℕ → Option Spread) where
+  -- The cosine of a node along an axis, and by the first n axes.
+  abbrev pub cosine_at : ℕ → Axis → ℕ
+  cosine_at v u = cosine_by u (spread u v)
 
-cosine_in-more : (h : Hierarchy) (n v : ℕ) (u : Axis) → n < 13 → u ≡ get_or AXES n u
-    → cosine_in h (n + 1) v ≡ max (cosine_in h n v) (cosine_along h v u)
-cosine_in-more h n v u l is =
-    ap (λ us. greatest (map (cosine_along h v) us)) (take_more AXES n u l
-    ∙ ap (λ w. take n AXES ++ w ∷ []) (sym is))
-    ∙ ap greatest (map-append (cosine_along h v) (take n AXES) (u ∷ []))
-    ∙ greatest-more (map (cosine_along h v) (take n AXES)) (cosine_along h v u)
+  abbrev pub cosine_in : ℕ → ℕ → ℕ
+  cosine_in n v = greatest (map (cosine_at v) (take n AXES))
+
+  cosine_in-more : (n v : ℕ) (u : Axis) → n < 13 → u ≡ get_or AXES n u
+      → cosine_in (n + 1) v ≡ max (cosine_in n v) (cosine_at v u)
+  cosine_in-more n v u l is =
+      ap (λ us. greatest (map (cosine_at v) us)) (take_more AXES n u l
+      ∙ ap (λ w. take n AXES ++ w ∷ []) (sym is))
+      ∙ ap greatest (map-append (cosine_at v) (take n AXES) (u ∷ []))
+      ∙ greatest-more (map (cosine_at v) (take n AXES)) (cosine_at v u)
 
 -- The table by them.
-pub record AreRaised (h : Hierarchy) (n : ℕ) (table : List ℕ) : Type 0 where
+pub record AreRaised (h : Hierarchy) (spread : Axis → ℕ → Option Spread) (n : ℕ) (table : List ℕ)
+    : Type 0 where
   pub len : length table ≡ node_count h
-  pub each : (v : ℕ) → v < node_count h → get_or table v 0 ≡ cosine_in h n v
+  pub each : (v : ℕ) → v < node_count h → get_or table v 0 ≡ cosine_in spread n v
 
-pub raised_none : (h : Hierarchy) (table : List ℕ) → length table ≡ node_count h
-    → ((v : ℕ) → v < node_count h → get_or table v 0 ≡ 0) → AreRaised h 0 table
-raised_none h table len none = record { len = len; each = none }
+module _ (h : Hierarchy) (spread : Axis → ℕ → Option Spread) where
+  pub raised_none : (table : List ℕ) → length table ≡ node_count h
+      → ((v : ℕ) → v < node_count h → get_or table v 0 ≡ 0) → AreRaised h spread 0 table
+  raised_none table len none = record { len = len; each = none }
 
-pub raised_more : (h : Hierarchy) (n : ℕ) (u : Axis) (old new : List ℕ) → n < 13
-    → u ≡ get_or AXES n u → AreRaised h n old → length new ≡ node_count h →
-    ((v : ℕ) → v < node_count h → get_or new v 0 ≡ max (get_or old v 0) (cosine_along h v u))
-    → AreRaised h (n + 1) new
-raised_more h n u old new l is was len raised = record {
-  len = len;
-  each = λ v m. raised v m ∙ ap (λ c. max c (cosine_along h v u)) (was.each v m)
-      ∙ sym (cosine_in-more h n v u l is);
-}
+  pub raised_more : (n : ℕ) (u : Axis) (old new : List ℕ) (spreads : List (Option Spread)) → n < 13
+      → u ≡ get_or AXES n u → AreRaised h spread n old → AreOfNodes h None (spread u) spreads
+      → length new ≡ node_count h →
+      ((v : ℕ) → v < node_count h → get_or new v 0
+      ≡ max (get_or old v 0) (cosine_by u (get_or spreads v None)))
+      → AreRaised h spread (n + 1) new
+  raised_more n u old new spreads l is was are len raised = record {
+    len = len;
+    each = λ v m. raised v m ∙ ap (λ c. max c (cosine_by u (get_or spreads v None))) (was.each v m)
+        ∙ ap (λ s. max (cosine_in spread n v) (cosine_by u s)) (are.each v m)
+        ∙ sym (cosine_in-more spread n v u l is);
+  }
 
-all_of : (h : Hierarchy) (v : ℕ) → cosine_in h 13 v ≡ cosine_of h v
-unfolding cosine_of
-all_of h v = refl
-
-pub raised_all : (h : Hierarchy) (n : ℕ) (table : List ℕ) → n ≡ 13 → AreRaised h n table
-    → AreCosines h table
-raised_all h n table all was = grind (arith, common_steps, all_of h)
+  pub raised_all : (n : ℕ) (table : List ℕ) → n ≡ 13 → AreRaised h spread n table
+      → AreOfNodes h 0 (λ v. greatest_cosine (λ u. spread u v)) table
+  raised_all n table all was = record {
+    nodes = was.len;
+    each = λ v l. was.each v l ∙ ap (λ m. cosine_in spread m v) all;
+  }
 
 -- One node's cosine raised.
-pub record AreRaisedTo (h : Hierarchy) (u : Axis) (first now : List ℕ) (n : ℕ) : Type 0 where
+pub record AreRaisedTo (h : Hierarchy) (u : Axis) (spreads : List (Option Spread))
+    (first now : List ℕ) (n : ℕ) : Type 0 where
   pub len : length now ≡ node_count h
-  pub done : (v : ℕ) → v < n → get_or now v 0 ≡ max (get_or first v 0) (cosine_along h v u)
+  pub done : (v : ℕ) → v < n
+      → get_or now v 0 ≡ max (get_or first v 0) (cosine_by u (get_or spreads v None))
   pub rest : (v : ℕ) → n ≤ v → get_or now v 0 ≡ get_or first v 0
 
-pub raise_start : (h : Hierarchy) (u : Axis) (first : List ℕ) → length first ≡ node_count h
-    → AreRaisedTo h u first first 0
-raise_start h u first len = grind (arith, common_steps)
+pub raise_start : (h : Hierarchy) (u : Axis) (spreads : List (Option Spread)) (first : List ℕ)
+    → length first ≡ node_count h
+    → AreRaisedTo h u spreads first first 0
+raise_start h u spreads first len = grind (arith, common_steps)
 
-pub raise_step : (h : Hierarchy) (u : Axis) (first now : List ℕ) (n x : ℕ) → n < node_count h
-    → AreRaisedTo h u first now n → x ≡ max (get_or now n 0) (cosine_along h n u) →
-    AreRaisedTo h u first (set now n x) (n + 1)
-raise_step h u first now n x l was is =
+pub raise_step : (h : Hierarchy) (u : Axis) (spreads : List (Option Spread)) (first now : List ℕ)
+    (n x : ℕ) → n < node_count h
+    → AreRaisedTo h u spreads first now n
+    → x ≡ max (get_or now n 0) (cosine_by u (get_or spreads n None)) →
+    AreRaisedTo h u spreads first (set now n x) (n + 1)
+raise_step h u spreads first now n x l was is =
     let len = was.len in
     let inside : n < length now = omega arith in
     record {
       len = length-set now n x ∙ len;
       done = λ v m. elim (cases_eq v n) [
         | inl same ↦
-            subst (λ w. get_or (set now n x) w 0 ≡ max (get_or first w 0) (cosine_along h w u))
+            subst (λ w. get_or (set now n x) w 0
+            ≡ max (get_or first w 0) (cosine_by u (get_or spreads w None)))
             (sym same)
             (get_or-set_same now n x 0 inside ∙ is
-            ∙ ap (λ c. max c (cosine_along h n u)) (was.rest n (omega arith)))
+            ∙ ap (λ c. max c (cosine_by u (get_or spreads n None))) (was.rest n (omega arith)))
         | inr other ↦ get_or-set_other now n v x 0 other ∙ was.done v (omega (arith, other))
       ];
       rest = λ v m. get_or-set_other now n v x 0 (λ same. absurd (omega arith))

@@ -4,7 +4,6 @@ use Rattle.std.proofs.Common.{map, ◌⊎◌, inl, inr, refl, sym, ap, ◌∙◌
 use Rattle.std.proofs.lemmas.Grind.{common_steps}
 use Rattle.std.proofs.Math.Nat.{le_refl, le_trans, le_of_mul-le-mul_left, div-mul-le_self, div-zero}
 use Rattle.std.specs.Prelude.{ℤ, pos, neg_ℤ, ◌+ℤ◌, ◌*ℤ◌, unsigned_abs}
-use Rattle.std.specs.Int.{div_ceil}
 use Rattle.std.specs.List.{Contains}
 use Rattle.std.proofs.lemmas.Int.{unsigned_abs-mul}
 use Rattle.std.proofs.lemmas.Nat.{mul-le}
@@ -22,13 +21,13 @@ use Rattle.pm_bounds.specs.Bounds.{normal_of, error_of, greatest}
 use Rattle.pm_deviation.specs.declared.axes.Axis.{Axis}
 use Rattle.pm_deviation.specs.declared.axes.TheConstants.{AXES}
 use Rattle.pm_deviation.specs.Spreads.{along}
-use Rattle.pm_deviation.specs.Borders.{is_at_border}
 use Rattle.pm_deviation.specs.Normals.{direction_of, above_zero, length_of, least_cosine, cosine_by}
-use Rattle.pm_deviation.specs.Normals.{cosine_along, cosine_of}
-use Rattle.pm_deviation.specs.Deviations.{plane_deviation_of, deviation_of}
+use Rattle.pm_deviation.specs.Normals.{spread_of, cosine_of}
+use Rattle.pm_deviation.specs.Lines.{line_cosine_of}
+use Rattle.pm_deviation.specs.Deviations.{plane_deviation_of, tilted, deviation_of}
 use Rattle.pm_deviation.specs.Laws.{value_of, MeetsWithin}
 use Rattle.pm_deviation.proofs.CosineLaws.{one_side, side_falls, low_side, high_side}
-use Rattle.pm_deviation.proofs.GrowingLaws.{is_error, error_there, tilted_there}
+use Rattle.pm_deviation.proofs.GrowingLaws.{is_error, farther, error_there, tilted_there}
 use Rattle.pm_deviation.proofs.NearLaws.{spread_covers, planes_near}
 use Rattle.pm_deviation.proofs.PartLaws.{parts_of, parts_scaled, high_length, ceil_enough}
 use Rattle.pm_deviation.proofs.Products.{scaled_along}
@@ -56,9 +55,9 @@ nearer w v d n u c p =
           (le_refl _) p,
     )
 
-tilted : (w d k c n u : ℕ) → c * c * (n * u) ≤ (16384 * k) * (16384 * k)
+slanted : (w d k c n u : ℕ) → c * c * (n * u) ≤ (16384 * k) * (16384 * k)
     → (w * w * (d * d)) * (c * c * (n * u)) ≤ (w * w * (k * k)) * ((16384 * d) * (16384 * d))
-tilted w d k c n u p =
+slanted w d k c n u p =
     omega (
       arith,
       mul-le (w * w * (d * d)) (c * c * (n * u)) (w * w * (d * d))
@@ -81,7 +80,7 @@ tilts_bound s w k v d c f n u k0 c0 e p q r =
     le_of_mul-le-mul_left {m = s * s * u} {n = (w * f) * (w * f)} {k = k * k * (c * c)}
     (subst (λ (t : ℕ). t ≤ k * k * (c * c) * ((w * f) * (w * f))) (sym (gathered s k u c))
     (subst (λ (t : ℕ). t ≤ k * k * (c * c) * ((w * f) * (w * f))) (sym (met s w k v u c e))
-    (le_trans (nearer w v d n u c p) (le_trans (tilted w d k c n u q) (wide w d k c f r)))))
+    (le_trans (nearer w v d n u c p) (le_trans (slanted w d k c n u q) (wide w d k c f r)))))
     (positive k c k0 c0)
 
 -- c l is at most 16,384 p, and r p at most 16,384 k: the cosine of the axis with the normal is at
@@ -130,6 +129,9 @@ root_some : (r n : ℕ) → 0 < n → n ≤ r * r → 0 < r
 root_some zero n some h = absurd (omega arith)
 root_some (suc r) n some h = omega arith
 
+max_first : (a b : ℕ) → a ≤ max a b
+max_first a b = omega arith
+
 min_left : (a b : ℕ) → a < b → min a b ≡ a
 min_left a b h = omega arith
 
@@ -141,7 +143,7 @@ module _ (h : Hierarchy) (shape : HasShape h) (v : ℕ) (l : v < node_count h) w
   planes = plane_deviation_of h v
 
   -- along one axis, whose cosine is c
-  meets : (u : Axis) (c d : ℕ) → 0 < c → cosine_along h v u ≡ c → 16384 * planes ≤ d * c
+  meets : (u : Axis) (c d : ℕ) → 0 < c → cosine_by u (spread_of h u v) ≡ c → 16384 * planes ≤ d * c
       → MeetsWithin h v u d
   meets u c d some is enough e w s side held zero_there normal_there =
       let n = normal_of h (corners_of h (face_of e)) in
@@ -176,9 +178,12 @@ module _ (h : Hierarchy) (shape : HasShape h) (v : ℕ) (l : v < node_count h) w
       sides far long) enough
 
   axis_there : 0 < cosine_of h v → (u : Axis) × Contains AXES u
-      × (cosine_along h v u ≡ cosine_of h v)
+      × (cosine_by u (spread_of h u v) ≡ cosine_of h v)
   unfolding cosine_of
-  axis_there some = greatest_has (cosine_along h v) AXES some
+  axis_there some = greatest_has (λ u. cosine_by u (spread_of h u v)) AXES some
+
+  wider : (p d e c : ℕ) → 16384 * p ≤ d * c → d ≤ e → 16384 * p ≤ e * c
+  wider p d e c h q = omega (arith, h, mul-le d c e c q (le_refl c))
 
   pub lines_near : (deviation_of h v ≡ error_of h v)
       ⊎ ((u : Axis) × Contains AXES u × MeetsWithin h v u (deviation_of h v))
@@ -186,9 +191,9 @@ module _ (h : Hierarchy) (shape : HasShape h) (v : ℕ) (l : v < node_count h) w
     | inl e ↦ inl (error_there h shape v e)
     | inr e ↦
         let c = cosine_of h v in
-        let d = div_ceil (16384 * planes) c in
-        let never = or_parts (is_at_border h v) (eqb c 0) e in
-        let some : 0 < c = omega (arith, eqb-false c 0 never.1) in
+        let d = farther h shape v in
+        let never = or_parts (eqb c 0) (eqb (line_cosine_of h v) 0) e in
+        let some : 0 < c = omega (arith, eqb-false c 0 never.0) in
         let is = tilted_there h shape v e in
         elim (cases_lt (error_of h v) d) [
           | inl less ↦ inl (is ∙ min_left (error_of h v) d less)
@@ -199,7 +204,9 @@ module _ (h : Hierarchy) (shape : HasShape h) (v : ℕ) (l : v < node_count h) w
                 there,
                 subst (λ (f : ℕ). MeetsWithin h v u f)
                     (sym (is ∙ min_right (error_of h v) d more))
-                    (meets u c d some along_u (ceil_enough (16384 * planes) c some)),
+                    (meets u c d some along_u
+                    (wider planes (tilted planes c) d c (ceil_enough (16384 * planes) c some)
+                    (max_first _ _))),
               )
         ]
   ]

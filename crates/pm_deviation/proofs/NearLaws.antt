@@ -1,16 +1,12 @@
 -- The planes of the faces under a node are within its plane deviation.
-use Rattle.std.proofs.Common.{◌≡◌, ℕ, ◌+◌, ◌*◌, ◌<◌, ◌≤◌, max, min, true, get_or, Option, Some, inl}
+use Rattle.std.proofs.Common.{◌≡◌, ℕ, ◌+◌, ◌*◌, ◌<◌, ◌≤◌, max, true, get_or, Option, Some, inl}
 use Rattle.std.proofs.Common.{inr, sym, ap, subst, arith}
 use Rattle.std.proofs.lemmas.Grind.{common_steps}
-use Rattle.std.specs.Prelude.{ℤ, pos, ◌+ℤ◌, ◌-ℤ◌, ◌*ℤ◌, unsigned_abs}
+use Rattle.std.specs.Prelude.{ℤ, pos, ◌+ℤ◌, ◌*ℤ◌}
 use Rattle.std.specs.Option.{option_map, unwrap_or}
-use Rattle.std.proofs.lemmas.Bool.{cases_Bool, cases_eq}
-use Rattle.pm_base.specs.Place.{Place}
-use Rattle.pm_base.specs.Geometry.{Direction, dot_of, norm2_of, cross_of}
-use Rattle.pm_base.specs.Rounded.{distance_of}
+use Rattle.pm_base.specs.Geometry.{Direction, dot_of, norm2_of}
 use Rattle.pm_base.specs.Sides.{face_of}
-use Rattle.pm_base.proofs.Lengths.{dot_le}
-use Rattle.pm_base.proofs.Ring.{diff-of, diff_same, add-diff, mul-diff, neg-diff, pos_is_diff}
+use Rattle.pm_base.proofs.Ring.{diff-of, diff_same, add-diff, mul-diff, pos_is_diff}
 use Rattle.pm_forest.specs.declared.parts.Face.{Face}
 use Rattle.pm_forest.specs.Forest.{Hierarchy, node_count, s_of, t_of, u_of, Holds}
 use Rattle.pm_forest.specs.Faces.{faces_of, face_count, corners_of, from_leaf, no_face_corners}
@@ -18,71 +14,29 @@ use Rattle.pm_forest.specs.Places.{place_of_node}
 use Rattle.pm_forest.specs.Rules.{HasShape}
 use Rattle.pm_forest.specs.Tables.{leaf_node_of}
 use Rattle.pm_forest.specs.Meshes.{leaf_place}
-use Rattle.pm_forest.proofs.Corners.{which_corner, corner_a, corner_b, corner_c}
 use Rattle.pm_forest.proofs.LeafNodes.{leaf_node-unsplit}
 use Rattle.pm_forest.proofs.ShapeLaws.{shape_of_nodes}
-use Rattle.pm_bounds.specs.Bounds.{normal_of, has_corner_under, error_of}
+use Rattle.pm_bounds.specs.Bounds.{normal_of, has_corner_under}
 use Rattle.pm_bounds.proofs.FacesUnder.{under_from, face_there}
-use Rattle.pm_bounds.proofs.Covering.{near, up_from_leaves, leaves_covered, child_of_leaf}
-use Rattle.pm_bounds.proofs.Nodes.{split_node}
+use Rattle.pm_bounds.proofs.Covering.{up_from_leaves, child_of_leaf}
 use Rattle.pm_deviation.specs.declared.axes.Axis.{Axis}
 use Rattle.pm_deviation.specs.declared.spread.Spread.{Spread}
 use Rattle.pm_deviation.specs.Spreads.{along, no_spread}
 use Rattle.pm_deviation.specs.Normals.{root_down, direction_of, unit_box, part_along, spread_of}
-use Rattle.pm_deviation.specs.Normals.{x_axis, y_axis, z_axis, unit_box_of}
-use Rattle.pm_deviation.specs.Borders.{is_at_border}
-use Rattle.pm_deviation.specs.Deviations.{way, most_along, step_of, plane_deviation_of}
+use Rattle.pm_deviation.specs.Normals.{x_axis, y_axis, z_axis, box_by, unit_box_of}
+use Rattle.pm_deviation.specs.Lines.{way}
+use Rattle.pm_deviation.specs.Deviations.{plane_step, plane_deviation_of}
 use Rattle.pm_deviation.specs.Laws.{value_of, IsWithin, Show}
-use Rattle.pm_deviation.proofs.GrowingLaws.{planes_at_border, planes_inside}
-use Rattle.pm_deviation.proofs.PartLaws.{parts_of, parts_scaled, low_length, root_down_is}
-use Rattle.pm_deviation.proofs.PartLaws.{ceil_enough, unit_box_some}
-use Rattle.pm_deviation.proofs.PlaneValues.{within_more, moves_add, within_way, within_box}
+use Rattle.pm_deviation.specs.Farthest.{farthest_plane}
+use Rattle.pm_deviation.proofs.CornerPlanes.{on_plane, zero_within, by_way}
+use Rattle.pm_deviation.proofs.FarthestNear.{farthest_near}
+use Rattle.pm_deviation.proofs.PartLaws.{parts_of, parts_scaled, IsLength, low_length}
+use Rattle.pm_deviation.proofs.PartLaws.{unit_box_some}
+use Rattle.pm_deviation.proofs.PlaneValues.{within_more, moves_add}
 use Rattle.pm_deviation.proofs.PlaneValues.{triangles_near}
 use Rattle.pm_deviation.proofs.Products.{IsScaledIn, IsScaledInBox, scaled_along, scaled_over}
 use Rattle.pm_deviation.proofs.SpreadLaws.{IsSomeOver, spread_above}
-
--- A face's corners lie in its plane.
-
-nowhere : (x y z a b c : ℤ) → a *ℤ (x -ℤ x) +ℤ b *ℤ (y -ℤ y) +ℤ c *ℤ (z -ℤ z) ≡ pos 0
-nowhere x y z a b c =
-    rw (diff-of x, diff-of y, diff-of z, diff-of a, diff-of b, diff-of c, pos_is_diff 0)
-    (simp (add-diff, neg-diff, mul-diff) (diff_same _ _ _ _ (omega arith)))
-
-along_first : (px py pz qx qy qz : ℤ) →
-    (py *ℤ qz -ℤ pz *ℤ qy) *ℤ px +ℤ (pz *ℤ qx -ℤ px *ℤ qz) *ℤ py +ℤ (px *ℤ qy -ℤ py *ℤ qx) *ℤ pz
-    ≡ pos 0
-along_first px py pz qx qy qz =
-    rw (diff-of px, diff-of py, diff-of pz, diff-of qx, diff-of qy, diff-of qz, pos_is_diff 0)
-    (simp (add-diff, neg-diff, mul-diff) (diff_same _ _ _ _ (omega arith)))
-
-along_second : (px py pz qx qy qz : ℤ) →
-    (py *ℤ qz -ℤ pz *ℤ qy) *ℤ qx +ℤ (pz *ℤ qx -ℤ px *ℤ qz) *ℤ qy +ℤ (px *ℤ qy -ℤ py *ℤ qx) *ℤ qz
-    ≡ pos 0
-along_second px py pz qx qy qz =
-    rw (diff-of px, diff-of py, diff-of pz, diff-of qx, diff-of qy, diff-of qz, pos_is_diff 0)
-    (simp (add-diff, neg-diff, mul-diff) (diff_same _ _ _ _ (omega arith)))
-
-at_a : (a b c : Place) → dot_of (cross_of a b c) (way a a) ≡ pos 0
-at_a a b c = nowhere a.x a.y a.z (cross_of a b c).x (cross_of a b c).y (cross_of a b c).z
-
-at_b : (a b c : Place) → dot_of (cross_of a b c) (way b a) ≡ pos 0
-at_b a b c =
-    along_first (b.x -ℤ a.x) (b.y -ℤ a.y) (b.z -ℤ a.z) (c.x -ℤ a.x) (c.y -ℤ a.y) (c.z -ℤ a.z)
-
-at_c : (a b c : Place) → dot_of (cross_of a b c) (way c a) ≡ pos 0
-at_c a b c =
-    along_second (b.x -ℤ a.x) (b.y -ℤ a.y) (b.z -ℤ a.z) (c.x -ℤ a.x) (c.y -ℤ a.y) (c.z -ℤ a.z)
-
-on_plane : (h : Hierarchy) (e : ℕ)
-    → value_of h (corners_of h (face_of e)) (leaf_place h (from_leaf h e)) ≡ pos 0
-on_plane h e =
-    grind (arith, common_steps, at_a, at_b, at_c, corner_a, corner_b, corner_c, which_corner)
-
-nothing : (d n : ℕ) → 0 * 0 ≤ d * d * n
-nothing d n = omega arith
-
-zero_within : (v : ℤ) (n d : ℕ) → v ≡ pos 0 → IsWithin v n d
-zero_within v n d is = subst (λ (z : ℤ). IsWithin z n d) (sym is) (nothing d n)
+use Rattle.pm_deviation.proofs.StepLaws.{planes_cases}
 
 -- Along the axes stand the numbers of a vector.
 
@@ -112,18 +66,17 @@ axis_scaled n l u o k is i (a, some, over) =
     (subst (λ (z : ℤ). IsScaledIn z l (along (parts_of n) (direction_of u))) is
     (scaled_along n (direction_of u) l (parts_of n) i)))
 
-within_min : (v : ℤ) (n a b : ℕ) → IsWithin v n a → IsWithin v n b → IsWithin v n (min a b)
-within_min v n a b p q = grind (arith, common_steps)
-
-max_first : (a b m e : ℕ) → max a b ≤ e * m → a ≤ m * e
-max_first a b m e h = omega arith
-
-max_second : (a b m e : ℕ) → max a b ≤ e * m → b ≤ m * e
-max_second a b m e h = omega arith
-
-no_normal : (v m e n : ℕ) → v * v ≤ n * m → n ≡ 0 → v * v ≤ e * e * n
-no_normal v m e n h is =
-    subst (λ k. v * v ≤ e * e * k) (sym is) (omega (arith, subst (λ k. v * v ≤ k * m) is h))
+-- So the box of spreads that have what the normal has along each axis holds the normal.
+pub box_scaled : (n : Direction) (l : ℕ) (spread : Axis → Option Spread) → IsLength (norm2_of n) l
+    → ((u : Axis) → IsSomeOver (spread u) (along (parts_of n) (direction_of u)))
+    → IsScaledInBox n l (box_by spread)
+box_scaled n l spread len covers =
+    let i = parts_scaled n l len in
+    record {
+      x = axis_scaled n l x_axis (spread x_axis) n.x (one_x n.x n.y n.z) i (covers x_axis);
+      y = axis_scaled n l y_axis (spread y_axis) n.y (one_y n.x n.y n.z) i (covers y_axis);
+      z = axis_scaled n l z_axis (spread z_axis) n.z (one_z n.x n.y n.z) i (covers z_axis);
+    }
 
 module _ (h : Hierarchy) (shape : HasShape h) (e : ℕ) (side : e < 3 * face_count h) where
   abbrev face : Face
@@ -147,78 +100,38 @@ module _ (h : Hierarchy) (shape : HasShape h) (e : ℕ) (side : e < 3 * face_cou
       subst (λ (g : Face). has_corner_under h v g ≡ true) (sym there.0)
       (under_from h v e held) in
       let own : unit_box normal ≡ Some (parts_of normal) = unit_box_some normal some in
-      let part : part_along h u (get_or (faces_of h) f no_face_corners)
+      let part : part_along u (normal_of h (get_or (faces_of h) f no_face_corners))
       ≡ Some (along (parts_of normal) (direction_of u)) =
-      subst (λ (g : Face). part_along h u g ≡ Some (along (parts_of normal) (direction_of u)))
+      subst (λ (g : Face). part_along u (normal_of h g)
+      ≡ Some (along (parts_of normal) (direction_of u)))
       (sym there.0) (ap (option_map (λ b. along b (direction_of u))) own) in
-      spread_above (part_along h u) (has_corner_under h v) (faces_of h) f no_face_corners
+      spread_above (λ g. part_along u (normal_of h g)) (has_corner_under h v) (faces_of h) f
+      no_face_corners
       (along (parts_of normal) (direction_of u)) there.1 p part
 
   in_box : (v : ℕ) → Holds h v (from_leaf h e) → 0 < square
       → IsScaledInBox normal (root_down square) (unit_box_of h v)
   in_box v held some =
-      let l = root_down square in
-      let i = parts_scaled normal l (low_length square some) in
-      record {
-        x = axis_scaled normal l x_axis (spread_of h x_axis v) normal.x
-            (one_x normal.x normal.y normal.z) i (spread_covers v held some x_axis);
-        y = axis_scaled normal l y_axis (spread_of h y_axis v) normal.y
-            (one_y normal.x normal.y normal.z) i (spread_covers v held some y_axis);
-        z = axis_scaled normal l z_axis (spread_of h z_axis v) normal.z
-            (one_z normal.x normal.y normal.z) i (spread_covers v held some z_axis);
-      }
-
-  boxed_move : (v : ℕ) (move : Direction) → Holds h v (from_leaf h e)
-      → IsWithin (dot_of normal move) square (most_along (unit_box_of h v) move)
-  boxed_move v move held =
-      let b = unit_box_of h v in
-      let d = most_along b move in
-      let enough =
-      ceil_enough (max (unsigned_abs (along b move).low) (unsigned_abs (along b move).high))
-      16384 (omega arith) in
-      elim (cases_eq square 0) [
-        | inl is ↦ no_normal (unsigned_abs (dot_of normal move)) (norm2_of move) d square
-            (dot_le normal move) is
-        | inr differs ↦
-            within_box normal move (root_down square) square d b
-            (in_box v held (omega (arith, differs))) (root_down_is square).square
-            (max_first _ _ 16384 d enough) (max_second _ _ 16384 d enough)
-      ]
+      box_scaled normal (root_down square) (λ u. spread_of h u v) (low_length square some)
+      (spread_covers v held some)
 
   stepped : (s v : ℕ) → Holds h v (from_leaf h e)
       → IsWithin (dot_of normal (way (place_of_node h s) (place_of_node h v))) square
-      (step_of h s v)
+      (plane_step h s v)
   stepped s v held =
-      let p = place_of_node h s in
-      let q = place_of_node h v in
-      within_min (dot_of normal (way p q)) square (distance_of p q)
-      (most_along (unit_box_of h v) (way p q))
-      (within_way normal (way p q) (distance_of p q) (near p q)) (boxed_move v (way p q) held)
+      by_way normal (place_of_node h s) (place_of_node h v) (unit_box_of h v) (in_box v held)
 
   abbrev IsNear : ℕ → ℕ → Type 0
   IsNear v d = IsWithin (value_of h face (place_of_node h v)) square d
 
   from_child : (k v d : ℕ) → Holds h v (from_leaf h e) → IsNear v (plane_deviation_of h v)
-      → plane_deviation_of h v + step_of h (s_of h k) v ≤ d → IsNear (s_of h k) d
+      → plane_deviation_of h v + plane_step h (s_of h k) v ≤ d → IsNear (s_of h k) d
   from_child k v d held near_child below =
       within_more (value_of h face (place_of_node h (s_of h k))) square
-      (plane_deviation_of h v + step_of h (s_of h k) v) d below
+      (plane_deviation_of h v + plane_step h (s_of h k) v) d below
       (moves_add normal (leaf_place h face.a) (place_of_node h v) (place_of_node h (s_of h k))
-      square (plane_deviation_of h v) (step_of h (s_of h k) v) near_child
+      square (plane_deviation_of h v) (plane_step h (s_of h k) v) near_child
       (stepped (s_of h k) v held))
-
-  no_more : (d : ℕ) → 0 + d ≡ d
-  no_more d = omega arith
-
-  by_error : (v : ℕ) → v < node_count h → Holds h v (from_leaf h e) → IsNear v (error_of h v)
-  by_error v l held =
-      let x = from_leaf h e in
-      subst (λ d. IsNear v d) (no_more (error_of h v))
-      (moves_add normal (leaf_place h face.a) (leaf_place h x) (place_of_node h v) square 0
-      (error_of h v)
-      (zero_within (value_of h face (leaf_place h x)) square 0 (on_plane h e))
-      (within_way normal (way (place_of_node h v) (leaf_place h x)) (error_of h v)
-      (leaves_covered h shape v x l held)))
 
   left_le : (d a b : ℕ) → d ≡ max a b → a ≤ d
   left_le d a b is = omega arith
@@ -235,17 +148,17 @@ module _ (h : Hierarchy) (shape : HasShape h) (e : ℕ) (side : e < 3 * face_cou
       leaf_node-unsplit h (shape_of_nodes h shape) w (from_leaf h e) m none held in
       zero_within (value_of h face (place_of_node h w)) square (plane_deviation_of h w)
       (subst (λ n. value_of h face (place_of_node h n) ≡ pos 0) is (on_plane h e)))
-      (λ k m t u held. elim (cases_Bool (is_at_border h (s_of h k))) [
-        | inl at ↦ subst (λ d. IsNear (s_of h k) d) (sym (planes_at_border h shape k m at))
-            (by_error (s_of h k) (split_node h shape k m) held)
-        | inr at ↦
-            let is = planes_inside h shape k m at in
-            elim (child_of_leaf h shape k (from_leaf h e) m held) [
-              | inl a ↦ from_child k (t_of h k) (plane_deviation_of h (s_of h k)) a (t a)
-                  (left_le _ _ _ is)
-              | inr a ↦ from_child k (u_of h k) (plane_deviation_of h (s_of h k)) a (u a)
-                  (right_le _ _ _ is)
-            ]
+      (λ k m t u held. elim (planes_cases h (shape_of_nodes h shape) k m) [
+        | inl (few, is) ↦
+            within_more (value_of h face (place_of_node h (s_of h k))) square
+            (farthest_plane h (s_of h k)) (plane_deviation_of h (s_of h k)) (right_le _ _ _ is)
+            (farthest_near h shape e side (s_of h k) held)
+        | inr (many, is) ↦ elim (child_of_leaf h shape k (from_leaf h e) m held) [
+          | inl a ↦ from_child k (t_of h k) (plane_deviation_of h (s_of h k)) a (t a)
+              (left_le _ _ _ is)
+          | inr a ↦ from_child k (u_of h k) (plane_deviation_of h (s_of h k)) a (u a)
+              (right_le _ _ _ is)
+        ]
       ])
       v l
 

@@ -13,7 +13,7 @@ use Rattle.pm_base.proofs.Lengths.{dot_le}
 use Rattle.pm_base.proofs.Ring.{diff-of, diff_same, add-diff, mul-diff, neg-diff}
 use Rattle.pm_deviation.specs.declared.unit_box.UnitBox.{UnitBox}
 use Rattle.pm_deviation.specs.Spreads.{along}
-use Rattle.pm_deviation.specs.Deviations.{way}
+use Rattle.pm_deviation.specs.Lines.{way}
 use Rattle.pm_deviation.specs.Laws.{IsWithin}
 use Rattle.pm_deviation.proofs.Products.{IsScaledInBox, scaled_along}
 
@@ -115,11 +115,11 @@ small v l e n p q =
           q,
     )
 
-abs_up : (u v w : ℤ) → u ≤ℤ v → v ≤ℤ w → unsigned_abs u ≤ unsigned_abs w
+pub abs_up : (u v w : ℤ) → u ≤ℤ v → v ≤ℤ w → unsigned_abs u ≤ unsigned_abs w
     → unsigned_abs v ≤ unsigned_abs w
 abs_up u v w p q r = omega (arith, ints)
 
-abs_down : (u v w : ℤ) → u ≤ℤ v → v ≤ℤ w → unsigned_abs w ≤ unsigned_abs u
+pub abs_down : (u v w : ℤ) → u ≤ℤ v → v ≤ℤ w → unsigned_abs w ≤ unsigned_abs u
     → unsigned_abs v ≤ unsigned_abs u
 abs_down u v w p q r = omega (arith, ints)
 

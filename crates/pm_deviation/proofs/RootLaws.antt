@@ -1,5 +1,5 @@
 -- What the code finds of roots and parts.
-use Rattle.std.proofs.Common.{◌≡◌, ℕ, ◌+◌, ◌*◌, ◌<◌, ◌≤◌, eqb, true, false, None, Some, inl}
+use Rattle.std.proofs.Common.{◌≡◌, ℕ, ◌+◌, ◌*◌, ◌<◌, ◌≤◌, min, eqb, true, false, None, Some, inl}
 use Rattle.std.proofs.lemmas.Grind.{common_steps}
 use Rattle.std.proofs.Common.{inr, refl, sym, ◌∙◌, subst, arith, w32, to_z}
 use Rattle.std.specs.Prelude.{ℤ, pos, negsuc, int_lt, unsigned_abs}
@@ -8,7 +8,7 @@ use Rattle.std.proofs.lemmas.Bool.{cases_lt, cond-true, eq-eqb}
 use borrow.Author.Differences.{ints}
 use Rattle.pm_base.specs.Geometry.{Direction, norm2_of}
 use Rattle.pm_base.specs.Rounded.{root_up}
-use Rattle.pm_base.proofs.Root.{root_up_only}
+use Rattle.pm_base.proofs.Root.{root_up_is, root_up_only}
 use Rattle.pm_base.proofs.Squares.{root_le}
 use Rattle.pm_deviation.specs.declared.spread.Spread.{Spread}
 use Rattle.pm_deviation.specs.Spreads.{mirrored}
@@ -87,3 +87,27 @@ pub box_there : (n : Direction) (q : ℕ) (x y z : Spread) → q ≡ norm2_of n 
 box_there n q x y z square some x_is y_is z_is =
     (rw (x_is, y_is, z_is, square) refl)
     ∙ sym (unit_box_some n (subst (λ (m : ℕ). 0 < m) square some))
+
+-- The lesser of a root and a number, by the number's square.
+pub min_by_square : (n m : ℕ) → m * m ≤ n → min (root_up n) m ≡ m
+min_by_square n m h =
+    let r = root_up_is n in
+    let below : m ≤ root_up n = elim (cases_lt (root_up n) m) [
+      | inl l ↦ (let square =
+          mul-le (root_up n + 1) (root_up n + 1) m m (omega arith) (omega arith) in
+          let e = r.enough in
+          absurd (omega arith))
+      | inr l ↦ l
+    ] in
+    omega arith
+
+pub min_by_root : (n m : ℕ) → n < m * m → min (root_up n) m ≡ root_up n
+min_by_root n m h = let low = (root_up_is n).least m (omega arith) in omega arith
+
+-- A number whose square is no greater than the squared length of a way is no longer than it.
+pub square_small : (n m : ℕ) → n ≤ 12884115468 → m * m ≤ n → m ≤ 113509
+square_small n m small h = elim (cases_lt 113509 m) [
+  | inl l ↦ (let square = mul-le 113510 113510 m m (omega arith) (omega arith) in
+      absurd (omega arith))
+  | inr l ↦ l
+]

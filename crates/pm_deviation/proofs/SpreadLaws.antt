@@ -1,12 +1,14 @@
 -- Spreads joined in any order, and any number of times, are one spread, and it has each of them in
 -- it.
-use Rattle.std.proofs.Common.{◌≡◌, ℕ, zero, suc, ◌<◌, Bool, true, ◌||◌, List, [], ◌∷◌, ◌++◌}
+use Rattle.std.proofs.Common.{◌≡◌, ℕ, zero, suc, ◌<◌, cond, Bool, true, ◌||◌, List, [], ◌∷◌, ◌++◌}
 use Rattle.std.proofs.Common.{length, get_or, map, Option, None, Some, IfSome, inl, inr, refl, sym}
 use Rattle.std.proofs.Common.{ap, ◌∙◌, arith}
 use Rattle.std.proofs.lemmas.Grind.{common_steps}
 use Rattle.std.specs.Prelude.{◌≤ℤ◌}
 use Rattle.std.specs.List.{filter}
-use Rattle.std.proofs.lemmas.Bool.{cases_Bool}
+use Rattle.std.proofs.lemmas.Bool.{cases_Bool, cond-true, cond-false}
+use Rattle.std.proofs.lemmas.List.{map-append}
+use Rattle.pm_bounds.proofs.LeafLaws.{filter-more}
 use Rattle.pm_bounds.proofs.BoxLaws.{min_comm, max_comm, min_assoc, max_assoc, min_same, max_same}
 use Rattle.pm_bounds.proofs.BoxLaws.{min_small, max_small}
 use Rattle.pm_bounds.proofs.ListLaws.{min_left, min_right, max_left, max_right, same_z, ≤ℤ_by}
@@ -117,6 +119,22 @@ module _ {X : Type 0} (f : X → Option Spread) (p : X → Bool) where
       elim (cases_Bool (p x)) [
         | inl t ↦ (rw t (some_right (f x) s (joined_all (map f (filter p xs))) rest))
         | inr t ↦ (rw t rest)
+      ]
+
+module _ {X : Type 0} (f : X → Option Spread) (p : X → Bool) where
+  -- one more, if it passes
+  pub joined_all-one_more : (xs : List X) (x : X) →
+      joined_all (map f (filter p (xs ++ x ∷ [])))
+      ≡ cond (p x) (join (joined_all (map f (filter p xs))) (f x))
+      (joined_all (map f (filter p xs)))
+  joined_all-one_more xs x =
+      let all = filter-more p xs x in
+      elim (cases_Bool (p x)) [
+        | inl e ↦ ap (λ l. joined_all (map f l)) (all ∙ cond-true _ _ _ e)
+            ∙ ap joined_all (map-append f (filter p xs) (x ∷ []))
+            ∙ joined_all-more (map f (filter p xs)) (f x) ∙ sym (cond-true _ _ _ e)
+        | inr e ↦ ap (λ l. joined_all (map f l)) (all ∙ cond-false _ _ _ e)
+            ∙ sym (cond-false _ _ _ e)
       ]
 
 -- what holds of each, and of two joined where it holds of both, holds of all joined

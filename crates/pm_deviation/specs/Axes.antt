@@ -1,6 +1,6 @@
 -- The 13 axes along which normals are looked at: with their opposites, the directions to the 26
 -- neighbours of a cell.
-use Rattle.std.specs.Prelude.{◌≡◌, ℤ, pos, negsuc, List, [], ◌∷◌}
+use Rattle.std.specs.Prelude.{◌≡◌, ℤ, pos, negsuc, [], ◌∷◌}
 use Rattle.pm_deviation.specs.declared.axes.Axis.{Axis}
 use Rattle.pm_deviation.specs.declared.axes.TheConstants.{AXES}
 

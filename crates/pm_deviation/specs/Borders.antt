@@ -1,6 +1,6 @@
--- Nodes at the border of the leaf mesh.
-use Rattle.std.specs.Prelude.{ℕ, ◌*◌, Bool, ◌||◌, ◌&&◌}
-use Rattle.std.specs.List.{list_any, range_with_len}
+-- The border of the leaf mesh: its sides without a twin.
+use Rattle.std.specs.Prelude.{ℕ, ◌*◌, Bool, ◌||◌, ◌&&◌, List}
+use Rattle.std.specs.List.{filter, range_with_len}
 use Rattle.std.specs.Option.{is_none}
 use Rattle.pm_forest.specs.Forest.{Hierarchy, holds}
 use Rattle.pm_forest.specs.Faces.{face_count, from_leaf, to_leaf}
@@ -11,6 +11,6 @@ abbrev pub is_border_side_under : Hierarchy → ℕ → ℕ → Bool
 is_border_side_under h v e =
     is_none (leaf_twin h e) && (holds h v (from_leaf h e) || holds h v (to_leaf h e))
 
--- There is such a side.
-unfoldable pub is_at_border : Hierarchy → ℕ → Bool
-is_at_border h v = list_any (is_border_side_under h v) (range_with_len 0 (3 * face_count h))
+-- All such sides.
+abbrev pub border_sides_under : Hierarchy → ℕ → List ℕ
+border_sides_under h v = filter (is_border_side_under h v) (range_with_len 0 (3 * face_count h))

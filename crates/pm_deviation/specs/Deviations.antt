@@ -1,66 +1,102 @@
--- The deviation of nodes: how far a node's place may be from the planes of the faces under it, and
--- from these faces along an axis that meets them. On flat ground it is small where the error isn't.
+-- The deviation of nodes: how far a node's place may be from the planes of the faces under it and
+-- from the lines of the border there, and from these along an axis that meets them. On flat ground
+-- and at straight borders it is small where the error isn't.
 use Rattle.std.specs.Prelude.{◌≡◌, ℕ, zero, suc, ◌+◌, ◌*◌, ◌<◌, ◌==◌, ◌||◌, if◌then◌else◌, min, max}
-use Rattle.std.specs.Prelude.{List, length, Bool, Option, None, Some, IfSome, is_some, ◌-ℤ◌}
-use Rattle.std.specs.Prelude.{unsigned_abs, slice_index_or, unwrap_or, ◌^◌, []}
+use Rattle.std.specs.Prelude.{List, length, Bool, Option, None, Some, IfSome, is_some, pos, neg_ℤ}
+use Rattle.std.specs.Prelude.{slice_index_or, unwrap_or, ◌^◌, []}
 use Rattle.std.specs.Int.{div_ceil}
-use Rattle.pm_base.specs.Place.{Place}
-use Rattle.pm_base.specs.Geometry.{Direction}
-use Rattle.pm_base.specs.Rounded.{distance_of}
+use Rattle.pm_base.specs.Geometry.{Direction, square_of}
+use Rattle.pm_base.specs.Rounded.{distance_of, root_up}
 use Rattle.pm_forest.specs.Forest.{Hierarchy, record_count, node_count, s_of, t_of, u_of}
 use Rattle.pm_forest.specs.Forest.{splitter_of}
 use Rattle.pm_forest.specs.Places.{place_of_node}
 use Rattle.pm_bounds.specs.Bounds.{Bounds, AreBoundsOf, error_of}
 use Rattle.pm_deviation.specs.declared.unit_box.UnitBox.{UnitBox}
-use Rattle.pm_deviation.specs.Spreads.{along}
+use Rattle.pm_deviation.specs.Spreads.{along, most_of}
 use Rattle.pm_deviation.specs.Normals.{unit_box_of, cosine_of}
-use Rattle.pm_deviation.specs.Borders.{is_at_border}
+use Rattle.pm_deviation.specs.Lines.{way, line_box_of, line_cosine_of}
+use Rattle.pm_deviation.specs.Farthest.{has_few_leaves, way_along, farthest_plane}
 
--- From q to p.
-abbrev pub way : Place → Place → Direction
-way p q = record { x = p.x -ℤ q.x; y = p.y -ℤ q.y; z = p.z -ℤ q.z }
+-- Three moves whose products with a direction are, but for the sign, the numbers of the cross
+-- product of that direction and a move.
+abbrev pub about_x : Direction → Direction
+about_x m = record { x = pos 0; y = neg_ℤ m.z; z = m.y }
 
--- The most that a move can go along normals of a box, rounded up.
-abbrev pub most_along : UnitBox → Direction → ℕ
-most_along b m = div_ceil (max (unsigned_abs (along b m).low) (unsigned_abs (along b m).high)) 16384
+abbrev pub about_y : Direction → Direction
+about_y m = record { x = m.z; y = pos 0; z = neg_ℤ m.x }
+
+abbrev pub about_z : Direction → Direction
+about_z m = record { x = neg_ℤ m.y; y = m.x; z = pos 0 }
+
+-- The most that a move can go across directions of a box, rounded up.
+abbrev pub across : UnitBox → Direction → ℕ
+across b m =
+    div_ceil (root_up (square_of (most_of (along b (about_x m)))
+    + square_of (most_of (along b (about_y m))) + square_of (most_of (along b (about_z m))))) 16384
 
 -- The most that the way from a child to its parent can go along the normals under the child. It is
 -- no longer than the way.
-abbrev pub step_of : Hierarchy → ℕ → ℕ → ℕ
-step_of h parent child =
+abbrev pub plane_step : Hierarchy → ℕ → ℕ → ℕ
+plane_step h parent child =
+    way_along (unit_box_of h child) (place_of_node h parent) (place_of_node h child)
+
+-- The most that it can go across the border sides under the child: 0 where there are none.
+abbrev pub line_step : Hierarchy → ℕ → ℕ → ℕ
+line_step h parent child =
     let p = place_of_node h parent in
     let q = place_of_node h child in
-    min (distance_of p q) (most_along (unit_box_of h child) (way p q))
+    min (distance_of p q) (across (line_box_of h child) (way p q))
 
--- A number for the node that record k splits, by those of its children: the greater, over the two,
--- of the child's number and its step.
-abbrev pub over_steps : Hierarchy → (ℕ → ℕ) → ℕ → ℕ
-over_steps h number k =
-    let from = λ (child : ℕ). number child + step_of h (s_of h k) child in
+-- The greater, over the two children of record k, of the child's number and its step.
+abbrev pub over_steps : Hierarchy → (ℕ → ℕ → ℕ) → (ℕ → ℕ) → ℕ → ℕ
+over_steps h step number k =
+    let from = λ (child : ℕ). number child + step (s_of h k) child in
     max (from (t_of h k)) (from (u_of h k))
 
--- A number for node v: 0 where no record splits it, its error at the border, and by its children
--- for another node.
-abbrev pub from_steps : Hierarchy → (ℕ → ℕ) → ℕ → Option ℕ → ℕ
-from_steps h number v None = 0
-from_steps h number v (Some k) = if is_at_border h v then error_of h v else over_steps h number k
+-- The plane deviation of the node that record k splits, by those of its children: where it has few
+-- leaves, the greatest of theirs and the distance of the farthest plane under it.
+abbrev pub over_planes : Hierarchy → (ℕ → ℕ) → ℕ → ℕ
+over_planes h number k =
+    if has_few_leaves h (s_of h k)
+    then max (max (number (t_of h k)) (number (u_of h k))) (farthest_plane h (s_of h k))
+    else over_steps h (plane_step h) number k
+
+-- A number for a node: what `up` makes of the children's numbers where a record splits it, and 0
+-- where none does.
+abbrev pub from_record : ((ℕ → ℕ) → ℕ → ℕ) → (ℕ → ℕ) → Option ℕ → ℕ
+from_record up number None = 0
+from_record up number (Some k) = up number k
 
 -- The same all the way up, where the way down from v passes at most n records.
-unfoldable pub from_planes_in : Hierarchy → ℕ → ℕ → ℕ
-from_planes_in h zero v = 0
-from_planes_in h (suc n) v = from_steps h (from_planes_in h n) v (splitter_of h v)
+unfoldable pub from_records_in : Hierarchy → ((ℕ → ℕ) → ℕ → ℕ) → ℕ → ℕ → ℕ
+from_records_in h up zero v = 0
+from_records_in h up (suc n) v = from_record up (from_records_in h up n) (splitter_of h v)
+
+abbrev pub from_records : Hierarchy → ((ℕ → ℕ) → ℕ → ℕ) → ℕ → ℕ
+from_records h up v = from_records_in h up (record_count h) v
 
 -- How far the place of node v may be from the planes of the faces under it.
 unfoldable pub plane_deviation_of : Hierarchy → ℕ → ℕ
-plane_deviation_of h v = from_planes_in h (record_count h) v
+plane_deviation_of h v = from_records h (over_planes h) v
+
+-- How far it may be from the lines of the border sides with an end under it.
+unfoldable pub line_deviation_of : Hierarchy → ℕ → ℕ
+line_deviation_of h v = from_records h (over_steps h (line_step h)) v
+
+-- A distance from planes or lines that stand so to an axis, measured along it.
+abbrev pub tilted : ℕ → ℕ → ℕ
+tilted distance cosine = div_ceil (16384 * distance) cosine
 
 -- The deviation of node v: how far its place may be from a face under it, along the axis that these
--- faces look along most alike. At the border, and where they look opposite ways, as those of a thin
--- wall do, it is the error; and it is never above that.
+-- faces look along most alike, and from the border under it likewise. Where they look, or the
+-- border runs, opposite ways, as the faces of a thin wall do, it is the error; and it is never
+-- above that.
 unfoldable pub deviation_of : Hierarchy → ℕ → ℕ
 deviation_of h v =
-    if is_at_border h v || cosine_of h v == 0 then error_of h v
-    else min (error_of h v) (div_ceil (16384 * plane_deviation_of h v) (cosine_of h v))
+    if cosine_of h v == 0 || line_cosine_of h v == 0 then error_of h v
+    else min (error_of h v)
+    (max (tilted (plane_deviation_of h v) (cosine_of h v))
+    (tilted (line_deviation_of h v) (line_cosine_of h v)))
 
 -- The bounds of all nodes, and their deviations where they were asked for, by node.
 pub record Measures : Type 0 where

@@ -1,22 +1,23 @@
 -- The laws of deviations, for a hierarchy of the right shape.
-use Rattle.std.specs.Prelude.{◌≡◌, ℕ, ◌+◌, ◌*◌, ◌<◌, ◌≤◌, ◌⊎◌, max, ℤ, pos, ◌+ℤ◌, ◌*ℤ◌}
+use Rattle.std.specs.Prelude.{◌≡◌, true, ℕ, ◌+◌, ◌*◌, ◌<◌, ◌≤◌, ◌⊎◌, max, ℤ, pos, ◌+ℤ◌, ◌*ℤ◌}
 use Rattle.std.specs.Prelude.{unsigned_abs}
 use Rattle.std.specs.List.{Contains}
 use Rattle.pm_base.specs.Place.{Place}
-use Rattle.pm_base.specs.Geometry.{dot_of, norm2_of, square_of}
-use Rattle.pm_base.specs.Sides.{face_of, IsBorder}
+use Rattle.pm_base.specs.Geometry.{dot_of, norm2_of, square_of, cross_of}
+use Rattle.pm_base.specs.Sides.{face_of}
 use Rattle.pm_forest.specs.declared.parts.Face.{Face}
 use Rattle.pm_forest.specs.Forest.{Hierarchy, record_count, node_count, s_of, Holds, Makes}
-use Rattle.pm_forest.specs.Faces.{face_count, corners_of, from_leaf}
+use Rattle.pm_forest.specs.Faces.{face_count, corners_of, from_leaf, to_leaf}
 use Rattle.pm_forest.specs.Places.{place_of_node}
 use Rattle.pm_forest.specs.Rules.{HasShape}
 use Rattle.pm_forest.specs.Meshes.{leaf_place}
-use Rattle.pm_beyond.specs.Walks.{leaf_net}
 use Rattle.pm_bounds.specs.Bounds.{normal_of, error_of}
 use Rattle.pm_deviation.specs.declared.axes.Axis.{Axis}
 use Rattle.pm_deviation.specs.declared.axes.TheConstants.{AXES}
 use Rattle.pm_deviation.specs.Normals.{direction_of, cosine_of}
-use Rattle.pm_deviation.specs.Deviations.{way, plane_deviation_of, deviation_of}
+use Rattle.pm_deviation.specs.Borders.{is_border_side_under}
+use Rattle.pm_deviation.specs.Lines.{way, side_way, line_cosine_of}
+use Rattle.pm_deviation.specs.Deviations.{plane_deviation_of, line_deviation_of, deviation_of}
 
 -- The value at a place of the plane that a face lies in: the distance from it times the length of
 -- the normal.
@@ -31,6 +32,7 @@ IsWithin value n d = square_of (unsigned_abs value) ≤ square_of d * n
 -- A deviation is at most the error.
 pub record IsBelowError (h : Hierarchy) (v : ℕ) : Type 0 where
   pub planes : plane_deviation_of h v ≤ error_of h v
+  pub lines : line_deviation_of h v ≤ error_of h v
   pub deviation : deviation_of h v ≤ error_of h v
 
 abbrev pub DeviationsAreBelowErrors : Type 0
@@ -40,8 +42,10 @@ DeviationsAreBelowErrors = (h : Hierarchy) → HasShape h → (v : ℕ) → v < 
 -- Deviations grow from a child to its parent, and cosines fall.
 pub record Grows (h : Hierarchy) (child parent : ℕ) : Type 0 where
   pub planes : plane_deviation_of h child ≤ plane_deviation_of h parent
+  pub lines : line_deviation_of h child ≤ line_deviation_of h parent
   pub deviation : deviation_of h child ≤ deviation_of h parent
   pub cosine : cosine_of h parent ≤ cosine_of h child
+  pub line_cosine : line_cosine_of h parent ≤ line_cosine_of h child
 
 abbrev pub DeviationsGrow : Type 0
 DeviationsGrow = (h : Hierarchy) → HasShape h → (k v : ℕ) → k < record_count h → Makes h k v
@@ -97,9 +101,22 @@ LinesMeetNear =
     → (deviation_of h v ≡ error_of h v)
     ⊎ ((u : Axis) × Contains AXES u × MeetsWithin h v u (deviation_of h v))
 
--- Both deviations of a node are its error where a leaf under it is on the border of the leaf mesh.
-abbrev pub BordersAreErrors : Type 0
-BordersAreErrors =
-    (h : Hierarchy) → HasShape h → (v x : ℕ) → v < node_count h → IsBorder (leaf_net h) x
-    → Holds h v x
-    → (plane_deviation_of h v ≡ error_of h v) × (deviation_of h v ≡ error_of h v)
+-- Where a border side has an end under a node, the node's place is at most its line deviation from
+-- the line of the side: the cross product of the side with the way to the place is as long as that
+-- distance times the side.
+abbrev pub BorderLinesAreNear : Type 0
+BorderLinesAreNear =
+    (h : Hierarchy) → HasShape h → (v e : ℕ) → v < node_count h → e < 3 * face_count h
+    → is_border_side_under h v e ≡ true →
+    norm2_of (cross_of (leaf_place h (from_leaf h e)) (leaf_place h (to_leaf h e))
+    (place_of_node h v))
+    ≤ square_of (line_deviation_of h v) * norm2_of (side_way h e)
+
+-- A deviation is at least how far a node's place may be from the planes and lines under it.
+pub record IsAboveDistances (h : Hierarchy) (v : ℕ) : Type 0 where
+  pub planes : plane_deviation_of h v ≤ deviation_of h v
+  pub lines : line_deviation_of h v ≤ deviation_of h v
+
+abbrev pub DeviationsAreAboveDistances : Type 0
+DeviationsAreAboveDistances = (h : Hierarchy) → HasShape h → (v : ℕ) → v < node_count h
+    → IsAboveDistances h v

@@ -2,6 +2,8 @@ pub mod Axes
 pub mod Spreads
 pub mod Normals
 pub mod Borders
+pub mod Lines
+pub mod Farthest
 pub mod Deviations
 pub mod Tables
 pub mod Laws

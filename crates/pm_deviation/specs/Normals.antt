@@ -7,7 +7,6 @@ use Rattle.std.specs.Int.{div_ceil}
 use Rattle.std.specs.Option.{option_map, option_map_or}
 use Rattle.pm_base.specs.Geometry.{Direction, norm2_of}
 use Rattle.pm_base.specs.Rounded.{root_up}
-use Rattle.pm_forest.specs.declared.parts.Face.{Face}
 use Rattle.pm_forest.specs.Forest.{Hierarchy}
 use Rattle.pm_bounds.specs.Bounds.{normal_of, faces_under, greatest}
 use Rattle.pm_deviation.specs.declared.axes.Axis.{Axis}
@@ -44,17 +43,14 @@ unit_box n = if norm2_of n == 0 then None
 abbrev pub direction_of : Axis → Direction
 direction_of u = record { x = u.x; y = u.y; z = u.z }
 
--- What a face's normal has along an axis.
-abbrev pub part_along : Hierarchy → Axis → Face → Option Spread
-part_along h u f = option_map (λ b. along b (direction_of u)) (unit_box (normal_of h f))
+-- What a normal, or another direction, has along an axis.
+abbrev pub part_along : Axis → Direction → Option Spread
+part_along u n = option_map (λ b. along b (direction_of u)) (unit_box n)
 
 -- What the normals of the faces under node v have along an axis; none where no face with area is
 -- under it.
 unfoldable pub spread_of : Hierarchy → Axis → ℕ → Option Spread
-spread_of h u v = joined_all (map (part_along h u) (faces_under h v))
-
-abbrev pub spread_under : Hierarchy → Axis → ℕ → Spread
-spread_under h u v = unwrap_or (spread_of h u v) no_spread
+spread_of h u v = joined_all (map (λ f. part_along u (normal_of h f)) (faces_under h v))
 
 abbrev pub x_axis : Axis
 x_axis = record { x = pos 1; y = pos 0; z = pos 0 }
@@ -65,13 +61,17 @@ y_axis = record { x = pos 0; y = pos 1; z = pos 0 }
 abbrev pub z_axis : Axis
 z_axis = record { x = pos 0; y = pos 0; z = pos 1 }
 
--- The box of all these normals.
-abbrev pub unit_box_of : Hierarchy → ℕ → UnitBox
-unit_box_of h v = record {
-  x = spread_under h x_axis v;
-  y = spread_under h y_axis v;
-  z = spread_under h z_axis v;
+-- The box of directions that have these spreads along axes.
+abbrev pub box_by : (Axis → Option Spread) → UnitBox
+box_by spread = record {
+  x = unwrap_or (spread x_axis) no_spread;
+  y = unwrap_or (spread y_axis) no_spread;
+  z = unwrap_or (spread z_axis) no_spread;
 }
+
+-- The box of the normals under node v.
+abbrev pub unit_box_of : Hierarchy → ℕ → UnitBox
+unit_box_of h v = box_by (λ u. spread_of h u v)
 
 -- A number, and 0 for one below 0.
 abbrev pub above_zero : ℤ → ℕ
@@ -91,9 +91,11 @@ least_cosine u s = 16384 * max (above_zero s.low) (above_zero (neg_ℤ s.high)) 
 abbrev pub cosine_by : Axis → Option Spread → ℕ
 cosine_by u spread = option_map_or (least_cosine u) spread 16384
 
-abbrev pub cosine_along : Hierarchy → ℕ → Axis → ℕ
-cosine_along h v u = cosine_by u (spread_of h u v)
+-- The least cosine of directions that have these spreads along axes with the axis that they go
+-- along most alike.
+abbrev pub greatest_cosine : (Axis → Option Spread) → ℕ
+greatest_cosine spread = greatest (map (λ u. cosine_by u (spread u)) AXES)
 
--- The least cosine of the normals under node v with the axis that they look along most alike.
+-- The same of the normals under node v.
 unfoldable pub cosine_of : Hierarchy → ℕ → ℕ
-cosine_of h v = greatest (map (cosine_along h v) AXES)
+cosine_of h v = greatest_cosine (λ u. spread_of h u v)

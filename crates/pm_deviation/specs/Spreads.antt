@@ -1,6 +1,7 @@
 -- Spreads: the whole numbers from one to another, and boxes of them on the three axes.
-use Rattle.std.specs.Prelude.{List, [], ◌∷◌, Option, None, Some, ℤ, pos, ◌+ℤ◌, ◌*ℤ◌, neg_ℤ}
-use Rattle.std.specs.Int.{int_min, int_max}
+use Rattle.std.specs.Prelude.{ℕ, max, unsigned_abs, List, [], ◌∷◌, Option, None, Some, ℤ, pos, ◌+ℤ◌}
+use Rattle.std.specs.Prelude.{◌*ℤ◌, neg_ℤ}
+use Rattle.std.specs.Int.{int_min, int_max, div_ceil}
 use Rattle.pm_base.specs.Geometry.{Direction}
 use Rattle.pm_deviation.specs.declared.spread.Spread.{Spread}
 use Rattle.pm_deviation.specs.declared.unit_box.UnitBox.{UnitBox}
@@ -41,3 +42,11 @@ along b m = record {
   low = (times b.x m.x).low +ℤ (times b.y m.y).low +ℤ (times b.z m.z).low;
   high = (times b.x m.x).high +ℤ (times b.y m.y).high +ℤ (times b.z m.z).high;
 }
+
+-- How far from 0 the numbers of a spread are at most.
+abbrev pub most_of : Spread → ℕ
+most_of s = max (unsigned_abs s.low) (unsigned_abs s.high)
+
+-- The most that a move can go along vectors of a box in 16,384ths, rounded up.
+abbrev pub most_along : UnitBox → Direction → ℕ
+most_along b m = div_ceil (most_of (along b m)) 16384

@@ -1,25 +1,25 @@
-//! What the normals under each node have along one axis: the faces are gone through for the leaves,
-//! and then the records from the last to the first.
-ghost use Rattle.std.specs.Prelude.{◌≡◌, ℕ, ◌<◌, ◌≤◌, cond, true, None, IfOk, IfSome, replicate};
-ghost use Rattle.std.specs.Prelude.{length, slice_index_or, slice_set, unsigned_abs};
-ghost use Rattle.std.specs.Option.{option_map};
+//! What the headings under each node have along one axis: they are gone through for the leaves, and
+//! then the records from the last to the first.
+ghost use Rattle.std.specs.Prelude.{◌≡◌, ℕ, ◌<◌, ◌≤◌, cond, true, Option, None, IfOk, IfSome};
+ghost use Rattle.std.specs.Prelude.{replicate, length, slice_index_or, slice_set, unsigned_abs};
 ghost use Rattle.pm_forest.specs.Forest.{node_count, leaf_count, record_count, t_of, u_of};
-ghost use Rattle.pm_forest.specs.Faces.{face_count, corners_of};
 ghost use Rattle.pm_forest.specs.Tables.{leaf_node_of};
 ghost use Rattle.pm_bounds.specs.Leaves.{is_leaf_corner};
 ghost use Rattle.pm_deviation.specs.declared.axes.Axis.{Axis};
+ghost use Rattle.pm_deviation.specs.declared.spread.Spread.{Spread};
 ghost use Rattle.pm_deviation.specs.Spreads.{along, join};
 ghost use Rattle.pm_deviation.specs.Normals.{direction_of};
-ghost use Rattle.pm_deviation.specs.Tables.{IsUnitBox, is_axis, AreFaceBoxes, AreOwnSpreads};
-ghost use Rattle.pm_deviation.specs.Tables.{AreSpreads};
+ghost use Rattle.pm_deviation.specs.Tables.{IsUnitBox, IsHeading, is_axis, AreHeadings, AreOwn};
+ghost use Rattle.pm_deviation.specs.Tables.{AreOfNodes, AreJoined, HaveSpreads, leaves_of};
+ghost use Rattle.pm_deviation.specs.Tables.{heading_along, spread_among};
 
 use crate::OutOfMemory;
 use crate::axes::Axis;
+use crate::heading::Heading;
 use crate::nodes::nodes_of;
 use crate::spread::{Spread, join};
 use crate::unit_box::UnitBox;
-use pm_base::{FaceId, NodeId};
-use pm_forest::{Face, Hierarchy};
+use pm_forest::Hierarchy;
 use std::alloc::Global;
 
 // A sum of three parts in 32 bits.
@@ -43,33 +43,19 @@ fn box_along(parts: &UnitBox, axis: Axis) -> Spread
     }
 }
 
-// What a face's normal has along an axis.
-fn face_along(boxes: &[Option<UnitBox>], f: FaceId, axis: Axis) -> Option<Spread>
-    requires face { f.0 < length boxes.now }
+// What a heading has along an axis.
+fn heading_along(heading: &Heading, axis: Axis) -> Option<Spread>
     requires axis { is_axis axis ≡ true }
-    requires small { IfSome (slice_index_or boxes.now f.0 None) IsUnitBox }
-    ensures { result ≡ option_map (λ b. along b (direction_of axis))
-        (slice_index_or boxes.now f.0 None) }
+    requires small { IfSome heading.now.parts IsUnitBox }
+    ensures { result ≡ heading_along axis heading.now }
 {
-    match &boxes[f.0 as usize] {
+    match &heading.parts {
         Some(parts) => Some(box_along(parts, axis)),
         None => None,
     }
 }
 
-// A face, whose corners are leaves.
-fn corner_leaves(h: &Hierarchy, f: FaceId) -> Face
-    requires { f.0 < face_count h.now }
-    ensures corners { result ≡ corners_of h.now f.0 }
-    ensures a_leaf { result.a < leaf_count h.now }
-    ensures b_leaf { result.b < leaf_count h.now }
-    ensures c_leaf { result.c < leaf_count h.now }
-{
-    h.invariant();
-    h.face_at(f)
-}
-
-// Takes what a face has into the spread of a leaf's node.
+// Takes what a heading has into the spread of a leaf's node.
 fn widen(h: &Hierarchy, table: &mut Vec<Option<Spread>>, leaf: u32, part: Option<Spread>)
     requires leaf { leaf < leaf_count h.now }
     requires len { length table.old.items ≡ node_count h.now }
@@ -83,35 +69,36 @@ fn widen(h: &Hierarchy, table: &mut Vec<Option<Spread>>, leaf: u32, part: Option
     table[node] = join(table[node], part);
 }
 
-// Takes what a face has into the spreads of the nodes of its corners.
-fn widen_corners(h: &Hierarchy, table: &mut Vec<Option<Spread>>, f: FaceId, part: Option<Spread>)
-    requires face { f.0 < face_count h.now }
+// Takes what a heading has into the spreads of the nodes of its leaves.
+fn widen_leaves(h: &Hierarchy, table: &mut Vec<Option<Spread>>, heading: &Heading, axis: Axis)
+    requires heading { IsHeading h.now heading.now }
+    requires axis { is_axis axis ≡ true }
     requires len { length table.old.items ≡ node_count h.now }
     ensures len { length table.new.items ≡ node_count h.now }
     ensures wider { (l : ℕ) → l < leaf_count h.now
         → let old = slice_index_or table.old.items (leaf_node_of h.now l) None in
         slice_index_or table.new.items (leaf_node_of h.now l) None
-        ≡ cond (is_leaf_corner l (corners_of h.now f.0)) (join old part) old }
+        ≡ cond (is_leaf_corner l (leaves_of heading.now))
+        (join old (heading_along axis heading.now)) old }
 {
     h.invariant();
-    let face = corner_leaves(h, f);
-    widen(h, table, face.a, part);
-    widen(h, table, face.b, part);
-    widen(h, table, face.c, part);
+    let part = heading_along(heading, axis);
+    widen(h, table, heading.a, part);
+    widen(h, table, heading.b, part);
+    widen(h, table, heading.c, part);
 }
 
 // Gives each node that no record splits its spread.
-fn see_faces(h: &Hierarchy, boxes: &[Option<UnitBox>], axis: Axis, table: &mut Vec<Option<Spread>>)
-    requires boxes { AreFaceBoxes h.now (face_count h.now) boxes.now }
+fn see(h: &Hierarchy, headings: &[Heading], axis: Axis, table: &mut Vec<Option<Spread>>)
+    requires headings { AreHeadings h.now headings.now }
     requires axis { is_axis axis ≡ true }
     requires missing { table.old.items ≡ replicate (node_count h.now) None }
     ensures len { length table.new.items ≡ node_count h.now }
-    ensures own { AreOwnSpreads h.now axis table.new.items }
+    ensures own { AreOwn h.now None (spread_among h.now headings.now axis) table.new.items }
 {
     h.invariant();
-    for f in 0..h.faces() {
-        let part = face_along(boxes, FaceId(f), axis);
-        widen_corners(h, table, FaceId(f), part);
+    for i in 0..headings.len() {
+        widen_leaves(h, table, &headings[i], axis);
     }
 }
 
@@ -129,8 +116,8 @@ fn joined_children(h: &Hierarchy, table: &[Option<Spread>], k: u32) -> Option<Sp
 // Gives all nodes their spreads, where those that no record splits have theirs.
 fn grow(h: &Hierarchy, table: &mut Vec<Option<Spread>>)
     requires { length table.old.items ≡ node_count h.now }
-    ensures { (u : Axis) → AreOwnSpreads h.now u table.old.items
-        → AreSpreads h.now u table.new.items }
+    ensures { (value : ℕ → Option Spread) → AreJoined h.now value
+        → AreOwn h.now None value table.old.items → AreOfNodes h.now None value table.new.items }
 {
     h.invariant();
     for k in (0..h.records()).rev() {
@@ -148,19 +135,22 @@ fn missing(alloc: Global, nodes: usize) -> Result<Vec<Option<Spread>>, OutOfMemo
     vec![in alloc; None; nodes]
 }
 
-/// What the normals under each node have along an axis, 12 bytes a node.
+/// What the headings under each node have along an axis, 12 bytes a node.
 pub(crate) fn axis_spreads(
     alloc: Global,
     h: &Hierarchy,
-    boxes: &[Option<UnitBox>],
+    headings: &[Heading],
     axis: Axis,
 ) -> Result<Vec<Option<Spread>>, OutOfMemory>
-    requires boxes { AreFaceBoxes h.now (face_count h.now) boxes.now }
+    requires headings { AreHeadings h.now headings.now }
     requires axis { is_axis axis ≡ true }
-    ensures { IfOk result (λ table. AreSpreads h.now axis table.items) }
+    ensures { IfOk result (λ table. (spread : Axis → ℕ → Option Spread)
+        → HaveSpreads h.now spread headings.now
+        → AreOfNodes h.now None (spread axis) table.items) }
 {
+    h.invariant();
     let mut table = missing(alloc, h.nodes() as usize)?;
-    see_faces(h, boxes, axis, &mut table);
+    see(h, headings, axis, &mut table);
     grow(h, &mut table);
     Ok(table)
 }

@@ -1,17 +1,21 @@
-//! Which nodes are at the border of the leaf mesh.
-ghost use Rattle.std.specs.Prelude.{◌≡◌, ◌<◌, ◌||◌, false, IfOk, replicate, length};
-ghost use Rattle.std.specs.Prelude.{slice_index_or};
+//! The headings of the border of the leaf mesh: its sides without a twin.
+ghost use Rattle.std.specs.Prelude.{◌≡◌, ◌<◌, ◌*◌, IfOk, IfSome, length};
 ghost use Rattle.pm_base.specs.Meshes.{mesh_of, IsWellFormed};
 ghost use Rattle.pm_base.specs.Sides.{net_of, NoSideTwice};
 ghost use Rattle.pm_twins.specs.Table.{IsTableOf};
-ghost use Rattle.pm_forest.specs.Forest.{node_count, leaf_count, record_count, t_of};
-ghost use Rattle.pm_forest.specs.Forest.{u_of};
+ghost use Rattle.pm_forest.specs.Forest.{leaf_count};
+ghost use Rattle.pm_forest.specs.Faces.{face_count, from_leaf, to_leaf};
 ghost use Rattle.pm_beyond.specs.Walks.{leaf_net};
-ghost use Rattle.pm_deviation.specs.Tables.{AreBorders, AreOwnBorders};
+ghost use Rattle.pm_deviation.specs.Normals.{unit_box};
+ghost use Rattle.pm_deviation.specs.Lines.{side_way, line_spread_of};
+ghost use Rattle.pm_deviation.specs.Tables.{IsHeading, AreHeadings, HaveSpreads};
 
 use crate::OutOfMemory;
-use crate::nodes::nodes_of;
-use pm_base::Mesh;
+use crate::heading::Heading;
+use crate::leaves::{leaf_point, side_leaves};
+use crate::parts::unit_box;
+use crate::way::Way;
+use pm_base::{Mesh, Side};
 use pm_forest::Hierarchy;
 use pm_twins::{Twins, TwinsFail};
 use std::alloc::{AllocError, Global};
@@ -38,62 +42,38 @@ fn leaf_twins(alloc: Global, h: &Hierarchy) -> Result<Twins, OutOfMemory>
     twins_of(alloc, &mesh)
 }
 
-// As many flags as there are nodes, none of them set. The length is a parameter, so that no proof
-// unfolds the list.
-fn no_flags(alloc: Global, nodes: usize) -> Result<Vec<bool>, OutOfMemory>
-    ensures { IfOk result (λ flags. flags.items ≡ replicate nodes false) }
+// The heading of a side: its direction.
+fn side_heading(h: &Hierarchy, side: Side) -> Heading
+    requires { side.0 < 3 * face_count h.now }
+    ensures is { IsHeading h.now result }
+    ensures from { result.a ≡ from_leaf h.now side.0 }
+    ensures to { result.b ≡ to_leaf h.now side.0 }
+    ensures twice { result.c ≡ to_leaf h.now side.0 }
+    ensures parts { result.parts ≡ unit_box (side_way h.now side.0) }
 {
-    vec![in alloc; false; nodes]
-}
-
-// Gives each node that no record splits its flag.
-fn mark_leaves(h: &Hierarchy, twins: &Twins, flags: &mut Vec<bool>)
-    requires twins { IsTableOf (leaf_net h.now) (leaf_count h.now) twins.now }
-    requires len { length flags.old.items ≡ node_count h.now }
-    ensures len { length flags.new.items ≡ node_count h.now }
-    ensures own { AreOwnBorders h.now flags.new.items }
-{
-    h.invariant();
-    for leaf in 0..h.leaves() {
-        let node = h.leaf_node(leaf);
-        flags[node.0 as usize] = twins.is_border(leaf);
+    let (from, to) = side_leaves(h, side);
+    let direction = Way::to(leaf_point(h, to), leaf_point(h, from));
+    Heading {
+        a: from,
+        b: to,
+        c: to,
+        parts: unit_box(direction.x, direction.y, direction.z),
     }
 }
 
-// Whether one of the two children of record `k` is at the border.
-fn is_child_at_border(h: &Hierarchy, flags: &[bool], k: u32) -> bool
-    requires record { k < record_count h.now }
-    requires len { length flags.now ≡ node_count h.now }
-    ensures { result
-        ≡ (slice_index_or flags.now (t_of h.now k) false || slice_index_or flags.now (u_of h.now k)
-        false) }
-{
-    let nodes = nodes_of(h, k);
-    flags[nodes.t.0 as usize] || flags[nodes.u.0 as usize]
-}
-
-// Gives all nodes their flags, where those that no record splits have theirs.
-fn mark_nodes(h: &Hierarchy, flags: &mut Vec<bool>)
-    requires len { length flags.old.items ≡ node_count h.now }
-    requires own { AreOwnBorders h.now flags.old.items }
-    ensures { AreBorders h.now flags.new.items }
-{
-    h.invariant();
-    for k in (0..h.records()).rev() {
-        let node = nodes_of(h, k).s.0 as usize;
-        let flag = is_child_at_border(h, flags, k);
-        flags[node] = flag;
-    }
-}
-
-/// Whether each node is at the border of the leaf mesh, a byte a node.
-pub(crate) fn borders(alloc: Global, h: &Hierarchy) -> Result<Vec<bool>, OutOfMemory>
+/// The headings of the border sides, 40 bytes a side.
+pub(crate) fn border_headings(alloc: Global, h: &Hierarchy) -> Result<Vec<Heading>, OutOfMemory>
     requires { NoSideTwice (leaf_net h.now) }
-    ensures { IfOk result (λ flags. AreBorders h.now flags.items) }
+    ensures are { IfOk result (λ headings. AreHeadings h.now headings.items) }
+    ensures spreads { IfOk result (λ headings.
+        HaveSpreads h.now (line_spread_of h.now) headings.items) }
 {
     let twins = leaf_twins(alloc, h)?;
-    let mut flags = no_flags(alloc, h.nodes() as usize)?;
-    mark_leaves(h, &twins, &mut flags);
-    mark_nodes(h, &mut flags);
-    Ok(flags)
+    let mut headings = Vec::new(alloc);
+    for side in 0..3 * h.faces() {
+        if twins.twin(Side(side)).is_none() {
+            headings.push(side_heading(h, Side(side)))?;
+        }
+    }
+    Ok(headings)
 }

@@ -1,17 +1,18 @@
-//! How steeply the faces under each node stand to the axis that they look along most alike.
-ghost use Rattle.std.specs.Prelude.{◌≡◌, ℕ, ◌<◌, ◌≤◌, true, None, max, IfOk, IfSome, replicate};
-ghost use Rattle.std.specs.Prelude.{length, slice_index_or, unsigned_abs};
+//! How steeply the headings under each node stand to the axis that they go along most alike.
+ghost use Rattle.std.specs.Prelude.{◌≡◌, ℕ, ◌<◌, ◌≤◌, true, Option, None, max, IfOk, IfSome};
+ghost use Rattle.std.specs.Prelude.{replicate, length, slice_index_or, unsigned_abs};
 ghost use Rattle.pm_forest.specs.Forest.{node_count};
-ghost use Rattle.pm_forest.specs.Faces.{face_count};
+ghost use Rattle.pm_deviation.specs.declared.axes.Axis.{Axis};
+ghost use Rattle.pm_deviation.specs.declared.spread.Spread.{Spread};
 ghost use Rattle.pm_deviation.specs.Normals.{above_zero, length_of, least_cosine, cosine_by};
-ghost use Rattle.pm_deviation.specs.Normals.{cosine_along};
-ghost use Rattle.pm_deviation.specs.Tables.{IsSum, is_axis, AreFaceBoxes, AreSpreads, AreCosines};
+ghost use Rattle.pm_deviation.specs.Normals.{greatest_cosine};
+ghost use Rattle.pm_deviation.specs.Tables.{IsSum, is_axis, AreHeadings, HaveSpreads, AreOfNodes};
 
 use crate::OutOfMemory;
 use crate::axes::{AXES, Axis, axis_at};
 use crate::axis_spreads::axis_spreads;
+use crate::heading::Heading;
 use crate::spread::Spread;
-use crate::unit_box::UnitBox;
 use pm_forest::Hierarchy;
 use std::alloc::Global;
 
@@ -62,11 +63,14 @@ fn cosine_by(axis: Axis, spread: Option<Spread>) -> u32
 // Lets the cosine of each node be at least the one along an axis.
 fn raise(h: &Hierarchy, cosines: &mut Vec<u32>, spreads: &[Option<Spread>], axis: Axis)
     requires axis { is_axis axis ≡ true }
-    requires spreads { AreSpreads h.now axis spreads.now }
+    requires nodes { length spreads.now ≡ node_count h.now }
+    requires small { (v : ℕ) → v < node_count h.now
+        → IfSome (slice_index_or spreads.now v None) IsSum }
     requires len { length cosines.old.items ≡ node_count h.now }
     ensures len { length cosines.new.items ≡ node_count h.now }
     ensures raised { (v : ℕ) → v < node_count h.now → slice_index_or cosines.new.items v 0
-        ≡ max (slice_index_or cosines.old.items v 0) (cosine_along h.now v axis) }
+        ≡ max (slice_index_or cosines.old.items v 0)
+        (cosine_by axis (slice_index_or spreads.now v None)) }
 {
     for v in 0..h.nodes() {
         let at = v as usize;
@@ -81,20 +85,22 @@ fn zeros(alloc: Global, nodes: usize) -> Result<Vec<u32>, OutOfMemory>
     vec![in alloc; 0; nodes]
 }
 
-/// For each node the least cosine, in 16,384ths, of the axis that the faces under it look along
-/// most alike with their normals: 4 bytes a node, and 12 more while an axis is gone through.
+/// For each node the least cosine, in 16,384ths, of the axis that the headings under it go along
+/// most alike with them: 4 bytes a node, and 12 more while an axis is gone through.
 pub(crate) fn cosines(
     alloc: Global,
     h: &Hierarchy,
-    boxes: &[Option<UnitBox>],
+    headings: &[Heading],
 ) -> Result<Vec<u32>, OutOfMemory>
-    requires { AreFaceBoxes h.now (face_count h.now) boxes.now }
-    ensures { IfOk result (λ table. AreCosines h.now table.items) }
+    requires { AreHeadings h.now headings.now }
+    ensures { IfOk result (λ table. (spread : Axis → ℕ → Option Spread)
+        → HaveSpreads h.now spread headings.now
+        → AreOfNodes h.now 0 (λ v. greatest_cosine (λ u. spread u v)) table.items) }
 {
     let mut cosines = zeros(alloc, h.nodes() as usize)?;
     for i in 0..AXES.len() {
         let axis = axis_at(i);
-        let spreads = axis_spreads(alloc, h, boxes, axis)?;
+        let spreads = axis_spreads(alloc, h, headings, axis)?;
         raise(h, &mut cosines, &spreads, axis);
     }
     Ok(cosines)

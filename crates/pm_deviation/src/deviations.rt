@@ -1,85 +1,129 @@
 //! The deviations of all nodes.
-ghost use Rattle.std.specs.Prelude.{◌≡◌, ◌||◌, ◌==◌, ◌*◌, ◌^◌, ◌<◌, ◌≤◌, min, if◌then◌else◌, IfOk};
-ghost use Rattle.std.specs.Int.{div_ceil};
+ghost use Rattle.std.specs.Prelude.{◌≡◌, ◌||◌, ◌==◌, ◌^◌, ◌<◌, ◌≤◌, min, max, if◌then◌else◌, IfOk};
+ghost use Rattle.std.specs.Prelude.{length, slice_index_or};
 ghost use Rattle.pm_base.specs.Sides.{NoSideTwice};
 ghost use Rattle.pm_forest.specs.Forest.{node_count};
 ghost use Rattle.pm_beyond.specs.Walks.{leaf_net};
 ghost use Rattle.pm_bounds.specs.Bounds.{AreBoundsOf};
-ghost use Rattle.pm_deviation.specs.Deviations.{deviation_of, AreDeviationsOf, AreDeviationLists};
-ghost use Rattle.pm_deviation.specs.Tables.{AreBorders, AreCosines, ArePlaneDeviations};
+ghost use Rattle.pm_deviation.specs.Normals.{cosine_of};
+ghost use Rattle.pm_deviation.specs.Lines.{line_cosine_of};
+ghost use Rattle.pm_deviation.specs.Deviations.{tilted, deviation_of, AreDeviationsOf};
+ghost use Rattle.pm_deviation.specs.Deviations.{AreDeviationLists};
+ghost use Rattle.pm_deviation.specs.Tables.{AreOfNodes, ArePlaneDeviations, AreLineDeviations};
 
 use crate::OutOfMemory;
-use crate::border::borders;
+use crate::border::border_headings;
 use crate::cosines::cosines;
-use crate::face_boxes::face_boxes;
+use crate::face_headings::face_headings;
+use crate::lines::line_deviations;
 use crate::planes::plane_deviations;
 use pm_base::NodeId;
 use pm_bounds::Bounds;
 use pm_forest::Hierarchy;
 use std::alloc::Global;
 
-// The deviation of a node with this error, this plane deviation and this cosine.
-fn deviation(error: u64, planes: u64, cosine: u32, is_at_border: bool) -> u64
-    requires planes { planes ≤ error }
-    requires small { error < 2 ^ 38 }
-    ensures value { result ≡ (if is_at_border || cosine == 0 then error
-        else min error (div_ceil (16384 * planes) cosine)) }
-    ensures small { result < 2 ^ 38 }
-{
-    if is_at_border || cosine == 0 {
-        error
-    } else {
-        error.min((16_384 * planes).div_ceil(u64::from(cosine)))
+// A distance from planes or lines, and their least cosine with an axis.
+#[derive(Clone, Copy)]
+struct Tilt {
+    distance: u64,
+    cosine: u32,
+}
+
+impl Tilt {
+    // The distance measured along the axis.
+    fn tilted(self) -> u64
+        requires some { 0 < self.cosine }
+        requires small { self.distance < 2 ^ 38 }
+        ensures { result ≡ tilted self.distance self.cosine }
+    {
+        (16_384 * self.distance).div_ceil(u64::from(self.cosine))
     }
 }
 
-// What the deviations of nodes are found from: which are at the border, their cosines and their
-// plane deviations.
-#[derive(Drop)]
-struct Found {
-    borders: Vec<bool>,
-    cosines: Vec<u32>,
-    planes: Vec<u64>,
+// The deviation of a node with this error, so far from planes and from lines.
+fn deviation(error: u64, planes: Tilt, lines: Tilt) -> u64
+    requires planes { planes.distance ≤ error }
+    requires lines { lines.distance ≤ error }
+    requires small { error < 2 ^ 38 }
+    ensures value { result ≡ (if planes.cosine == 0 || lines.cosine == 0 then error
+        else min error
+        (max (tilted planes.distance planes.cosine) (tilted lines.distance lines.cosine))) }
+    ensures small { result < 2 ^ 38 }
+{
+    if planes.cosine == 0 || lines.cosine == 0 {
+        error
+    } else {
+        error.min(planes.tilted().max(lines.tilted()))
+    }
 }
 
-// All of it.
-fn find(alloc: Global, h: &Hierarchy, bounds: &Bounds) -> Result<Found, OutOfMemory>
-    requires bounds { AreBoundsOf h.now bounds.now }
-    requires once { NoSideTwice (leaf_net h.now) }
-    ensures borders { IfOk result (λ f. AreBorders h.now f.borders.items) }
-    ensures cosines { IfOk result (λ f. AreCosines h.now f.cosines.items) }
-    ensures planes { IfOk result (λ f. ArePlaneDeviations h.now f.planes.items) }
+// How far the place of each node may be from planes or lines, and their cosines.
+#[derive(Drop)]
+struct Tilts {
+    distances: Vec<u64>,
+    cosines: Vec<u32>,
+}
+
+impl Tilts {
+    // Those of a node.
+    fn of(&self, node: NodeId) -> Tilt
+        requires distances { node.0 < length self.now.distances.items }
+        requires cosines { node.0 < length self.now.cosines.items }
+        ensures distance { result.distance ≡ slice_index_or self.now.distances.items node.0 0 }
+        ensures cosine { result.cosine ≡ slice_index_or self.now.cosines.items node.0 0 }
+    {
+        let at = node.0 as usize;
+        Tilt {
+            distance: self.distances[at],
+            cosine: self.cosines[at],
+        }
+    }
+}
+
+// Those from the planes of faces.
+fn from_planes(alloc: Global, h: &Hierarchy) -> Result<Tilts, OutOfMemory>
+    ensures distances { IfOk result (λ t. ArePlaneDeviations h.now t.distances.items) }
+    ensures cosines { IfOk result (λ t. AreOfNodes h.now 0 (cosine_of h.now) t.cosines.items) }
 {
-    let borders = borders(alloc, h)?;
-    let boxes = face_boxes(alloc, h)?;
-    let cosines = cosines(alloc, h, &boxes)?;
-    let planes = plane_deviations(alloc, h, bounds, &borders, &boxes)?;
-    Ok(Found {
-        borders,
-        cosines,
-        planes,
-    })
+    let headings = face_headings(alloc, h)?;
+    let cosines = cosines(alloc, h, &headings)?;
+    let distances = plane_deviations(alloc, h, &headings)?;
+    Ok(Tilts { distances, cosines })
+}
+
+// Those from the lines of border sides.
+fn from_lines(alloc: Global, h: &Hierarchy) -> Result<Tilts, OutOfMemory>
+    requires { NoSideTwice (leaf_net h.now) }
+    ensures distances { IfOk result (λ t. AreLineDeviations h.now t.distances.items) }
+    ensures cosines { IfOk result (λ t. AreOfNodes h.now 0 (line_cosine_of h.now)
+        t.cosines.items) }
+{
+    let headings = border_headings(alloc, h)?;
+    let cosines = cosines(alloc, h, &headings)?;
+    let distances = line_deviations(alloc, h, &headings)?;
+    Ok(Tilts { distances, cosines })
 }
 
 // The deviation of one node.
-fn node_deviation(h: &Hierarchy, bounds: &Bounds, found: &Found, node: NodeId) -> u64
+fn node_deviation(
+    h: &Hierarchy,
+    bounds: &Bounds,
+    planes: &Tilts,
+    lines: &Tilts,
+    node: NodeId,
+) -> u64
     requires node { node.0 < node_count h.now }
     requires bounds { AreBoundsOf h.now bounds.now }
-    requires borders { AreBorders h.now found.now.borders.items }
-    requires cosines { AreCosines h.now found.now.cosines.items }
-    requires planes { ArePlaneDeviations h.now found.now.planes.items }
+    requires planes { ArePlaneDeviations h.now planes.now.distances.items }
+    requires lines { AreLineDeviations h.now lines.now.distances.items }
+    requires cosines { AreOfNodes h.now 0 (cosine_of h.now) planes.now.cosines.items }
+    requires line_cosines { AreOfNodes h.now 0 (line_cosine_of h.now) lines.now.cosines.items }
     ensures value { result ≡ deviation_of h.now node.0 }
     ensures small { result < 2 ^ 38 }
 {
     h.invariant();
-    let at = node.0 as usize;
     let error = bounds.error(node);
-    deviation(
-        error,
-        found.planes[at],
-        found.cosines[at],
-        found.borders[at],
-    )
+    deviation(error, planes.of(node), lines.of(node))
 }
 
 /// The deviation of each node.
@@ -93,10 +137,11 @@ pub(crate) fn deviations(
     ensures are { IfOk result (λ ds. AreDeviationsOf h.now ds.items) }
     ensures lists { IfOk result (λ ds. AreDeviationLists (node_count h.now) ds.items) }
 {
-    let found = find(alloc, h, bounds)?;
+    let planes = from_planes(alloc, h)?;
+    let lines = from_lines(alloc, h)?;
     let mut deviations = Vec::with_capacity(alloc, h.nodes() as usize)?;
     for node in 0..h.nodes() {
-        deviations.push(node_deviation(h, bounds, &found, NodeId(node)))?;
+        deviations.push(node_deviation(h, bounds, &planes, &lines, NodeId(node)))?;
     }
     Ok(deviations)
 }

@@ -1,5 +1,5 @@
 //! A second number of each node, by which a view can judge it: its deviation, which knows flat
-//! ground.
+//! ground and straight borders.
 #![tactic(auto)]
 
 mod axes;
@@ -7,9 +7,14 @@ mod axis_spreads;
 mod border;
 mod cosines;
 mod deviations;
-mod face_boxes;
+mod face_headings;
+mod farthest;
+mod heading;
+mod leaves;
+mod lines;
 mod measures;
 mod nodes;
+mod parts;
 mod planes;
 mod roots;
 mod space_spreads;
@@ -17,6 +22,8 @@ mod spread;
 mod steps;
 mod theory;
 mod unit_box;
+mod upward;
+mod way;
 
 pub use measures::Measures;
 pub use theory::deviations_are_sound;

@@ -1,13 +1,15 @@
-//! What the normals under each node have along the three axes of space.
-ghost use Rattle.std.specs.Prelude.{◌≡◌, ◌<◌, IfOk};
+//! What the headings under each node have along the three axes of space.
+ghost use Rattle.std.specs.Prelude.{◌≡◌, ◌<◌, ℕ, length, Option, IfOk};
 ghost use Rattle.pm_forest.specs.Forest.{Hierarchy, node_count};
-ghost use Rattle.pm_forest.specs.Faces.{face_count};
-ghost use Rattle.pm_deviation.specs.Normals.{unit_box_of};
-ghost use Rattle.pm_deviation.specs.Tables.{IsSum, AreFaceBoxes, AreSpaceSpreads};
+ghost use Rattle.pm_deviation.specs.declared.axes.Axis.{Axis};
+ghost use Rattle.pm_deviation.specs.declared.spread.Spread.{Spread};
+ghost use Rattle.pm_deviation.specs.Normals.{box_by};
+ghost use Rattle.pm_deviation.specs.Tables.{AreHeadings, HaveSpreads, AreSpaceSpreads};
 
 use crate::OutOfMemory;
 use crate::axes::Axis;
 use crate::axis_spreads::axis_spreads;
+use crate::heading::Heading;
 use crate::spread::{Spread, or_none};
 use crate::unit_box::UnitBox;
 use pm_base::NodeId;
@@ -23,32 +25,32 @@ pub struct SpaceSpreads {
 }
 
 impl SpaceSpreads {
-    /// Those of the faces with these normals.
+    /// Those of headings.
     pub(crate) fn of(
         alloc: Global,
         h: &Hierarchy,
-        boxes: &[Option<UnitBox>],
+        headings: &[Heading],
     ) -> Result<SpaceSpreads, OutOfMemory>
-        requires { AreFaceBoxes h.now (face_count h.now) boxes.now }
-        ensures { IfOk result (λ s. AreSpaceSpreads h.now s.x.items s.y.items s.z.items) }
+        requires { AreHeadings h.now headings.now }
+        ensures { IfOk result (λ s. (spread : Axis → ℕ → Option Spread)
+            → HaveSpreads h.now spread headings.now
+            → AreSpaceSpreads h.now spread s.x.items s.y.items s.z.items) }
     {
-        let x = axis_spreads(alloc, h, boxes, Axis { x: 1, y: 0, z: 0 })?;
-        let y = axis_spreads(alloc, h, boxes, Axis { x: 0, y: 1, z: 0 })?;
-        let z = axis_spreads(alloc, h, boxes, Axis { x: 0, y: 0, z: 1 })?;
+        let x = axis_spreads(alloc, h, headings, Axis { x: 1, y: 0, z: 0 })?;
+        let y = axis_spreads(alloc, h, headings, Axis { x: 0, y: 1, z: 0 })?;
+        let z = axis_spreads(alloc, h, headings, Axis { x: 0, y: 0, z: 1 })?;
         Ok(SpaceSpreads { x, y, z })
     }
 
-    /// The box of the normals under a node.
-    pub(crate) fn under(&self, h: &Hierarchy, node: NodeId) -> UnitBox
-        requires spreads { AreSpaceSpreads h.now self.now.x.items self.now.y.items
-            self.now.z.items }
-        requires node { node.0 < node_count h.now }
-        ensures value { result ≡ unit_box_of h.now node.0 }
-        ensures x_small { IsSum result.x }
-        ensures y_small { IsSum result.y }
-        ensures z_small { IsSum result.z }
+    /// The box of the headings under a node.
+    pub(crate) fn under(&self, node: NodeId) -> UnitBox
+        requires x { node.0 < length self.now.x.items }
+        requires y { node.0 < length self.now.y.items }
+        requires z { node.0 < length self.now.z.items }
+        ensures { (h : Hierarchy) (spread : Axis → ℕ → Option Spread)
+            → AreSpaceSpreads h spread self.now.x.items self.now.y.items self.now.z.items
+            → result ≡ box_by (λ u. spread u node.0) }
     {
-        h.invariant();
         let at = node.0 as usize;
         UnitBox {
             x: or_none(self.x[at]),

@@ -6,7 +6,8 @@ ghost use Rattle.pm_deviation.specs.Laws.{
   PlanesAreNear,
   TrianglesStayNear,
   LinesMeetNear,
-  BordersAreErrors,
+  BorderLinesAreNear,
+  DeviationsAreAboveDistances,
 };
 
 /// States the laws of deviations, which hold for every hierarchy of the right shape: that they grow
@@ -19,5 +20,6 @@ pub fn deviations_are_sound()
     ensures planes { PlanesAreNear }
     ensures triangles { TrianglesStayNear }
     ensures lines { LinesMeetNear }
-    ensures borders { BordersAreErrors }
+    ensures border_lines { BorderLinesAreNear }
+    ensures above { DeviationsAreAboveDistances }
 {}

@@ -1,5 +1,5 @@
 //! Boxes of normals in parts of their own lengths.
-ghost use Rattle.std.specs.Prelude.{◌≡◌, ◌≤◌, ◌+◌, ◌*◌, ◌^◌, ◌+ℤ◌, ◌*ℤ◌, unsigned_abs};
+ghost use Rattle.std.specs.Prelude.{◌≡◌, ◌≤◌, ◌+ℤ◌, ◌*ℤ◌, unsigned_abs};
 ghost use Rattle.pm_deviation.specs.Spreads.{along, times};
 ghost use Rattle.pm_deviation.specs.Tables.{IsSum};
 
@@ -18,7 +18,7 @@ fn product(a: i32, m: i64) -> i64
     requires a_small { unsigned_abs a ≤ 49152 }
     requires m_small { unsigned_abs m ≤ 65534 }
     ensures value { result ≡ a *ℤ m }
-    ensures small { unsigned_abs result ≤ 2 ^ 32 }
+    ensures small { unsigned_abs result ≤ 3221127168 }
 {
     i64::from(a) * m
 }
@@ -29,8 +29,8 @@ fn times(s: &Spread, m: i64) -> (i64, i64)
     requires m_small { unsigned_abs m ≤ 65534 }
     ensures low { result.0 ≡ (times s.now m).low }
     ensures high { result.1 ≡ (times s.now m).high }
-    ensures low_small { unsigned_abs result.0 ≤ 2 ^ 32 }
-    ensures high_small { unsigned_abs result.1 ≤ 2 ^ 32 }
+    ensures low_small { unsigned_abs result.0 ≤ 3221127168 }
+    ensures high_small { unsigned_abs result.1 ≤ 3221127168 }
 {
     let first = product(s.low, m);
     let second = product(s.high, m);
@@ -38,11 +38,11 @@ fn times(s: &Spread, m: i64) -> (i64, i64)
 }
 
 fn add_three(a: i64, b: i64, c: i64) -> i64
-    requires a_small { unsigned_abs a ≤ 2 ^ 32 }
-    requires b_small { unsigned_abs b ≤ 2 ^ 32 }
-    requires c_small { unsigned_abs c ≤ 2 ^ 32 }
+    requires a_small { unsigned_abs a ≤ 3221127168 }
+    requires b_small { unsigned_abs b ≤ 3221127168 }
+    requires c_small { unsigned_abs c ≤ 3221127168 }
     ensures value { result ≡ a +ℤ b +ℤ c }
-    ensures small { unsigned_abs result ≤ 3 * 2 ^ 32 }
+    ensures small { unsigned_abs result ≤ 9663381504 }
 {
     a + b + c
 }
@@ -59,8 +59,8 @@ impl UnitBox {
         requires dz_small { unsigned_abs z ≤ 65534 }
         ensures low { result.0 ≡ (along self.now (record { x = x; y = y; z = z })).low }
         ensures high { result.1 ≡ (along self.now (record { x = x; y = y; z = z })).high }
-        ensures low_small { unsigned_abs result.0 ≤ 3 * 2 ^ 32 }
-        ensures high_small { unsigned_abs result.1 ≤ 3 * 2 ^ 32 }
+        ensures low_small { unsigned_abs result.0 ≤ 9663381504 }
+        ensures high_small { unsigned_abs result.1 ≤ 9663381504 }
     {
         let (low_x, high_x) = times(&self.x, x);
         let (low_y, high_y) = times(&self.y, y);

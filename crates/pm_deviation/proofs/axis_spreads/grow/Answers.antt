@@ -1,9 +1,7 @@
 use Rattle.std.proofs.Common.{◌≡◌, suc, ◌<◌, ◌-◌, None, get_or, set, length-set, ap, ◌∙◌, subst}
 use Rattle.std.proofs.Common.{sym, arith}
 use Rattle.pm_forest.specs.Forest.{record_count, t_of, u_of}
-use Rattle.pm_deviation.specs.Normals.{spread_of}
 use Rattle.pm_deviation.specs.Spreads.{join}
-use Rattle.pm_deviation.proofs.Children.{spread-split}
 use Rattle.pm_deviation.proofs.NodeTables.{AreFoundFrom, found_start, found_child, found_step}
 use Rattle.pm_deviation.proofs.NodeTables.{found_all}
 use Rattle.pm_deviation.proofs.axis_spreads.grow.Goals as goal
@@ -13,9 +11,9 @@ loop-k-init c =
     let h = c.args.h.now in
     record {
       len = c.requires;
-      found = λ u own. subst (AreFoundFrom h None (spread_of h u) c.args.table.now.items)
+      found = λ value joins own. subst (AreFoundFrom h None value c.args.table.now.items)
           (sym c.records-k.ensures.value)
-          (found_start h c.invariant.ensures None (spread_of h u) c.args.table.now.items c.requires
+          (found_start h c.invariant.ensures None value c.args.table.now.items c.requires
           own);
     }
 
@@ -31,10 +29,9 @@ loop-k-preserved c =
     let was = c.loop-k.invariant in
     record {
       len = length-set old c.nodes_of-node.result.s.0 x ∙ was.len;
-      found = λ u own.
-          let value = spread_of h u in
+      found = λ value joins own.
           let found : AreFoundFrom h None value old (suc k) =
-          subst (AreFoundFrom h None value old) at (was.found u own) in
+          subst (AreFoundFrom h None value old) at (was.found value joins own) in
           let t = found_child h c.invariant.ensures None value old k (t_of h k) below (omega arith)
           nodes.t_node found in
           let v = found_child h c.invariant.ensures None value old k (u_of h k) below (omega arith)
@@ -45,13 +42,13 @@ loop-k-preserved c =
           c.deref.ensures.value in
           subst (λ s. AreFoundFrom h None value (set old s x) k) (sym nodes.s)
           (found_step h c.invariant.ensures None value old k x below found
-          (joined ∙ (rw (t, v) (sym (spread-split h c.invariant.ensures u k below)))));
+          (joined ∙ (rw (t, v) (sym (joins k below)))));
     }
 
 pub returns : goal.returns
-returns c u own =
+returns c value joins own =
     let h = c.args.h.now in
     let none : c.loop-k.k ≡ 0 = omega (arith, c.loop-k-test.false) in
-    found_all h c.invariant.ensures None (spread_of h u) c.loop-k.table.items
-    (subst (AreFoundFrom h None (spread_of h u) c.loop-k.table.items) none
-    (c.loop-k.invariant.found u own))
+    found_all h c.invariant.ensures None value c.loop-k.table.items
+    (subst (AreFoundFrom h None value c.loop-k.table.items) none
+    (c.loop-k.invariant.found value joins own))

@@ -30,20 +30,20 @@ loop-node-preserved c =
       small = λ v l. (all v l).1;
     }
 
-pub find-requires-clause-bounds : goal.find-requires-clause-bounds
-find-requires-clause-bounds c = c.requires.bounds
-
-pub find-requires-clause-once : goal.find-requires-clause-once
-find-requires-clause-once c = c.requires.once
+pub from_lines-requires : goal.from_lines-requires
+from_lines-requires c = c.requires.once
 
 pub node_deviation-requires-clause-bounds : goal.node_deviation-requires-clause-bounds
 node_deviation-requires-clause-bounds c = c.requires.bounds
 
-pub node_deviation-requires-clause-borders : goal.node_deviation-requires-clause-borders
-node_deviation-requires-clause-borders c = c.in_ok-found.ensures.borders
+pub node_deviation-requires-clause-planes : goal.node_deviation-requires-clause-planes
+node_deviation-requires-clause-planes c = c.in_ok-planes.ensures.distances
+
+pub node_deviation-requires-clause-lines : goal.node_deviation-requires-clause-lines
+node_deviation-requires-clause-lines c = c.in_ok-lines.ensures.distances
 
 pub node_deviation-requires-clause-cosines : goal.node_deviation-requires-clause-cosines
-node_deviation-requires-clause-cosines c = c.in_ok-found.ensures.cosines
+node_deviation-requires-clause-cosines c = c.in_ok-planes.ensures.cosines
 
-pub node_deviation-requires-clause-planes : goal.node_deviation-requires-clause-planes
-node_deviation-requires-clause-planes c = c.in_ok-found.ensures.planes
+pub node_deviation-requires-clause-line_cosines : goal.node_deviation-requires-clause-line_cosines
+node_deviation-requires-clause-line_cosines c = c.in_ok-lines.ensures.cosines

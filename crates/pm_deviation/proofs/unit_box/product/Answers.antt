@@ -1,4 +1,4 @@
-use Rattle.std.proofs.Common.{◌≤◌, ◌^◌, ◌*ℤ◌, unsigned_abs, w64, FitsSigned, lit<, arith, rules}
+use Rattle.std.proofs.Common.{◌≤◌, ◌*ℤ◌, unsigned_abs, w64, FitsSigned, lit<, arith, rules}
 use Rattle.std.proofs.lemmas.Int.{fits_signed_mul, to_z-of_z}
 use Rattle.pm_base.proofs.Range.{abs_product}
 use Rattle.pm_deviation.proofs.unit_box.product.Goals as goal
@@ -34,5 +34,5 @@ returns-clause-small c =
     fits_signed_mul w64 c.args.a c.args.m 49152 65534 c.requires.a_small c.requires.m_small
     (lit< tt) in
     let most = abs_product c.args.a c.args.m 49152 65534 c.requires.a_small c.requires.m_small in
-    let small : unsigned_abs (c.args.a *ℤ c.args.m) ≤ 2 ^ 32 = omega (arith, most) in
+    let small : unsigned_abs (c.args.a *ℤ c.args.m) ≤ 3221127168 = omega (arith, most) in
     simp to_z-of_z (rw e (simp to_z-of_z small))

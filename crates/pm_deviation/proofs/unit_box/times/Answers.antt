@@ -1,4 +1,4 @@
-use Rattle.std.proofs.Common.{◌^◌, w32, w64, FitsSigned, rules}
+use Rattle.std.proofs.Common.{w32, w64, FitsSigned, rules}
 use Rattle.std.proofs.lemmas.Int.{to_z-of_z}
 use Rattle.pm_bounds.proofs.BoxLaws.{min_small, max_small}
 use Rattle.pm_deviation.proofs.unit_box.times.Goals as goal
@@ -57,7 +57,7 @@ returns-clause-low_small c =
     simp to_z-of_z
     (rw c.min.ensures.value
     (simp to_z-of_z
-    (min_small c.product-first.result c.product-second.result (2 ^ 32)
+    (min_small c.product-first.result c.product-second.result 3221127168
     c.product-first.ensures.small c.product-second.ensures.small)))
 
 pub returns-clause-high_small : goal.returns-clause-high_small
@@ -68,5 +68,5 @@ returns-clause-high_small c =
     simp to_z-of_z
     (rw c.max.ensures.value
     (simp to_z-of_z
-    (max_small c.product-first.result c.product-second.result (2 ^ 32)
+    (max_small c.product-first.result c.product-second.result 3221127168
     c.product-first.ensures.small c.product-second.ensures.small)))

@@ -1,0 +1,13 @@
+use Rattle.std.proofs.Common.{List, sym, subst}
+use Rattle.pm_deviation.specs.declared.heading.Heading.{Heading}
+use Rattle.pm_deviation.specs.Normals.{spread_of, cosine_of}
+use Rattle.pm_deviation.specs.Tables.{HaveSpreads}
+use Rattle.pm_deviation.proofs.deviations.from_planes.Goals as goal
+
+pub returns-clause-cosines : goal.returns-clause-cosines
+unfolding cosine_of
+returns-clause-cosines c =
+    let h = c.args.h.now in
+    c.in_ok-cosines.ensures (spread_of h)
+    (subst (λ (ds : List Heading). HaveSpreads h (spread_of h) ds) (sym c.deref.ensures.value)
+    c.in_ok-headings.ensures.spreads)
