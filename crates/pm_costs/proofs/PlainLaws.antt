@@ -22,7 +22,7 @@ use Rattle.pm_runs.proofs.Logs.{surface_after-nil, surface_after-more, run-parts
 use Rattle.pm_runs.proofs.Logs.{step-new}
 use Rattle.pm_policies.specs.Policies.{Policy, taken_after, brought_after, planes_by}
 use Rattle.pm_policies.specs.Policies.{plain_keeping}
-use Rattle.pm_policies.specs.Bounds.{BringsAtMost, TakesAtMost}
+use Rattle.pm_policies.specs.Bounds.{BringsAtMost, most_brought, TakesAtMost}
 use Rattle.pm_policies.specs.Laws.{AreFew}
 use Rattle.pm_policies.proofs.PlanesTaken.{planes_are_taken}
 use Rattle.pm_policies.proofs.PlaneCounts.{planes_are_few}
@@ -45,12 +45,13 @@ module _ (p : Policy) (plain : p ≡ plain_keeping p.kept) where
   brings_all m v = ap (λ (r : Policy). r.brought m v) plain
 
   few_planes :
-      (m : Mesh) → IsStartOfRun m → (log : List Collapse) → IsRun m log → AreFew p m log 1 0
+      (m : Mesh) → IsStartOfRun m → (log : List Collapse) → IsRun m log →
+      AreFew p m log (most_brought m 1 0) 0
   few_planes m start log run =
-      let brings : BringsAtMost p m 1 = λ v. omega (arith, ap length (brings_all m v)) in
+      let brings : BringsAtMost p m 1 0 = λ v. omega (arith, ap length (brings_all m v)) in
       let takes : TakesAtMost p m 0 = λ log run v.
       omega (arith, ap length (takes_none (surface_after m log) v)) in
-      ((planes_are_few p m start).0 log run).1 1 0 brings takes
+      ((planes_are_few p m start).0 log run).1 1 0 0 brings takes
 
   first_planes : (m : Mesh) (v : ℕ) → planes_by p m [] v ≡ planes_at m v
   first_planes m v =

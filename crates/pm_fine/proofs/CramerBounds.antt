@@ -28,10 +28,10 @@ determinant_small a k p q =
     )
 
 -- The matrix of a quadric. No number of it is further from 0 than those on its diagonal.
-half_of : (z : ℤ) → unsigned_abs z ≤ 2 ^ 79 → unsigned_abs (half z) ≤ 2 ^ 79
-half_of z h = half_within z (2 ^ 79) (omega (arith, h))
+half_of : (z : ℤ) → unsigned_abs z ≤ 2 ^ 80 → unsigned_abs (half z) ≤ 2 ^ 80
+half_of z h = half_within z (2 ^ 80) (omega (arith, h))
 
-pub matrix_small : (s : Sums) → IsFineSmall s → IsMatrixWithin (2 ^ 79) (matrix_of s)
+pub matrix_small : (s : Sums) → IsFineSmall s → IsMatrixWithin (2 ^ 80) (matrix_of s)
 matrix_small s h = (h.xx, half_of s.xy h.xy, half_of s.xz h.xz, h.yy, half_of s.yz h.yz, h.zz)
 
 abbrev pub IsBalancedMatrix : Matrix → Type 0

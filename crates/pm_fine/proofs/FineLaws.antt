@@ -38,7 +38,7 @@ squares_small (f ∷ fs) p hs k = omega (arith, square_small f p hs.0 k, squares
 
 -- What the planes of a fine quadric can sum to.
 pub squares_below : (fs : List Plane) (p : Place) → AreFinePlanes fs → length fs ≤ MOST_FINE_PLANES
-    → IsPlace p → squares_of fs p < 2 ^ 114
+    → IsPlace p → squares_of fs p < 2 ^ 115
 squares_below fs p hs few k = omega (arith, squares_small fs p hs k, few)
 
 fine-append : (fs gs : List Plane) → AreFinePlanes fs → AreFinePlanes gs → AreFinePlanes (fs ++ gs)
@@ -77,7 +77,7 @@ fine_plus s t h k few =
     )
 
 pub polynomial_below : (s : Sums) (p : Place) → IsFineQuadric s → IsPlace p
-    → unsigned_abs (polynomial s p) < 2 ^ 114
+    → unsigned_abs (polynomial s p) < 2 ^ 115
 polynomial_below s p h k =
     let e = polynomial_is s h.stands.planes p h.stands.sums in
     omega (arith, e, squares_below h.stands.planes p h.stands.fine h.stands.few k)

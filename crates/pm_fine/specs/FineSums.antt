@@ -14,16 +14,16 @@ pub record StandsForFine (s : Sums) : Type 0 where
 
 -- How far from 0 its numbers can be, which follows.
 pub record IsFineSmall (s : Sums) : Type 0 where
-  pub xx : unsigned_abs s.xx ≤ 2 ^ 79
-  pub xy : unsigned_abs s.xy ≤ 2 ^ 79
-  pub xz : unsigned_abs s.xz ≤ 2 ^ 79
-  pub x : unsigned_abs s.x ≤ 2 ^ 96
-  pub yy : unsigned_abs s.yy ≤ 2 ^ 79
-  pub yz : unsigned_abs s.yz ≤ 2 ^ 79
-  pub y : unsigned_abs s.y ≤ 2 ^ 96
-  pub zz : unsigned_abs s.zz ≤ 2 ^ 79
-  pub z : unsigned_abs s.z ≤ 2 ^ 96
-  pub one : unsigned_abs s.one ≤ 2 ^ 112
+  pub xx : unsigned_abs s.xx ≤ 2 ^ 80
+  pub xy : unsigned_abs s.xy ≤ 2 ^ 80
+  pub xz : unsigned_abs s.xz ≤ 2 ^ 80
+  pub x : unsigned_abs s.x ≤ 2 ^ 97
+  pub yy : unsigned_abs s.yy ≤ 2 ^ 80
+  pub yz : unsigned_abs s.yz ≤ 2 ^ 80
+  pub y : unsigned_abs s.y ≤ 2 ^ 97
+  pub zz : unsigned_abs s.zz ≤ 2 ^ 80
+  pub z : unsigned_abs s.z ≤ 2 ^ 97
+  pub one : unsigned_abs s.one ≤ 2 ^ 113
   pub count : s.count ≤ MOST_FINE_PLANES
 
 -- Both, so that the sums' ranges are at hand wherever the numbers are read.

@@ -31,6 +31,11 @@ root_length n = root (root (norm2_of n * 2 ^ 48))
 unfoldable pub area_normal_of : Direction → Direction
 area_normal_of n = if norm2_of n == 0 then no_direction else scaled (pos (2 ^ 18)) (root_length n) n
 
+-- A normal of half the length, each number to the nearest whole one: its plane weighs a quarter as
+-- much.
+abbrev pub halved : Direction → Direction
+halved n = record { x = near n.x 2; y = near n.y 2; z = near n.z 2 }
+
 -- A normal of twice the length: its plane weighs four times as much.
 abbrev pub doubled : Direction → Direction
 doubled n = record { x = pos 2 *ℤ n.x; y = pos 2 *ℤ n.y; z = pos 2 *ℤ n.z }

@@ -16,12 +16,12 @@ use crate::terms::{add_four, add_three, double, linear, pair, quadratic};
 use pm_base::Point;
 use std::marker::Model;
 
-/// The greatest number of planes that a fine quadric can stand for. A mesh of 1,048,576 faces has
-/// three for each of them, two for each of three sides, and what two vertices take.
-pub const MOST_FINE_PLANES: u32 = 16_777_216;
+/// The greatest number of planes that a fine quadric can stand for. A mesh of 1,048,576 faces and
+/// as many vertices has three for each corner, three for each vertex, and what two vertices take.
+pub const MOST_FINE_PLANES: u32 = 33_554_432;
 
 // Clauses and definitions cite the limit by its name, so its value is said here.
-const _: () = prove!(MOST_FINE_PLANES == 16_777_216);
+const _: () = prove!(MOST_FINE_PLANES == 33_554_432);
 
 /// The sums, over a list of fine planes, of the ten coefficients of the squared plane value, and
 /// the number of planes. The quadric stands for each list that has these sums, and the type keeps
@@ -92,10 +92,10 @@ impl Model for FineQuadric {
 
 // Half the slope along an axis at a place, from a row of the matrix and the sum of that axis alone.
 fn half_slope(a: i128, b: i128, c: i128, sum: i128, m: Point) -> i128
-    requires a_small { unsigned_abs a ≤ 2 ^ 79 }
-    requires b_small { unsigned_abs b ≤ 2 ^ 79 }
-    requires c_small { unsigned_abs c ≤ 2 ^ 79 }
-    requires sum_small { unsigned_abs sum ≤ 2 ^ 96 }
+    requires a_small { unsigned_abs a ≤ 2 ^ 80 }
+    requires b_small { unsigned_abs b ≤ 2 ^ 80 }
+    requires c_small { unsigned_abs c ≤ 2 ^ 80 }
+    requires sum_small { unsigned_abs sum ≤ 2 ^ 97 }
     ensures { result ≡ a *ℤ m.x +ℤ b *ℤ m.y +ℤ c *ℤ m.z +ℤ half sum }
 {
     add_four(
@@ -250,7 +250,7 @@ impl FineQuadric {
     /// of planes.
     pub fn value_at(&self, p: Point) -> u128
         ensures lists { (fs : List Plane) → StandsFor self.now fs → result ≡ squares_of fs p }
-        ensures small { result < 2 ^ 114 }
+        ensures small { result < 2 ^ 115 }
     {
         self.polynomial_at(p).unsigned_abs()
     }
@@ -258,7 +258,7 @@ impl FineQuadric {
     // The matrix of its terms with two coordinates.
     pub(crate) fn matrix(&self) -> Matrix
         ensures value { result ≡ matrix_of self.now }
-        ensures small { IsMatrixWithin (2 ^ 79) result }
+        ensures small { IsMatrixWithin (2 ^ 80) result }
         ensures balanced { (m : ℕ) → unsigned_abs result.xx ≤ m → unsigned_abs result.yy ≤ m
             → unsigned_abs result.zz ≤ m → IsMatrixWithin m result }
     {

@@ -11,6 +11,7 @@ mod matrix;
 mod normal;
 mod place;
 mod plane;
+mod point;
 mod rounding;
 mod terms;
 
@@ -22,3 +23,4 @@ pub use limits::fine_values_fit;
 pub use normal::FineNormal;
 pub use place::{best_fine_place, least_place};
 pub use plane::FinePlane;
+pub use point::point_quadric;

@@ -16,7 +16,7 @@ pub fn fine_values_fit()
     ensures plane { (f : Plane) (p : Place) → IsFinePlane f → IsPlace p
         → squared_value f p < 2 ^ 90 }
     ensures quadric { (fs : List Plane) (p : Place) → AreFinePlanes fs
-        → length fs ≤ MOST_FINE_PLANES → IsPlace p → squares_of fs p < 2 ^ 114 }
+        → length fs ≤ MOST_FINE_PLANES → IsPlace p → squares_of fs p < 2 ^ 115 }
     ensures sums { (fs : List Plane) → AreFinePlanes fs → length fs ≤ MOST_FINE_PLANES
         → IsFineSmall (sums_of fs) }
     ensures roots { (n : ℕ) → IsRoot n (root n) }

@@ -1,6 +1,7 @@
 //! Normals whose length is chosen.
 ghost use Rattle.std.specs.Prelude.{◌≡◌, ◌≤◌, ◌^◌, pos, ◌*ℤ◌, unsigned_abs};
-ghost use Rattle.pm_fine.specs.Normals.{IsWithin, IsFineNormal, no_direction, doubled};
+ghost use Rattle.pm_fine.specs.Rounded.{near};
+ghost use Rattle.pm_fine.specs.Normals.{IsWithin, IsFineNormal, no_direction, doubled, halved};
 
 use std::marker::Model;
 
@@ -33,6 +34,16 @@ fn twice(a: i32) -> i32
     ensures small { unsigned_abs result ≤ 2 ^ 27 }
 {
     2 * a
+}
+
+// Half a number, rounded to the nearest whole one.
+#[tactic(auto, using(crate::proofs::NearLaws::near_small))]
+fn half_of(a: i32) -> i32
+    requires { unsigned_abs a ≤ 2 ^ 27 }
+    ensures value { result ≡ near a 2 }
+    ensures small { unsigned_abs result ≤ 2 ^ 26 }
+{
+    (2 * a + 2).div_euclid(4)
 }
 
 impl FineNormal {
@@ -69,6 +80,17 @@ impl FineNormal {
         ensures in_range { IsFineNormal self.now }
     {
         self.z
+    }
+
+    /// A normal of half the length, whose plane weighs a quarter as much: each number is rounded.
+    pub fn halved(&self) -> FineNormal
+        ensures { result ≡ halved self.now }
+    {
+        FineNormal {
+            x: half_of(self.x),
+            y: half_of(self.y),
+            z: half_of(self.z),
+        }
     }
 
     /// A normal of twice the length, whose plane weighs four times as much.

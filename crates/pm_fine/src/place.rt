@@ -38,10 +38,10 @@ pub(crate) fn midpoint_of(t: Point, u: Point) -> Point
 // The lesser of two places, of which the first has this value, and its own value.
 fn lesser(q: &FineQuadric, a: Point, at_a: u128, b: Point) -> (Point, u128)
     requires known { (fs : List Plane) → StandsFor q.now fs → at_a ≡ squares_of fs a }
-    requires small { at_a < 2 ^ 114 }
+    requires small { at_a < 2 ^ 115 }
     ensures place { (fs : List Plane) → StandsFor q.now fs → result.0 ≡ lesser (squares_of fs) a b }
     ensures value { (fs : List Plane) → StandsFor q.now fs → result.1 ≡ squares_of fs result.0 }
-    ensures small { result.1 < 2 ^ 114 }
+    ensures small { result.1 < 2 ^ 115 }
 {
     let at_b = q.value_at(b);
     if at_b < at_a { (b, at_b) } else { (a, at_a) }
@@ -52,7 +52,7 @@ fn first_least(q: &FineQuadric, t: Point, u: Point, fourth: Option<Point>) -> (P
     ensures place { (fs : List Plane) → StandsFor q.now fs
         → result.0 ≡ fine_place_of (squares_of fs) t u fourth }
     ensures value { (fs : List Plane) → StandsFor q.now fs → result.1 ≡ squares_of fs result.0 }
-    ensures small { result.1 < 2 ^ 114 }
+    ensures small { result.1 < 2 ^ 115 }
 {
     let (end, at_end) = lesser(q, t, q.value_at(t), u);
     let (third, at_third) = lesser(q, end, at_end, midpoint_of(t, u));
@@ -70,7 +70,7 @@ pub fn least_place(q: &FineQuadric, t: Point, u: Point, fourth: Option<Point>) -
     ensures least { (fs : List Plane) → StandsFor q.now fs
         → IsLeastOf (squares_of fs) result.0 (t ∷ others_of t u fourth) }
     ensures value { (fs : List Plane) → StandsFor q.now fs → result.1 ≡ squares_of fs result.0 }
-    ensures small { result.1 < 2 ^ 114 }
+    ensures small { result.1 < 2 ^ 115 }
 {
     first_least(q, t, u, fourth)
 }
@@ -80,7 +80,7 @@ pub fn least_place(q: &FineQuadric, t: Point, u: Point, fourth: Option<Point>) -
 pub fn best_fine_place(q: &FineQuadric, t: Point, u: Point) -> (Point, u128)
     ensures place { (fs : List Plane) → StandsFor q.now fs → result.0 ≡ best_fine_place_of fs t u }
     ensures value { (fs : List Plane) → StandsFor q.now fs → result.1 ≡ squares_of fs result.0 }
-    ensures small { result.1 < 2 ^ 114 }
+    ensures small { result.1 < 2 ^ 115 }
 {
     least_place(q, t, u, fourth_place(q, t, u))
 }

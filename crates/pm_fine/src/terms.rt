@@ -62,7 +62,7 @@ fn times(coefficient: i128, factor: i32) -> i128
 
 // A coefficient times two coordinates.
 pub(crate) fn quadratic(coefficient: i128, x: i32, y: i32) -> i128
-    requires coefficient_small { unsigned_abs coefficient ≤ 2 ^ 79 }
+    requires coefficient_small { unsigned_abs coefficient ≤ 2 ^ 80 }
     requires x_small { unsigned_abs x ≤ GREATEST_COORDINATE }
     requires y_small { unsigned_abs y ≤ GREATEST_COORDINATE }
     ensures value { result ≡ coefficient *ℤ (x *ℤ y) }
@@ -73,7 +73,7 @@ pub(crate) fn quadratic(coefficient: i128, x: i32, y: i32) -> i128
 
 // A coefficient times a coordinate.
 pub(crate) fn linear(coefficient: i128, x: i32) -> i128
-    requires coefficient_small { unsigned_abs coefficient ≤ 2 ^ 96 }
+    requires coefficient_small { unsigned_abs coefficient ≤ 2 ^ 97 }
     requires x_small { unsigned_abs x ≤ GREATEST_COORDINATE }
     ensures value { result ≡ coefficient *ℤ x }
     ensures small { unsigned_abs result ≤ 2 ^ 122 }

@@ -9,26 +9,19 @@ use Rattle.pm_base.specs.Sides.{Net, next, prev, to, third, twin_of}
 use Rattle.pm_base.proofs.Sides.{next-next-next}
 use Rattle.pm_quadric.specs.Planes.{plane_through}
 use Rattle.pm_runs.specs.Surfaces.{Surface, place_at, net_of_surface}
-use Rattle.pm_fine.specs.Normals.{border_normal_of, doubled}
-use Rattle.pm_fine_costs.specs.FinePolicy.{border_planes, corner_planes, face_plane, as_it_is}
-use Rattle.pm_fine_costs.specs.CornerPlanes.{corner_of, normals_of, doubled_normals, some_plane}
+use Rattle.pm_fine.specs.Normals.{border_normal_of}
+use Rattle.pm_fine_costs.specs.FinePolicy.{border_planes, corner_planes, face_plane}
+use Rattle.pm_fine_costs.specs.CornerPlanes.{corner_of, normals_of, weighed, some_plane}
 use Rattle.pm_fine_costs.specs.CornerPlanes.{planes_with}
 
 abbrev if_none : Option ℕ → Direction → Option Direction
 if_none t n = cond (is_none t) (Some n) None
 
-doubled_plane :
-    (t : Option ℕ) (n : Direction) (p : Place) →
-    cond (is_some t) [] (plane_through (doubled n) p ∷ []) ≡
-    some_plane (option_map doubled (if_none t n)) p
-doubled_plane None n p = refl
-doubled_plane (Some k) n p = refl
-
-same_plane :
-    (t : Option ℕ) (n : Direction) (p : Place) →
-    cond (is_some t) [] (plane_through n p ∷ []) ≡ some_plane (if_none t n) p
-same_plane None n p = refl
-same_plane (Some k) n p = refl
+weighed_plane :
+    (w : Direction → Direction) (t : Option ℕ) (n : Direction) (p : Place) →
+    cond (is_some t) [] (plane_through (w n) p ∷ []) ≡ some_plane (option_map w (if_none t n)) p
+weighed_plane w None n p = refl
+weighed_plane w (Some k) n p = refl
 
 module _ (s : Surface) (e : ℕ) where
   abbrev m : Net
@@ -56,19 +49,12 @@ module _ (s : Surface) (e : ℕ) where
       border_normal_of (place_at s v) (place_at s (to m e))
       (cross_of (place_at s v) (place_at s (to m e)) (place_at s (third m e)))
 
-  pub planes_doubled :
-      corner_planes doubled s v e ≡
-      planes_with (doubled_normals (normals_of (corner_of s e))) (place_at s v)
-  planes_doubled =
-      let first = doubled_plane (twin_of m e) normal_after (place_at s v) in
-      let last = before_is doubled
-      ∙ doubled_plane (twin_of m (prev e)) (normal_before e) (place_at s v) in
-      λ i. face_plane doubled s e ∷ (first i) ++ (last i)
-
-  pub planes_same :
-      corner_planes as_it_is s v e ≡ planes_with (normals_of (corner_of s e)) (place_at s v)
-  planes_same =
-      let first = same_plane (twin_of m e) normal_after (place_at s v) in
-      let last = before_is as_it_is
-      ∙ same_plane (twin_of m (prev e)) (normal_before e) (place_at s v) in
-      λ i. face_plane as_it_is s e ∷ (first i) ++ (last i)
+  pub planes_weighed :
+      (w : Direction → Direction) →
+      corner_planes w s v e ≡
+      planes_with (weighed w (normals_of (corner_of s e))) (place_at s v)
+  planes_weighed w =
+      let first = weighed_plane w (twin_of m e) normal_after (place_at s v) in
+      let last = before_is w
+      ∙ weighed_plane w (twin_of m (prev e)) (normal_before e) (place_at s v) in
+      λ i. face_plane w s e ∷ (first i) ++ (last i)

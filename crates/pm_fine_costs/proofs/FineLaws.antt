@@ -12,6 +12,7 @@ use Rattle.pm_quadric.specs.Planes.{Plane}
 use Rattle.pm_quadric.specs.Sums.{Sums, plus_sums, sums_of, StandsFor}
 use Rattle.pm_quadric.proofs.QuadricLaws.{count_is, sums_joined}
 use Rattle.pm_runs.specs.Surfaces.{Surface, next_vertex, is_live, surface_of, collapsed, place_at}
+use Rattle.pm_runs.specs.Planes.{point_at}
 use Rattle.pm_runs.specs.Counts.{live_count_of}
 use Rattle.pm_runs.specs.Runs.{IsStartOfRun, surface_after, IsStep, IsRun}
 use Rattle.pm_runs.proofs.Live.{live_below, next-after, new_live}
@@ -19,11 +20,12 @@ use Rattle.pm_runs.proofs.Living.{joined_live, live_fewer, first_live_count}
 use Rattle.pm_runs.proofs.Logs.{surface_after-nil, surface_after-more, run-parts, run-sound}
 use Rattle.pm_runs.proofs.Logs.{step-new}
 use Rattle.pm_fine.specs.declared.fine_quadric.TheConstants.{MOST_FINE_PLANES}
-use Rattle.pm_fine.specs.Normals.{doubled}
+use Rattle.pm_fine.specs.Normals.{halved, doubled}
+use Rattle.pm_fine.specs.FinePlanes.{point_planes}
 use Rattle.pm_policies.specs.Policies.{Policy, taken_after, brought_after, planes_by}
 use Rattle.pm_policies.specs.Policies.{pair_planes_by, place_by}
 use Rattle.pm_fine.specs.Fourth.{best_fine_place_of}
-use Rattle.pm_policies.specs.Bounds.{BringsAtMost, TakesByFaces}
+use Rattle.pm_policies.specs.Bounds.{BringsAtMost, most_brought, TakesByFaces}
 use Rattle.pm_policies.specs.Laws.{AreFew}
 use Rattle.pm_policies.proofs.PlanesTaken.{planes_are_taken}
 use Rattle.pm_policies.proofs.PlaneCounts.{planes_are_few}
@@ -32,7 +34,7 @@ use Rattle.pm_shrink.specs.Following.{IsAfter}
 use Rattle.pm_slots.specs.Slots.{Slotted, HaveOwnSlots, IsPut}
 use Rattle.pm_slots.proofs.OwnSlots.{was_live, items-kept, slots-own}
 use Rattle.pm_fine_costs.specs.declared.pair.BothQuadrics.{BothQuadrics}
-use Rattle.pm_fine_costs.specs.FinePolicy.{as_it_is, planes_round, fine_keeping}
+use Rattle.pm_fine_costs.specs.FinePolicy.{planes_round, brought_at, fine_keeping}
 use Rattle.pm_fine_costs.specs.FineCosts.{no_quadrics, quadrics_at, GoesByFine}
 use Rattle.pm_fine_costs.proofs.CornerCounts.{round_few, input_few}
 
@@ -40,19 +42,25 @@ module _ (p : Policy) (fine : p ≡ fine_keeping p.kept) where
   takes_round : (s : Surface) (v : ℕ) → p.taken s v ≡ planes_round doubled s v
   takes_round s v = ap (λ (r : Policy). r.taken s v) fine
 
-  brings_round : (m : Mesh) (v : ℕ) → p.brought m v ≡ planes_round as_it_is (surface_of m) v
+  brings_round : (m : Mesh) (v : ℕ) → p.brought m v ≡ brought_at m v
   brings_round m v = ap (λ (r : Policy). r.brought m v) fine
 
   few_planes :
       (m : Mesh) → IsStartOfRun m → (log : List Collapse) → IsRun m log →
-      AreFew p m log 3 (3 * length m.faces)
+      AreFew p m log (most_brought m 3 3) (3 * length m.faces)
   few_planes m start log run =
-      let brings : BringsAtMost p m 3 = λ v.
-      omega (arith, ap length (brings_round m v), input_few as_it_is m v) in
+      let brings : BringsAtMost p m 3 3 = λ v.
+      let points = point_planes (point_at m v) in
+      omega (
+        arith,
+        ap length (brings_round m v),
+        input_few halved m v,
+        length-append (planes_round halved (surface_of m) v) points,
+      ) in
       let takes : TakesByFaces p 3 = λ s v.
       omega (arith, ap length (takes_round s v), round_few s v doubled) in
       let few = planes_are_few p m start in
-      (few.0 log run).1 3 (3 * length m.faces) brings (few.1 3 takes)
+      (few.0 log run).1 3 3 (3 * length m.faces) brings (few.1 3 takes)
 
 -- Before the first collapse.
 pub goes_first :
@@ -60,10 +68,10 @@ pub goes_first :
     length t.slots ≡ 2 * length m.points →
     ((v : ℕ) → v < length m.points → get_or t.slots v 0 ≡ v) →
     ((v : ℕ) → v < length m.points →
-    StandsFor (quadrics_at t v).brought (planes_round as_it_is (surface_of m) v)) →
+    StandsFor (quadrics_at t v).brought (brought_at m v)) →
     ((v : ℕ) → v < length m.points →
     StandsFor (quadrics_at t v).all (planes_round doubled (surface_of m) v
-    ++ planes_round as_it_is (surface_of m) v)) →
+    ++ brought_at m v)) →
     GoesByFine t (fine_keeping kept) m []
 goes_first kept m t len slots brought all =
     let p : Policy = fine_keeping kept in
@@ -77,7 +85,7 @@ goes_first kept m t len slots brought all =
       brought = λ v live. brought v (low v live) ∙ ap sums_of
           (sym ((planes_are_taken p m).0 v).brought);
       all = λ v live. all v (low v live)
-          ∙ ap (λ (k : List Plane). sums_of (k ++ planes_round as_it_is (surface_of m) v))
+          ∙ ap (λ (k : List Plane). sums_of (k ++ brought_at m v))
           (sym ((planes_are_taken p m).0 v).taken)
           ∙ ap (λ (k : List Plane). sums_of (taken_after p m [] v ++ k))
           (sym ((planes_are_taken p m).0 v).brought);
@@ -93,7 +101,7 @@ module _
   live_here : (v : ℕ) → is_live s.surface v ≡ true → is_live (surface_after m log) v ≡ true
   live_here v = subst (λ (z : Surface). is_live z v ≡ true) after.surface
 
-  few : AreFew p m log 3 (3 * length m.faces)
+  few : AreFew p m log (most_brought m 3 3) (3 * length m.faces)
   few = few_planes p goes.policy m after.start log after.run
 
   pub has_slot : (v : ℕ) → is_live s.surface v ≡ true → v < length t.slots
@@ -123,6 +131,7 @@ module _
         let one = all_count a la in
         let two = all_count b lb in
         let faces = after.start.formed.faces in
+        let points = after.start.formed.points in
         omega arith
 
     pub stands_pair :
@@ -221,6 +230,7 @@ module _
           count_is takes (taken_after p m more c.s) made_taken,
           count_is brings (brought_after p m more c.s) made_brought,
           after.start.formed.faces,
+          after.start.formed.points,
         )
 
   module _ (r : Slotted BothQuadrics) (q : BothQuadrics) (takes : Sums)

@@ -26,15 +26,15 @@ use Rattle.pm_quadric.specs.Sums.{Sums, plus_sums, sums_of, StandsFor}
 use Rattle.pm_quadric.proofs.QuadricLaws.{count_is, sums_joined}
 use Rattle.pm_runs.specs.Surfaces.{Surface, surface_of, net_of_surface}
 use Rattle.pm_fine.specs.declared.fine_quadric.TheConstants.{MOST_FINE_PLANES}
-use Rattle.pm_fine.specs.Normals.{doubled}
+use Rattle.pm_fine.specs.Normals.{halved, doubled}
 use Rattle.pm_shrink.proofs.AllFaces.{net_there}
 use Rattle.pm_twins.specs.Table.{Table, IsTableOf}
 use Rattle.pm_fine_costs.specs.declared.corner.Corner.{Corner}
 use Rattle.pm_fine_costs.specs.declared.pair.BothQuadrics.{BothQuadrics}
-use Rattle.pm_fine_costs.specs.FinePolicy.{as_it_is, corner_planes, planes_round}
-use Rattle.pm_fine_costs.specs.CornerPlanes.{corner_of, normals_of, doubled_normals, planes_with}
+use Rattle.pm_fine_costs.specs.FinePolicy.{corner_planes, planes_round}
+use Rattle.pm_fine_costs.specs.CornerPlanes.{corner_of, normals_of, weighed, planes_with}
 use Rattle.pm_fine_costs.specs.FineCosts.{no_quadrics}
-use Rattle.pm_fine_costs.proofs.CornerLaws.{planes_same, planes_doubled}
+use Rattle.pm_fine_costs.proofs.CornerLaws.{planes_weighed}
 use Rattle.pm_fine_costs.proofs.TakenLaws.{corner_few, all_few}
 use Rattle.pm_fine_costs.proofs.CornerCounts.{round_few}
 use Rattle.pm_fine_costs.proofs.PlaneSums.{plus-paired}
@@ -179,15 +179,15 @@ module _ (mesh : Mesh) where
 
     pub both_fit :
         (v : ℕ) (old : Sums) →
-        StandsFor old (planes_below doubled v n ++ planes_below as_it_is v n) →
+        StandsFor old (planes_below doubled v n ++ planes_below halved v n) →
         old.count + 6 ≤ MOST_FINE_PLANES
     both_fit v old before =
         omega (
           arith,
-          count_is old (planes_below doubled v n ++ planes_below as_it_is v n) before,
-          length-append (planes_below doubled v n) (planes_below as_it_is v n),
+          count_is old (planes_below doubled v n ++ planes_below halved v n) before,
+          length-append (planes_below doubled v n) (planes_below halved v n),
           below_most doubled v n low,
-          below_most as_it_is v n low,
+          below_most halved v n low,
           formed.faces,
         )
 
@@ -209,10 +209,10 @@ module _ (mesh : Mesh) where
 
     -- Both quadrics of a vertex.
     abbrev plain : Corner → Sums
-    plain k = sums_of (planes_with (normals_of k) k.at)
+    plain k = sums_of (planes_with (weighed halved (normals_of k)) k.at)
 
     abbrev weighty : Corner → Sums
-    weighty k = sums_of (planes_with (doubled_normals (normals_of k)) k.at)
+    weighty k = sums_of (planes_with (weighed doubled (normals_of k)) k.at)
 
     abbrev with_corner : BothQuadrics → Corner → BothQuadrics
     with_corner q k = record {
@@ -238,17 +238,17 @@ module _ (mesh : Mesh) where
           ap (λ (l : List BothQuadrics). get_or l v no_quadrics) set_is
           ∙ get_or-set_other items u v added no_quadrics ne
 
-      plain_is : StandsFor (plain k) (corner_planes as_it_is s (m.from n) n)
-      plain_is = ap plain corner ∙ ap sums_of (sym (planes_same s n))
+      plain_is : StandsFor (plain k) (corner_planes halved s (m.from n) n)
+      plain_is = ap plain corner ∙ ap sums_of (sym (planes_weighed s n halved))
 
       weighty_is : StandsFor (weighty k) (corner_planes doubled s (m.from n) n)
-      weighty_is = ap weighty corner ∙ ap sums_of (sym (planes_doubled s n))
+      weighty_is = ap weighty corner ∙ ap sums_of (sym (planes_weighed s n doubled))
 
       pub brought_more :
-          StandsFor (get_or items v no_quadrics).brought (planes_below as_it_is v n) →
-          StandsFor (get_or more v no_quadrics).brought (planes_below as_it_is v (n + 1))
+          StandsFor (get_or items v no_quadrics).brought (planes_below halved v n) →
+          StandsFor (get_or more v no_quadrics).brought (planes_below halved v (n + 1))
       brought_more before =
-          corner_more as_it_is v u (get_or items v no_quadrics).brought
+          corner_more halved v u (get_or items v no_quadrics).brought
           (get_or more v no_quadrics).brought (plain k) at before
           (λ is. ap (λ (q : BothQuadrics). q.brought) (item_here is)
           ∙ ap (λ (j : ℕ). plus_sums (get_or items j no_quadrics).brought (plain k)) (sym is))
@@ -258,19 +258,19 @@ module _ (mesh : Mesh) where
       first = planes_below doubled v n
 
       abbrev second : List Plane
-      second = planes_below as_it_is v n
+      second = planes_below halved v n
 
       abbrev first_more : List Plane
       first_more = planes_below doubled v (n + 1)
 
       abbrev second_more : List Plane
-      second_more = planes_below as_it_is v (n + 1)
+      second_more = planes_below halved v (n + 1)
 
       pub all_more :
           StandsFor (get_or items v no_quadrics).all
-          (planes_below doubled v n ++ planes_below as_it_is v n) →
+          (planes_below doubled v n ++ planes_below halved v n) →
           StandsFor (get_or more v no_quadrics).all
-          (planes_below doubled v (n + 1) ++ planes_below as_it_is v (n + 1))
+          (planes_below doubled v (n + 1) ++ planes_below halved v (n + 1))
       all_more before =
           elim (cases_eq v u) [
             | inl is ↦
@@ -283,7 +283,7 @@ module _ (mesh : Mesh) where
                 ∙ ap (λ (x : Sums). plus_sums x (plus_sums (sums_of second) (plain k)))
                 (sums_here doubled v u (weighty k) at weighty_is is)
                 ∙ ap (plus_sums (sums_of first_more))
-                (sums_here as_it_is v u (plain k) at plain_is is)
+                (sums_here halved v u (plain k) at plain_is is)
                 ∙ sym (sums-append first_more second_more)
             | inr ne ↦
                 ap (λ (q : BothQuadrics). q.all) (item_other ne) ∙ before
@@ -291,6 +291,6 @@ module _ (mesh : Mesh) where
                 ∙ ap (λ (x : Sums). plus_sums x (sums_of second))
                 (sums_other doubled v u (weighty k) at weighty_is ne)
                 ∙ ap (plus_sums (sums_of first_more))
-                (sums_other as_it_is v u (plain k) at plain_is ne)
+                (sums_other halved v u (plain k) at plain_is ne)
                 ∙ sym (sums-append first_more second_more)
           ]

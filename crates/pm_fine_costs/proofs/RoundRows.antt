@@ -5,11 +5,11 @@ use Rattle.pm_base.specs.Geometry.{Direction}
 use Rattle.pm_base.specs.Sides.{stands, next, twin_of}
 use Rattle.pm_quadric.specs.Planes.{plane_through}
 use Rattle.pm_runs.specs.Surfaces.{surface_of}
-use Rattle.pm_fine.specs.Normals.{area_normal_of, border_normal_of, doubled, scaled, product_of}
-use Rattle.pm_fine.specs.Normals.{way_of}
+use Rattle.pm_fine.specs.Normals.{area_normal_of, border_normal_of, halved, doubled, scaled}
+use Rattle.pm_fine.specs.Normals.{product_of, way_of}
 use Rattle.pm_fine.specs.Rounded.{root}
 use Rattle.pm_fine.proofs.RootLaws.{root_only}
-use Rattle.pm_fine_costs.specs.FinePolicy.{as_it_is, planes_round}
+use Rattle.pm_fine_costs.specs.FinePolicy.{planes_round}
 use Rattle.pm_fine_costs.specs.Rows.{at, plane, triangle, tetrahedron}
 
 -- 16 long, so 2 ^ 12 times the root of that is 2 ^ 14, and 2 ^ 12 times that is 2 ^ 16.
@@ -62,12 +62,12 @@ border_left = ap (λ (r : ℕ). scaled (pos 2883584) (2 * r)
     (product_of (way_of (at 0 4 0) (at 0 0 0)) up)) once_rooted
 
 pub border_row :
-    planes_round as_it_is (surface_of triangle) 0 ≡
-    plane (pos 0) (pos 0) (pos 256) ∷ plane (pos 0) (neg_ℤ (pos 1408)) (pos 0) ∷
-    plane (neg_ℤ (pos 1408)) (pos 0) (pos 0) ∷ []
+    planes_round halved (surface_of triangle) 0 ≡
+    plane (pos 0) (pos 0) (pos 128) ∷ plane (pos 0) (neg_ℤ (pos 704)) (pos 0) ∷
+    plane (neg_ℤ (pos 704)) (pos 0) (pos 0) ∷ []
 unfolding planes_round stands next twin_of
-border_row = λ i. plane_through (area_up i) (at 0 0 0) ∷ plane_through (border_front i)
-    (at 0 0 0) ∷ plane_through (border_left i) (at 0 0 0) ∷ []
+border_row = λ i. plane_through (halved (area_up i)) (at 0 0 0) ∷ plane_through
+    (halved (border_front i)) (at 0 0 0) ∷ plane_through (halved (border_left i)) (at 0 0 0) ∷ []
 
 pub inner_row :
     planes_round doubled (surface_of tetrahedron) 0 ≡

@@ -6,7 +6,7 @@ use Rattle.pm_base.specs.Geometry.{Direction, cross_of}
 use Rattle.pm_base.specs.Sides.{prev, to, third, twin_of}
 use Rattle.pm_quadric.specs.Planes.{Plane, plane_through}
 use Rattle.pm_runs.specs.Surfaces.{Surface, place_at, net_of_surface}
-use Rattle.pm_fine.specs.Normals.{area_normal_of, border_normal_of, doubled}
+use Rattle.pm_fine.specs.Normals.{area_normal_of, border_normal_of}
 use Rattle.pm_fine_costs.specs.declared.corner.Corner.{Corner}
 use Rattle.pm_fine_costs.specs.declared.corner.CornerNormals.{CornerNormals}
 
@@ -34,11 +34,11 @@ normals_of k = record {
   before = open_normal k.last k.at k.next k.is_open_before;
 }
 
-abbrev pub doubled_normals : CornerNormals → CornerNormals
-doubled_normals n = record {
-  face = doubled n.face;
-  after = option_map doubled n.after;
-  before = option_map doubled n.before;
+abbrev pub weighed : (Direction → Direction) → CornerNormals → CornerNormals
+weighed weigh n = record {
+  face = weigh n.face;
+  after = option_map weigh n.after;
+  before = option_map weigh n.before;
 }
 
 abbrev pub some_plane : Option Direction → Place → List Plane

@@ -1,14 +1,17 @@
 -- The policy of a run for the look of what is left: planes weigh by the area of their faces, planes
--- that stand on the border hold it, and a vertex takes the planes round it when it is made (after
--- Garland and Heckbert 1998 and Lindstrom and Turk 1998).
+-- that stand on the border hold it, points hold flat ground, and a vertex takes the planes round it
+-- when it is made (after Garland and Heckbert 1998 and Lindstrom and Turk 1998).
 use Rattle.std.specs.Prelude.{ℕ, ◌==◌, Bool, cond, ◌&&◌, List, [], ◌∷◌, ◌++◌, is_some}
 use Rattle.std.specs.List.{filter, flat_map}
 use Rattle.pm_base.specs.Counts.{numbers_below}
 use Rattle.pm_base.specs.Geometry.{Direction, cross_of}
+use Rattle.pm_base.specs.Meshes.{Mesh}
 use Rattle.pm_base.specs.Sides.{side_count, stands, to, third, prev, twin_of}
 use Rattle.pm_quadric.specs.Planes.{Plane, plane_through}
 use Rattle.pm_runs.specs.Surfaces.{Surface, surface_of, place_at, net_of_surface}
-use Rattle.pm_fine.specs.Normals.{area_normal_of, border_normal_of, doubled}
+use Rattle.pm_runs.specs.Planes.{point_at}
+use Rattle.pm_fine.specs.Normals.{area_normal_of, border_normal_of, halved, doubled}
+use Rattle.pm_fine.specs.FinePlanes.{point_planes}
 use Rattle.pm_fine.specs.Fourth.{best_fine_place_of}
 use Rattle.pm_policies.specs.Policies.{Policy}
 
@@ -45,15 +48,16 @@ corners_round s v =
 unfoldable pub planes_round : (Direction → Direction) → Surface → ℕ → List Plane
 planes_round weigh s v = flat_map (corner_planes weigh s v) (corners_round s v)
 
-abbrev pub as_it_is : Direction → Direction
-as_it_is n = n
+-- The planes round an input vertex, with normals of half the length, and those of its point.
+abbrev pub brought_at : Mesh → ℕ → List Plane
+brought_at m v = planes_round halved (surface_of m) v ++ point_planes (point_at m v)
 
--- An input vertex brings the planes round it. A vertex takes those round it when it is made, with
--- four times their weight; so do the input's. The place is the best of both ends, the midpoint and
--- the fourth candidate.
+-- An input vertex brings these. A vertex takes the planes round it when it is made, with normals of
+-- twice the length, so that they weigh sixteen times as much; so do the input's. The place is the
+-- best of both ends, the midpoint and the fourth candidate.
 abbrev pub fine_keeping : (ℕ → Bool) → Policy
 fine_keeping kept = record {
-  brought = λ m v. planes_round as_it_is (surface_of m) v;
+  brought = brought_at;
   taken = λ s v. planes_round doubled s v;
   place = λ planes a b. best_fine_place_of planes a b;
   kept = kept;

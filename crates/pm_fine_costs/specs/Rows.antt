@@ -5,8 +5,8 @@ use Rattle.pm_base.specs.declared.mesh.Corners.{Corners}
 use Rattle.pm_base.specs.Meshes.{Mesh}
 use Rattle.pm_quadric.specs.Planes.{Plane}
 use Rattle.pm_runs.specs.Surfaces.{surface_of}
-use Rattle.pm_fine.specs.Normals.{doubled}
-use Rattle.pm_fine_costs.specs.FinePolicy.{as_it_is, planes_round}
+use Rattle.pm_fine.specs.Normals.{halved, doubled}
+use Rattle.pm_fine_costs.specs.FinePolicy.{planes_round}
 
 abbrev pub at : ℕ → ℕ → ℕ → Place
 at x y z = record { x = pos x; y = pos y; z = pos z }
@@ -30,11 +30,12 @@ tetrahedron = record {
 }
 
 pub record AreRoundRows : Type 0 where
-  -- The face's normal is (0, 0, 16), so 64 x 4 long. The border's are 352 x 4 long, and point out.
-  pub border : planes_round as_it_is (surface_of triangle) 0 ≡
-      plane (pos 0) (pos 0) (pos 256) ∷ plane (pos 0) (neg_ℤ (pos 1408)) (pos 0) ∷
-      plane (neg_ℤ (pos 1408)) (pos 0) (pos 0) ∷ []
-  -- A vertex that isn't on the border, with twice those lengths.
+  -- The face's normal is (0, 0, 16), so half of 64 x 4 long. The border's are half of 352 x 4 long,
+  -- and point out.
+  pub border : planes_round halved (surface_of triangle) 0 ≡
+      plane (pos 0) (pos 0) (pos 128) ∷ plane (pos 0) (neg_ℤ (pos 704)) (pos 0) ∷
+      plane (neg_ℤ (pos 704)) (pos 0) (pos 0) ∷ []
+  -- A vertex that isn't on the border, with twice 64 x 4.
   pub inner : planes_round doubled (surface_of tetrahedron) 0 ≡
       plane (pos 0) (pos 0) (neg_ℤ (pos 512)) ∷ plane (pos 0) (neg_ℤ (pos 512)) (pos 0) ∷
       plane (neg_ℤ (pos 512)) (pos 0) (pos 0) ∷ []

@@ -3,8 +3,8 @@ ghost use Rattle.std.specs.Prelude.{◌≡◌, ◌≤◌, ◌<◌, ◌^◌, ◌+
 ghost use Rattle.pm_quadric.specs.Planes.{Plane};
 ghost use Rattle.pm_quadric.specs.Sums.{StandsFor};
 ghost use Rattle.pm_fine.specs.declared.fine_quadric.TheConstants.{MOST_FINE_PLANES};
-ghost use Rattle.pm_fine.specs.Normals.{IsWithin, doubled as doubled_of};
-ghost use Rattle.pm_fine_costs.specs.CornerPlanes.{open_normal, normals_of, doubled_normals};
+ghost use Rattle.pm_fine.specs.Normals.{IsWithin, halved as halved_of, doubled as doubled_of};
+ghost use Rattle.pm_fine_costs.specs.CornerPlanes.{open_normal, normals_of, weighed};
 ghost use Rattle.pm_fine_costs.specs.CornerPlanes.{some_plane, planes_with};
 
 use pm_base::{Point, cross};
@@ -41,6 +41,16 @@ fn open_normal(a: Point, b: Point, c: Point, is_open: bool) -> Option<FineNormal
         return None;
     }
     Some(border_normal(a, b, cross(a, b, c)))
+}
+
+// A normal of half the length, if there is one.
+fn halved(n: Option<FineNormal>) -> Option<FineNormal>
+    ensures { result ≡ option_map halved_of n }
+{
+    match n {
+        None => None,
+        Some(n) => Some(n.halved()),
+    }
 }
 
 // A normal of twice the length, if there is one.
@@ -80,12 +90,23 @@ impl CornerNormals {
         }
     }
 
+    /// Those of the planes that weigh a quarter as much.
+    pub(crate) fn halved(&self) -> CornerNormals
+        ensures { result ≡ weighed halved_of self.now }
+    {
+        CornerNormals {
+            face: self.face.halved(),
+            after: halved(self.after),
+            before: halved(self.before),
+        }
+    }
+
     /// Those of the planes that weigh four times as much.
     pub(crate) fn doubled(&self) -> CornerNormals
         requires face { IsWithin (2 ^ 26) self.now.face }
         requires after { IfSome self.now.after (IsWithin (2 ^ 26)) }
         requires before { IfSome self.now.before (IsWithin (2 ^ 26)) }
-        ensures { result ≡ doubled_normals self.now }
+        ensures { result ≡ weighed doubled_of self.now }
     {
         CornerNormals {
             face: self.face.doubled(),

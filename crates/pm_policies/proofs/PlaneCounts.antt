@@ -2,7 +2,7 @@
 -- the policy takes.
 use Rattle.std.proofs.Common.{◌≡◌, ℕ, zero, suc, ◌+◌, ◌*◌, ◌<◌, ◌≤◌, eqb, true, cond, List}
 use Rattle.std.proofs.lemmas.Grind.{common_steps}
-use Rattle.std.proofs.Common.{[], ◌∷◌, ◌++◌, length, inl, inr, refl, ap, ◌∙◌, arith}
+use Rattle.std.proofs.Common.{[], ◌∷◌, ◌++◌, length, Some, inl, inr, refl, ap, ◌∙◌, arith}
 use Rattle.std.proofs.lemmas.Bool.{cases_Bool, cond-true, cond-false}
 use Rattle.std.proofs.lemmas.List.{length-map, length-append}
 use Rattle.std.proofs.Math.Nat.{mul-le-mul_left}
@@ -18,13 +18,15 @@ use Rattle.pm_runs.proofs.Live.{input-sound, live_below}
 use Rattle.pm_runs.proofs.PlaneCounts.{first_count, counts-kept, pair_few}
 use Rattle.pm_policies.specs.Policies.{Policy, taken_next, taken_from, taken_after, brought_after}
 use Rattle.pm_policies.specs.Policies.{planes_by, pair_planes_by}
-use Rattle.pm_policies.specs.Bounds.{BringsAtMost, TakesAtMost, TakesByFaces}
+use Rattle.pm_policies.specs.Bounds.{BringsAtMost, most_brought, TakesAtMost, TakesByFaces}
 use Rattle.pm_policies.specs.Laws as law
 
 sum_scaled :
-    (f g : ℕ → ℕ) (k n : ℕ) → ((i : ℕ) → f i ≤ k * g i) → sum_below f n ≤ k * sum_below g n
-sum_scaled f g k zero each = omega arith
-sum_scaled f g k (suc n) each = grind (arith, common_steps, sum_scaled f g k n each)
+    (f g : ℕ → ℕ) (k e n : ℕ) → ((i : ℕ) → f i ≤ k * g i + e) →
+    sum_below f n ≤ k * sum_below g n + e * n
+sum_scaled f g k e zero each = omega arith
+sum_scaled f g k e (suc n) each =
+    grind (arith, common_steps, sum_scaled f g k e n each)
 
 -- One term is no more than all.
 one_within : (f : ℕ → ℕ) (n t : ℕ) → t < n → f t ≤ sum_below f n
@@ -34,12 +36,13 @@ one_within f (suc n) t l = grind (arith, common_steps, one_within f n t)
 -- Brought planes.
 module _ (p : Policy) (m : Mesh) where
   brought-first :
-      (k : ℕ) → BringsAtMost p m k →
-      plane_count_of (p.brought m) (surface_of m) ≤ k * plane_count_of (planes_at m) (surface_of m)
-  brought-first k few =
+      (k e : ℕ) → BringsAtMost p m k e →
+      plane_count_of (p.brought m) (surface_of m) ≤
+      k * plane_count_of (planes_at m) (surface_of m) + e * next_vertex (surface_of m)
+  brought-first k e few =
       let s = surface_of m in
       sum_scaled (λ v. cond (is_live s v) (length (p.brought m v)) 0)
-      (λ v. cond (is_live s v) (length (planes_at m v)) 0) k (next_vertex s) (λ v.
+      (λ v. cond (is_live s v) (length (planes_at m v)) 0) k e (next_vertex s) (λ v.
       elim (cases_Bool (is_live s v)) [
         | inl is ↦
             let one : cond (is_live s v) (length (p.brought m v)) 0 ≡ length (p.brought m v) =
@@ -63,12 +66,14 @@ module _ (p : Policy) (m : Mesh) where
       counts-kept (surface_of m) (input-sound m start.formed) log run (p.brought m)
 
   brought-few :
-      IsStartOfRun m → (log : List Collapse) → IsRun m log → (k : ℕ) → BringsAtMost p m k →
-      plane_count_of (brought_after p m log) (surface_after m log) ≤ 3 * (k * length m.faces)
-  brought-few start log run k few =
+      IsStartOfRun m → (log : List Collapse) → IsRun m log → (k e : ℕ) →
+      BringsAtMost p m k e →
+      plane_count_of (brought_after p m log) (surface_after m log) ≤ most_brought m k e
+  brought-few start log run k e few =
       let same = brought-kept start log run in
-      let first = brought-first k few in
+      let first = brought-first k e few in
       let input = mul-le-mul_left k (first_count m) in
+      let points = ap (λ (n : ℕ). e * n) (length-map m.points Some) in
       omega arith
 
 -- Taken planes.
@@ -143,14 +148,14 @@ pub planes_are_few : law.PlanesAreFew
 planes_are_few p m start = (
   λ log run. (
     brought-kept p m start log run,
-    λ brought taken brings takes.
-        let all = brought-few p m start log run brought brings in
+    λ n more taken brings takes.
+        let all = brought-few p m start log run n more brings in
         let each = taken-each p taken m takes log run in
         record {
           all = all;
           each = each;
-          vertex = vertex-few p m log (3 * (brought * length m.faces)) taken all each;
-          pair = pair-few p m log (3 * (brought * length m.faces)) taken all each;
+          vertex = vertex-few p m log (most_brought m n more) taken all each;
+          pair = pair-few p m log (most_brought m n more) taken all each;
         },
   ),
   λ n takes. takes-by-faces p m n takes,

@@ -12,7 +12,7 @@ use Rattle.pm_policies.specs.Policies.{Policy, taken_after, brought_after, plane
 use Rattle.pm_policies.specs.Policies.{pair_planes_by, place_by, key_by, plain_keeping, plain}
 use Rattle.pm_policies.specs.PolicyRuns.{IsCandidateBy, IsLeastPairBy, IsStepBy, HasNoCandidateBy}
 use Rattle.pm_policies.specs.PolicyRuns.{IsEndBy, IsRunBy, IsBegunBy}
-use Rattle.pm_policies.specs.Bounds.{BringsAtMost, TakesAtMost, TakesByFaces}
+use Rattle.pm_policies.specs.Bounds.{BringsAtMost, most_brought, TakesAtMost, TakesByFaces}
 
 -- What a vertex has at first.
 pub record StartsWith (p : Policy) (m : Mesh) (v : ℕ) : Type 0 where
@@ -51,17 +51,16 @@ PlanesAreOfFirstSurfaces =
     v < length m.points + length log →
     taken_after p m log v ≡ p.taken (surface_after m (take (v + 1 - length m.points) log)) v
 
--- How many planes there are after a run, where each input vertex brings at most `brought` for each
--- of its faces and no vertex takes more than `taken`.
+-- How many planes there are after a run, where the input's vertices together bring at most
+-- `brought` and no vertex takes more than `taken`.
 pub record AreFew (p : Policy) (m : Mesh) (log : List Collapse) (brought taken : ℕ) : Type 0 where
-  pub all : plane_count_of (brought_after p m log) (surface_after m log) ≤
-      3 * (brought * length m.faces)
+  pub all : plane_count_of (brought_after p m log) (surface_after m log) ≤ brought
   pub each : (v : ℕ) → length (taken_after p m log v) ≤ taken
   pub vertex : (v : ℕ) → is_live (surface_after m log) v ≡ true →
-      length (planes_by p m log v) ≤ 3 * (brought * length m.faces) + taken
+      length (planes_by p m log v) ≤ brought + taken
   pub pair : (a b : ℕ) → a < b → is_live (surface_after m log) a ≡ true →
       is_live (surface_after m log) b ≡ true →
-      length (pair_planes_by p m log a b) ≤ 3 * (brought * length m.faces) + 2 * taken
+      length (pair_planes_by p m log a b) ≤ brought + 2 * taken
 
 -- The live vertices have as many brought planes as at first. Where a policy gives few planes, no
 -- vertex and no pair has many.
@@ -71,8 +70,8 @@ PlanesAreFew =
     ((log : List Collapse) → IsRun m log →
     (plane_count_of (brought_after p m log) (surface_after m log) ≡
     plane_count_of (p.brought m) (surface_of m)) ×
-    ((brought taken : ℕ) → BringsAtMost p m brought → TakesAtMost p m taken →
-    AreFew p m log brought taken)) ×
+    ((n more taken : ℕ) → BringsAtMost p m n more → TakesAtMost p m taken →
+    AreFew p m log (most_brought m n more) taken)) ×
     ((n : ℕ) → TakesByFaces p n → TakesAtMost p m (n * length m.faces))
 
 -- A pair that a collapse neither merges nor makes keeps its place and its key.

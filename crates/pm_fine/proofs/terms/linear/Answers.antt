@@ -8,4 +8,4 @@ times-requires c =
     let fa = c.ranges.coefficient in
     let fx = c.ranges.x in
     simp to_z-of_z (at_most_product (unsigned_abs c.args.coefficient) (unsigned_abs c.args.x)
-    (2 ^ 96) 32767 (2 ^ 122) c.requires.coefficient_small c.requires.x_small (lit≤ tt))
+    (2 ^ 97) 32767 (2 ^ 122) c.requires.coefficient_small c.requires.x_small (lit≤ tt))

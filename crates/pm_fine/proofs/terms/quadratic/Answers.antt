@@ -8,5 +8,5 @@ times-requires c =
     let fa = c.ranges.coefficient in
     let fr : FitsSigned w32 c.product.result = search rules in
     simp to_z-of_z
-    (at_most_product (unsigned_abs c.args.coefficient) (unsigned_abs c.product.result) (2 ^ 79)
+    (at_most_product (unsigned_abs c.args.coefficient) (unsigned_abs c.product.result) (2 ^ 80)
     1073676289 (2 ^ 122) c.requires.coefficient_small c.product.ensures.small (lit≤ tt))

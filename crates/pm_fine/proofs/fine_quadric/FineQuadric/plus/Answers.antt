@@ -11,52 +11,52 @@ use Rattle.pm_fine.proofs.fine_quadric.FineQuadric.plus.Goals as goal
 
 pub overflow_add-result : goal.overflow_add-result
 overflow_add-result c =
-    sum_fits (the_view c.self.inside).xx (the_view c.other.inside).xx (2 ^ 79)
+    sum_fits (the_view c.self.inside).xx (the_view c.other.inside).xx (2 ^ 80)
     c.self.invariant.small.xx c.other.invariant.small.xx (lit≤ tt)
 
 pub overflow_add-result-2 : goal.overflow_add-result-2
 overflow_add-result-2 c =
-    sum_fits (the_view c.self.inside).xy (the_view c.other.inside).xy (2 ^ 79)
+    sum_fits (the_view c.self.inside).xy (the_view c.other.inside).xy (2 ^ 80)
     c.self.invariant.small.xy c.other.invariant.small.xy (lit≤ tt)
 
 pub overflow_add-result-3 : goal.overflow_add-result-3
 overflow_add-result-3 c =
-    sum_fits (the_view c.self.inside).xz (the_view c.other.inside).xz (2 ^ 79)
+    sum_fits (the_view c.self.inside).xz (the_view c.other.inside).xz (2 ^ 80)
     c.self.invariant.small.xz c.other.invariant.small.xz (lit≤ tt)
 
 pub overflow_add-result-4 : goal.overflow_add-result-4
 overflow_add-result-4 c =
-    sum_fits (the_view c.self.inside).x (the_view c.other.inside).x (2 ^ 96)
+    sum_fits (the_view c.self.inside).x (the_view c.other.inside).x (2 ^ 97)
     c.self.invariant.small.x c.other.invariant.small.x (lit≤ tt)
 
 pub overflow_add-result-5 : goal.overflow_add-result-5
 overflow_add-result-5 c =
-    sum_fits (the_view c.self.inside).yy (the_view c.other.inside).yy (2 ^ 79)
+    sum_fits (the_view c.self.inside).yy (the_view c.other.inside).yy (2 ^ 80)
     c.self.invariant.small.yy c.other.invariant.small.yy (lit≤ tt)
 
 pub overflow_add-result-6 : goal.overflow_add-result-6
 overflow_add-result-6 c =
-    sum_fits (the_view c.self.inside).yz (the_view c.other.inside).yz (2 ^ 79)
+    sum_fits (the_view c.self.inside).yz (the_view c.other.inside).yz (2 ^ 80)
     c.self.invariant.small.yz c.other.invariant.small.yz (lit≤ tt)
 
 pub overflow_add-result-7 : goal.overflow_add-result-7
 overflow_add-result-7 c =
-    sum_fits (the_view c.self.inside).y (the_view c.other.inside).y (2 ^ 96)
+    sum_fits (the_view c.self.inside).y (the_view c.other.inside).y (2 ^ 97)
     c.self.invariant.small.y c.other.invariant.small.y (lit≤ tt)
 
 pub overflow_add-result-8 : goal.overflow_add-result-8
 overflow_add-result-8 c =
-    sum_fits (the_view c.self.inside).zz (the_view c.other.inside).zz (2 ^ 79)
+    sum_fits (the_view c.self.inside).zz (the_view c.other.inside).zz (2 ^ 80)
     c.self.invariant.small.zz c.other.invariant.small.zz (lit≤ tt)
 
 pub overflow_add-result-9 : goal.overflow_add-result-9
 overflow_add-result-9 c =
-    sum_fits (the_view c.self.inside).z (the_view c.other.inside).z (2 ^ 96)
+    sum_fits (the_view c.self.inside).z (the_view c.other.inside).z (2 ^ 97)
     c.self.invariant.small.z c.other.invariant.small.z (lit≤ tt)
 
 pub overflow_add-result-10 : goal.overflow_add-result-10
 overflow_add-result-10 c =
-    sum_fits (the_view c.self.inside).one (the_view c.other.inside).one (2 ^ 112)
+    sum_fits (the_view c.self.inside).one (the_view c.other.inside).one (2 ^ 113)
     c.self.invariant.small.one c.other.invariant.small.one (lit≤ tt)
 
 pub overflow_add-result-11 : goal.overflow_add-result-11

@@ -14,7 +14,7 @@ returns-clause-lists c fs e =
 pub returns-clause-small : goal.returns-clause-small
 returns-clause-small c =
     let fits : FitsSigned w128 c.polynomial_at.result = search rules in
-    subst (λ (n : ℕ). n < 2 ^ 114)
+    subst (λ (n : ℕ). n < 2 ^ 115)
     (sym (abs_read _ _ _ fits c.unsigned_abs.ensures.value c.polynomial_at.ensures.value))
     (polynomial_below c.args.self.now c.args.p c.polynomial_at.ensures.quadric
     c.polynomial_at.ensures.in_range)
