@@ -1,3 +1,4 @@
+pub mod FineLaws
 pub mod TextLaws
 pub mod MakeLaws
 pub mod OutcomeLaws

@@ -19,6 +19,7 @@ use Rattle.obj_prepare.specs.declared.notes.Notes.{Notes}
 use Rattle.obj_prepare.specs.declared.placing.Fit.{Fit}
 use Rattle.obj_prepare.specs.Prepared.{IsPreparedWith}
 use Rattle.obj_prepare.proofs.PlacingLaws.{length-places_of}
+use Rattle.obj_fit.specs.Fine.{rounded_faces}
 use Rattle.obj_fit.specs.Texts.{head_line, notes_text}
 use Rattle.obj_prepare.specs.Named.{IsWithinMesh as IsNamedWithin, of_three}
 use Rattle.obj_prepare.proofs.ThreeLaws.{three_within}
@@ -84,14 +85,15 @@ pub makes_done : (size : Option ℕ) (s : Scanned) (laid : Laid) (places : List 
     → three ≡ laid.three.items → IsPreparedWith places three m notes → IsWellFormed m
     → IsOrientedManifold (net_of m.faces) → shown ≡ m.faces → 0 < length shown
     → head ≡ head_line laid.placing.fit
-    → said ≡ notes_text (counts_of s laid.cut.faces.items laid.cut.overlapping m) notes
+    → said ≡ notes_text (counts_of s laid.cut.faces.items laid.cut.overlapping
+    (rounded_faces laid.placing.fit s.points laid.placing.places.items laid.three.items) m) notes
     (rounded_for s.points laid.placing.places.items laid.three.items notes.joined) laid.placing.fit
     (warning_for laid.placing.fit s.points laid.fans.items notes.flat)
     → MakesPrepared size s (record { text = head ++ canonical_text 0 m; notes = said })
 makes_done size s laid places three m notes shown head said is places_are three_are prepared formed
     manifold shown_is some head_is said_is =
     let Said : List Corners → ℕ → List Place → List Corners → List Corners → Fit → List ℕ =
-    λ cut n ps fs fans f. notes_text (counts_of s cut n m) notes
+    λ cut n ps fs fans f. notes_text (counts_of s cut n (rounded_faces f s.points ps fs) m) notes
     (rounded_for s.points ps fs notes.joined) f (warning_for f s.points fans notes.flat) in
     record {
       mesh = m;

@@ -14,7 +14,7 @@ use Rattle.std.proofs.lemmas.Bool.Decides.{nat_tests}
 use Rattle.obj_fit.specs.declared.counts.Counts.{Counts}
 use Rattle.obj_fit.specs.Texts.{account_line, warning_line, note_line, face_notes, line_notes}
 use Rattle.obj_fit.specs.Texts.{joined_line, turn_notes, apart_line, vertex_notes, last_note}
-use Rattle.obj_fit.specs.Texts.{passed_notes, notes_text}
+use Rattle.obj_fit.specs.Texts.{rounded_notes, passed_notes, notes_text}
 use Rattle.obj_prepare.specs.Nothing.{nothing_done}
 
 four_ends : (line : List ℕ) → line ++ [] ++ [] ++ [] ++ [] ≡ line
@@ -28,11 +28,14 @@ pub no_account : (c : Counts) → c.vertices_in ≡ c.vertices_out → c.triangl
 unfolding account_line
 no_account c vertices triangles = grind (arith, common_steps, eq-eqb)
 
--- Only polygons that were cut, what was passed over, closed surfaces that look inward and faces
--- without area are told.
+-- Only polygons that were cut, vertices that were rounded as they were read, triangles that
+-- rounding made flat or turned over, what was passed over, closed surfaces that look inward and
+-- faces without area are told.
 pub nothing_said : (c : Counts) (rounded k : ℕ) (fit : Fit) → account_line c ≡ [] → c.twice ≡ 0
     → notes_text c (nothing_done k) rounded fit None ≡ note_line (codes "polygons cut") c.polygons
     ++ note_line (codes "polygons whose triangles overlap") c.overlapping
+    ++ note_line (codes "vertices rounded at the 18th decimal") c.inexact
+    ++ rounded_notes c.rounded
     ++ passed_notes c.passed
     ++ note_line (codes "closed surfaces that enclose a void or face inward") k
     ++ note_line (codes "faces without area") c.thin ++ last_note fit

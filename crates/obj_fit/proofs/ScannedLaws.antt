@@ -1,6 +1,6 @@
 -- What a text spells is within the limits, and each of its points is at most 10^32 units away from
 -- 0 on each axis.
-use Rattle.std.proofs.Common.{◌≡◌, ℕ, ◌+◌, ◌-◌, ◌^◌, ◌<◌, ◌≤◌, Bool, true, false, ◌==◌}
+use Rattle.std.proofs.Common.{◌≡◌, ℕ, ◌+◌, ◌-◌, ◌^◌, ◌<◌, ◌≤◌, Bool, true, false, ◌==◌, ◌&&◌}
 use Rattle.std.proofs.lemmas.Grind.{common_steps}
 use Rattle.std.proofs.Common.{nat_lt, List, [], ◌∷◌, length, ℤ, Option, Some, None, Result, Ok, Err}
 use Rattle.std.proofs.Common.{IfOk, refl, subst, arith, if◌then◌else◌}
@@ -21,7 +21,7 @@ use Rattle.obj_read.proofs.FormedLaws.{Gives, given, then_gives, unless, index_w
 use Rattle.obj_read.proofs.FormedLaws.{not_full}
 use Rattle.obj_read.proofs.DecimalLaws.{with_sign_abs}
 use Rattle.obj_prepare.specs.Exact.{AreExact}
-use Rattle.obj_prepare.specs.Numbers.{decimal_coordinate}
+use Rattle.obj_prepare.specs.Numbers.{decimal_coordinate, is_exact_field}
 use Rattle.obj_scan.specs.Judged.{Scanned, Found, nothing, vertex, polygon, scanned_vertex_line}
 use Rattle.obj_scan.specs.Judged.{indices, polygon_of, polygon_line, scanned_fields, scanned_line}
 use Rattle.obj_scan.specs.Judged.{after_place, in_line, other_line, with_scanned}
@@ -48,7 +48,7 @@ coordinate_exact field =
 -- After n vertices and k triangles there is room for what a line gives.
 Suits : ℕ → ℕ → Found → Type 0
 Suits n k (nothing kind) = Unit {0}
-Suits n k (vertex p kind) = (n < 1048576) × AreExact p
+Suits n k (vertex p exact kind) = (n < 1048576) × AreExact p
 Suits n k (polygon corners) = All (λ (c : ℕ). c < n) corners × (k + (length corners - 2) ≤ 1048576)
 
 vertex_suits : (n k : ℕ) (fs : List (List ℕ)) → Gives (Suits n k) (scanned_vertex_line n fs)
@@ -60,7 +60,8 @@ vertex_suits n k (a ∷ b ∷ c ∷ more) =
     then_gives _ _ _ _ (coordinate_exact a)
     (λ x exact_x. then_gives _ _ _ _ (coordinate_exact b)
     (λ y exact_y. then_gives _ _ _ _ (coordinate_exact c) (λ z exact_z.
-    let v = vertex (record { x = x; y = y; z = z }) (after_place more) in
+    let v = vertex (record { x = x; y = y; z = z })
+    (is_exact_field a && is_exact_field b && is_exact_field c) (after_place more) in
     unless (Suits n k) (nat_le 1048576 n) faults.TooMany (Ok v)
     (λ room. given (Suits n k) v (not_full n room, (exact_x, exact_y, exact_z))))))
 
@@ -125,15 +126,16 @@ with_found_sound s line (nothing kind) sound suits =
       exact = sound.exact;
       within = record {
         points = sound.within.points;
+        inexact = sound.within.inexact;
         faces = sound.within.faces;
         corners = sound.within.corners;
         polygons = sound.within.polygons;
         polygons_few = sound.within.polygons_few;
       };
     }
-with_found_sound s line (vertex p kind) sound suits = record {
+with_found_sound s line (vertex p exact kind) sound suits = record {
   exact = All-push AreExact s.points p sound.exact suits.1;
-  within = vertex_within s line p kind sound.within suits.0;
+  within = vertex_within s line p exact kind sound.within suits.0;
 }
 with_found_sound s line (polygon corners) sound suits = record {
   exact = sound.exact;
@@ -185,11 +187,12 @@ meaning_from_sound s (line ∷ more) sound =
     (λ t keeps. meaning_from_sound t more keeps)
 
 nothing_sound : IsSound
-    (record { points = []; faces = []; polygons = []; passed = none_passed })
+    (record { points = []; inexact = 0; faces = []; polygons = []; passed = none_passed })
 nothing_sound = record {
   exact = All-nil AreExact;
   within = record {
     points = omega arith;
+    inexact = omega arith;
     faces = omega arith;
     corners = All-nil (AreVerticesBelow 0);
     polygons = All-nil (IsPolygonWithin 0);

@@ -27,9 +27,10 @@ use Rattle.obj_prepare.specs.Prepared.{IsPreparedWith}
 use Rattle.obj_prepare.specs.Laws.{AreFit}
 use Rattle.obj_fit.specs.declared.fault.Fault.{Fault}
 use Rattle.obj_fit.specs.Thin.{thin_count}
-use Rattle.obj_fit.specs.Texts.{output_text, note_line, passed_notes, notes_text, last_note}
+use Rattle.obj_fit.specs.Texts.{output_text, note_line, rounded_notes, passed_notes, notes_text}
+use Rattle.obj_fit.specs.Texts.{last_note}
 use Rattle.obj_fit.specs.Outcome.{Done, MakesPrepared, IsPreparedText, cut_in, overlapping_in}
-use Rattle.obj_fit.specs.Outcome.{fit_in, places_in, counts_in}
+use Rattle.obj_fit.specs.Outcome.{fit_in, places_in, counts_in, rounded_faces_in}
 use Rattle.pm_io.specs.Letters.{line_feed, carriage_return, hash_sign}
 
 -- A text has one outcome, and one place that decides it.
@@ -174,13 +175,16 @@ pub record NeedsNothing (size : Option ℕ) (s : Scanned) : Type 0 where
   pub fit : AreFit (places_in size s) (cut_in size s)
 
 -- The output and the notes of these triangles over the places of these points: polygons that were
--- cut, those that overlap, what was passed over, closed surfaces that look inward, faces
+-- cut, those that overlap, vertices that were rounded as they were read, triangles that rounding to
+-- the grid made flat or turned over, what was passed over, closed surfaces that look inward, faces
 -- without area, and how places lead back.
 abbrev pub as_it_is : Option ℕ → Scanned → ℕ → Done
 as_it_is size s inside_out = record {
   text = output_text (fit_in size s) (record { points = places_in size s; faces = cut_in size s });
   notes = note_line (codes "polygons cut") (length s.polygons)
       ++ note_line (codes "polygons whose triangles overlap") (overlapping_in size s)
+      ++ note_line (codes "vertices rounded at the 18th decimal") s.inexact
+      ++ rounded_notes (rounded_faces_in size s)
       ++ passed_notes s.passed
       ++ note_line (codes "closed surfaces that enclose a void or face inward") inside_out
       ++ note_line (codes "faces without area") (thin_count (places_in size s) (cut_in size s))

@@ -1,4 +1,5 @@
 pub mod Thin
+pub mod Fine
 pub mod Texts
 pub mod Outcome
 pub mod Making

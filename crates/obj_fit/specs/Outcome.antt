@@ -22,6 +22,8 @@ use Rattle.obj_prepare.specs.Prepared.{IsPrepared, IsPreparedWith, HasTooMany}
 use Rattle.obj_fit.specs.declared.counts.Counts.{Counts}
 use Rattle.obj_fit.specs.declared.fault.Fault.{Fault}
 use Rattle.obj_fit.specs.declared.fault.Fault.TheVariants as faults
+use Rattle.obj_fit.specs.declared.rounded.RoundedFaces.{RoundedFaces}
+use Rattle.obj_fit.specs.Fine.{rounded_faces}
 use Rattle.obj_fit.specs.Thin.{thin_count}
 use Rattle.obj_fit.specs.Texts.{output_text, notes_text}
 
@@ -48,16 +50,19 @@ abbrev pub overlapping_in : Option ℕ → Scanned → ℕ
 overlapping_in size s = overlapping_count (places_in size s) s.polygons s.faces
 
 -- How many vertices and triangles there were, and came out; how many polygons were cut, and how
--- many of them overlap; how much was passed over; how many of these triangles name a vertex twice;
--- and how many faces came out without area.
-abbrev pub counts_of : Scanned → List Corners → ℕ → Mesh → Counts
-counts_of s cut overlapping m = record {
+-- many of them overlap; how many vertices were rounded as they were read, and how much was passed
+-- over; how many of these triangles name a vertex twice, and what rounding did to the others; and
+-- how many faces came out without area.
+abbrev pub counts_of : Scanned → List Corners → ℕ → RoundedFaces → Mesh → Counts
+counts_of s cut overlapping rounded m = record {
   vertices_in = length s.points;
   vertices_out = length m.points;
   triangles_in = length s.faces;
   triangles_out = length m.faces;
   polygons = length s.polygons;
   overlapping = overlapping;
+  inexact = s.inexact;
+  rounded = rounded;
   passed = s.passed;
   twice = length cut - length (of_three cut);
   thin = thin_count m.points m.faces;
@@ -82,8 +87,14 @@ abbrev pub rounded_in : Option ℕ → Scanned → Notes → ℕ
 rounded_in size s notes =
     rounded_for s.points (places_in size s) (of_three (cut_in size s)) notes.joined
 
+-- What rounding to the grid did to triangles.
+abbrev pub rounded_faces_in : Option ℕ → Scanned → RoundedFaces
+rounded_faces_in size s =
+    rounded_faces (fit_in size s) s.points (places_in size s) (of_three (cut_in size s))
+
 abbrev pub counts_in : Option ℕ → Scanned → Mesh → Counts
-counts_in size s m = counts_of s (cut_in size s) (overlapping_in size s) m
+counts_in size s m =
+    counts_of s (cut_in size s) (overlapping_in size s) (rounded_faces_in size s) m
 
 -- What is done with the points and triangles of a text: points are brought onto the grid, polygons
 -- are cut anew, triangles become an oriented manifold of these points, and the texts tell of that.

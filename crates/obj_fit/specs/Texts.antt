@@ -10,6 +10,7 @@ use Rattle.obj_prepare.specs.declared.notes.Notes.{Notes}
 use Rattle.obj_prepare.specs.declared.placing.Fit.{Fit}
 use Rattle.obj_prepare.specs.declared.placing.Fit.TheVariants as fits
 use Rattle.obj_fit.specs.declared.counts.Counts.{Counts}
+use Rattle.obj_fit.specs.declared.rounded.RoundedFaces.{RoundedFaces}
 use Rattle.obj_prepare.specs.declared.longest.Axis.{Axis}
 use Rattle.obj_prepare.specs.declared.longest.Axis.TheVariants as axes
 use Rattle.obj_prepare.specs.declared.longest.LongestAxis.{LongestAxis}
@@ -109,10 +110,18 @@ beside_notes p =
 unfoldable pub passed_notes : PassedOver → List ℕ
 passed_notes p = shading_notes p ++ beside_notes p
 
--- What is said of polygons, and of what was passed over.
+-- What rounding to the grid did to triangles.
+unfoldable pub rounded_notes : RoundedFaces → List ℕ
+rounded_notes r = note_line (codes "faces made flat by rounding") r.flattened
+    ++ note_line (codes "faces turned over by rounding") r.overturned
+
+-- What is said of polygons, of vertices that were rounded as they were read, of triangles that
+-- rounding to the grid made flat or turned over, and of what was passed over.
 unfoldable pub line_notes : Counts → List ℕ
 line_notes c = note_line (codes "polygons cut") c.polygons
     ++ note_line (codes "polygons whose triangles overlap") c.overlapping
+    ++ note_line (codes "vertices rounded at the 18th decimal") c.inexact
+    ++ rounded_notes c.rounded
     ++ passed_notes c.passed
 
 -- What is said of the faces and places of the input, of which so many were joined by rounding.

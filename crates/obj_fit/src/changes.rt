@@ -1,10 +1,12 @@
 //! The lines of what was done to lines, faces and vertices of the input.
 ghost use Rattle.std.specs.Prelude.{◌≡◌, ◌++◌, OnOk};
 ghost use Rattle.obj_fit.specs.Texts.{note_line, rounding_text, joined_line, line_notes};
-ghost use Rattle.obj_fit.specs.Texts.{others_line, shading_notes, beside_notes, passed_notes};
-ghost use Rattle.obj_fit.specs.Texts.{face_notes, turn_notes, apart_line, vertex_notes};
+ghost use Rattle.obj_fit.specs.Texts.{others_line, rounded_notes, shading_notes, beside_notes};
+ghost use Rattle.obj_fit.specs.Texts.{passed_notes, face_notes, turn_notes, apart_line};
+ghost use Rattle.obj_fit.specs.Texts.{vertex_notes};
 
 use crate::counts::Counts;
+use crate::rounded::RoundedFaces;
 use crate::text::add_number;
 use obj_prepare::Notes;
 use obj_scan::PassedOver;
@@ -106,7 +108,18 @@ fn add_passed(text: &mut Vec<u8>, passed: &PassedOver) -> Result<(), AllocError>
     Ok(())
 }
 
-// Adds what is said of polygons, and of what was passed over.
+// Adds what rounding to the grid did to triangles.
+#[tactic(auto, unfolding(crate::specs::Texts::rounded_notes))]
+fn add_rounded(text: &mut Vec<u8>, rounded: RoundedFaces) -> Result<(), AllocError>
+    ensures { OnOk result (text.new.items ≡ text.old.items ++ rounded_notes rounded) }
+{
+    add_note(text, b"faces made flat by rounding", rounded.flattened)?;
+    add_note(text, b"faces turned over by rounding", rounded.overturned)?;
+    Ok(())
+}
+
+// Adds what is said of polygons, of vertices that were rounded as they were read, of triangles that
+// rounding to the grid made flat or turned over, and of what was passed over.
 #[tactic(auto, unfolding(crate::specs::Texts::line_notes))]
 fn add_line_notes(text: &mut Vec<u8>, counts: Counts) -> Result<(), AllocError>
     ensures { OnOk result (text.new.items ≡ text.old.items ++ line_notes counts) }
@@ -117,6 +130,12 @@ fn add_line_notes(text: &mut Vec<u8>, counts: Counts) -> Result<(), AllocError>
         b"polygons whose triangles overlap",
         counts.overlapping,
     )?;
+    add_note(
+        text,
+        b"vertices rounded at the 18th decimal",
+        counts.inexact,
+    )?;
+    add_rounded(text, counts.rounded)?;
     add_passed(text, &counts.passed)?;
     Ok(())
 }

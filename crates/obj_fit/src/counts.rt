@@ -7,6 +7,7 @@ ghost use Rattle.obj_scan.specs.Fails.{scanned_of};
 ghost use Rattle.obj_scan.specs.Meaning.{IsWithinLimits};
 ghost use Rattle.obj_fit.specs.Outcome.{counts_of};
 
+use crate::rounded::RoundedFaces;
 use crate::thin::count_thin;
 use obj_scan::{PassedOver, Scan};
 use pm_base::{Corners, Mesh};
@@ -23,6 +24,10 @@ pub struct Counts {
     pub polygons: u32,
     /// Polygons that keep a fan of which a triangle is turned over.
     pub overlapping: u32,
+    /// Vertices of which a coordinate was rounded as it was read.
+    pub inexact: u32,
+    /// What rounding to the grid did to triangles.
+    pub rounded: RoundedFaces,
     pub passed: PassedOver,
     /// Triangles that name a vertex twice.
     pub twice: u32,
@@ -31,16 +36,22 @@ pub struct Counts {
 }
 
 /// The counts of a text, of whose triangles, once polygons were cut anew, these name three
-/// vertices, and of the mesh that came out.
+/// vertices and rounding did this to them, and of the mesh that came out.
 #[tactic(auto, using(obj_prepare::proofs::ThreeLaws::three_few))]
-pub fn counts_of(scan: &Scan, cut: &Recut, three: &[Corners], mesh: &Mesh) -> Counts
+pub fn counts_of(
+    scan: &Scan,
+    cut: &Recut,
+    three: &[Corners],
+    rounded: RoundedFaces,
+    mesh: &Mesh,
+) -> Counts
     requires within { IsWithinLimits (scanned_of scan.now) }
     requires cut { length cut.now.faces.items ≤ MOST_FACES }
     requires three { three.now ≡ of_three cut.now.faces.items }
     requires few { length three.now ≤ MOST_FACES }
     requires formed { IsWellFormed (mesh_of mesh.now) }
     ensures { result ≡ counts_of (scanned_of scan.now) cut.now.faces.items cut.now.overlapping
-        (mesh_of mesh.now) }
+        rounded (mesh_of mesh.now) }
 {
     Counts {
         vertices_in: scan.points.len() as u32,
@@ -49,6 +60,8 @@ pub fn counts_of(scan: &Scan, cut: &Recut, three: &[Corners], mesh: &Mesh) -> Co
         triangles_out: mesh.faces.len() as u32,
         polygons: scan.polygons.len() as u32,
         overlapping: cut.overlapping,
+        inexact: scan.inexact,
+        rounded,
         passed: scan.passed,
         twice: cut.faces.len() as u32 - three.len() as u32,
         thin: count_thin(mesh.points.as_slice(), mesh.faces.as_slice()),

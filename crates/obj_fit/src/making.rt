@@ -10,6 +10,7 @@ ghost use Rattle.obj_prepare.specs.Named.{IsWithinMesh, of_three as of_three_in}
 ghost use Rattle.obj_fit.specs.Texts.{notes_text as notes_text_of};
 ghost use Rattle.obj_fit.specs.Outcome.{MakesPrepared, IsPreparedText, counts_of, warning_for};
 ghost use Rattle.obj_fit.specs.Outcome.{rounded_for};
+ghost use Rattle.obj_fit.specs.Fine.{rounded_faces as rounded_faces_of};
 ghost use Rattle.obj_fit.specs.Making.{done_of, IsMakeFail};
 ghost use Rattle.obj_fit.specs.Fails.{StopsPreparing};
 
@@ -17,6 +18,7 @@ use crate::counts::counts_of;
 use crate::fault::{Fault, InputFail};
 use crate::laying::{Laid, lay_out};
 use crate::notes::{head_line, notes_text};
+use crate::rounded::rounded_faces;
 use obj_prepare::{
     ExactPoint, Fit, LongestAxis, PrepareFail, Prepared, longest_axis, prepare, rounded_count,
 };
@@ -94,17 +96,20 @@ fn notes_of(
         (λ text. text.items
         ≡ notes_text_of
         (counts_of (scanned_of scan.now) laid.now.cut.faces.items laid.now.cut.overlapping
-        (mesh_of prepared.now.mesh)) prepared.now.notes
+        (rounded_faces_of laid.now.placing.fit scan.now.points.items
+        laid.now.placing.places.items laid.now.three.items) (mesh_of prepared.now.mesh))
+        prepared.now.notes
         (rounded_for scan.now.points.items laid.now.placing.places.items laid.now.three.items
         prepared.now.notes.joined) laid.now.placing.fit
         (warning_for laid.now.placing.fit scan.now.points.items laid.now.fans.items
         prepared.now.notes.flat)) }
 {
-    let counts = counts_of(scan, &laid.cut, &laid.three, &prepared.mesh);
-    let done = prepared.notes;
-    let places = &laid.placing.places;
-    let rounded = rounded_for(alloc, &scan.points, places, &laid.three, done.joined)?;
     let fit = &laid.placing.fit;
+    let places = &laid.placing.places;
+    let faces = rounded_faces(alloc, fit, &scan.points, places, &laid.three)?;
+    let counts = counts_of(scan, &laid.cut, &laid.three, faces, &prepared.mesh);
+    let done = prepared.notes;
+    let rounded = rounded_for(alloc, &scan.points, places, &laid.three, done.joined)?;
     let warning = warning_for(alloc, fit, &scan.points, &laid.fans, done.flat)?;
     notes_text(alloc, counts, &done, rounded, fit, warning)
 }

@@ -1,15 +1,14 @@
 -- Each triangle is told: it stays among those that are kept, is an edge, or stands on an earlier
 -- one.
 use Rattle.std.proofs.Common.{◌≡◌, ℕ, zero, suc, ◌+◌, ◌*◌, ◌<◌}
-use Rattle.std.proofs.Common.{◌≤◌, ◌⊎◌, ◌||◌, Bool, true, false, List}
-use Rattle.std.proofs.Common.{[], ◌∷◌, ◌++◌, length, get_or, map, inl, inr, refl, sym, ap, ◌∙◌}
+use Rattle.std.proofs.Common.{◌⊎◌, ◌||◌, true, false, List}
+use Rattle.std.proofs.Common.{[], ◌∷◌, ◌++◌, length, get_or, inl, inr, refl, sym, ap, ◌∙◌}
 use Rattle.std.proofs.Common.{subst, arith, eqb}
 use Rattle.std.proofs.lemmas.Grind.{common_steps}
 use Rattle.std.specs.List.{All, list_any}
 use Rattle.std.proofs.lemmas.Bool.{cases_Bool, or_cases, and_parts, and_cases, not-false, eqb-true}
 use Rattle.std.proofs.lemmas.Bool.{eq-eqb, cond-true, cond-false, true≢false}
 use Rattle.std.proofs.lemmas.List.{length-map, get_or-map, length-append, get_or_append_left}
-use Rattle.std.proofs.lemmas.List.{get_or_default}
 use Rattle.std.proofs.Math.Seq.{get_or-append_seam}
 use Rattle.std.proofs.lemmas.List.Folds.{list_any-append}
 use Rattle.pm_base.specs.declared.mesh.Corners.{Corners}
@@ -21,15 +20,14 @@ use Rattle.pm_fans.specs.Kept.{is_flat, is_corner, is_alike, is_kept_after, kept
 use Rattle.pm_turn.specs.Turning.{turned_face, turned_by}
 use Rattle.pm_turn.proofs.TurnedFaces.{turned_length, each_is_turned_or_not}
 use Rattle.obj_prepare.specs.Named.{is_some_corner, AreVerticesBelow}
-use Rattle.obj_prepare.specs.Joining.{place_in_list, IsFirstAt, AreJoined, renamed, joined_faces}
+use Rattle.obj_prepare.specs.Joining.{place_in_list, IsFirstAt, renamed, joined_faces}
 use Rattle.obj_prepare.specs.Prepared.{staying, IsPrepared}
 use Rattle.obj_prepare.specs.Became.{triangle_at, IsEdgeAt, HasCornerAt, StandsOn, StandsAs, Became}
 use Rattle.obj_prepare.specs.Became.{an_edge, a_double, as_it_was, turned, AllBecame}
 use Rattle.obj_prepare.specs.Became.{TrianglesAreTold}
-use Rattle.obj_prepare.proofs.NamedLaws.{one_within}
 use Rattle.obj_prepare.proofs.PieceLaws.{named_low, corners_named}
 use Rattle.obj_prepare.proofs.KeptCounts.{kept_not_flat}
-use Rattle.obj_prepare.proofs.OwnVertices.{one_place, side_own}
+use Rattle.obj_prepare.proofs.OwnVertices.{one_place}
 
 -- What became of face i of a list, before which these stayed: it stayed, in place k, or it has the
 -- corners of one of those or of an earlier one of the list, j.

@@ -2,6 +2,7 @@ pub mod NearestLaws
 pub mod DigitLaws
 pub mod RoundLaws
 pub mod UnitLaws
+pub mod ExactLaws
 pub mod BoxLaws
 pub mod NamedLaws
 pub mod PlacingLaws

@@ -46,7 +46,7 @@ zeros_past zeros start so =
     let some : 1 ≤ 10 ^ zeros = one-le-pow zeros 10 (omega arith) in
     omega (arith, so, some)
 
-digits_drop : (n : ℕ) (ds : List ℕ) → are_digits ds ≡ true → are_digits (drop n ds) ≡ true
+pub digits_drop : (n : ℕ) (ds : List ℕ) → are_digits ds ≡ true → are_digits (drop n ds) ≡ true
 digits_drop zero ds all = all
 digits_drop (suc n) [] all = refl
 digits_drop (suc n) (b ∷ bs) all = digits_drop n bs (and_parts (is_digit b) (are_digits bs) all).1

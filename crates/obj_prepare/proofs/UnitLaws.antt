@@ -32,7 +32,7 @@ take_both (x ∷ xs) ys (suc n) i j is js =
     rw z (ap (λ (l : List ℕ). x ∷ l)
     (take_both xs ys n (min (length xs) n) j refl (omega (arith, js, z))))
 
-digits_append : (xs ys : List ℕ) → are_digits xs ≡ true → are_digits ys ≡ true
+pub digits_append : (xs ys : List ℕ) → are_digits xs ≡ true → are_digits ys ≡ true
     → are_digits (xs ++ ys) ≡ true
 digits_append xs ys all each = list_all-append is_digit xs ys ∙ and_from _ _ all each
 

@@ -1,7 +1,7 @@
 -- Numbers with decimals and an exponent, rounded to whole numbers of units. A unit is 10^-18.
-use Rattle.std.specs.Prelude.{◌≡◌, ℕ, ◌+◌, ◌-◌, ◌*◌, ◌/◌, ◌^◌, ◌≤◌, pos, ◌-ℤ◌, unsigned_abs, List}
-use Rattle.std.specs.Prelude.{◌++◌, Bool, not, ◌==◌, ◌&&◌, ◌||◌, nat_lt, length, drop, ℤ, Result}
-use Rattle.std.specs.Prelude.{Ok, Err, if◌then◌else◌}
+use Rattle.std.specs.Prelude.{◌≡◌, ℕ, ◌+◌, ◌-◌, ◌*◌, ◌/◌, ◌%◌, ◌^◌, ◌≤◌, pos, ◌-ℤ◌, unsigned_abs}
+use Rattle.std.specs.Prelude.{List, ◌++◌, Bool, not, ◌==◌, ◌&&◌, ◌||◌, nat_lt, length, drop, ℤ}
+use Rattle.std.specs.Prelude.{Result, Ok, Err, if◌then◌else◌}
 use Rattle.pm_io.specs.Digits.{are_digits, value}
 use Rattle.obj_lines.specs.Text.{until}
 use Rattle.obj_read.specs.declared.fault.ObjFault.{ObjFault}
@@ -70,3 +70,19 @@ decimal_coordinate field =
     else if nat_lt 999 (exponent (without_sign field)) || nat_lt (10 ^ 32)
     (units_of_text (without_sign field)) then Err faults.OutOfRange
     else Ok (with_sign (is_negative field) (units_of_text (without_sign field)))
+
+-- n * 10^up / 10^down is a whole number.
+unfoldable pub is_whole_shifted : ℕ → ℕ → ℕ → Bool
+is_whole_shifted n up down = n * 10 ^ up % 10 ^ down == 0
+
+-- The number is a whole number of units.
+unfoldable pub is_whole_in_units : List ℕ → Bool
+is_whole_in_units number =
+    if is_negative (exponent_text number) then
+    is_whole_shifted (all_digits number) 18 (length (decimals (mantissa number)) + exponent number)
+    else is_whole_shifted (all_digits number) (18 + exponent number)
+    (length (decimals (mantissa number)))
+
+-- What a field spells is a whole number of units, so its coordinate isn't rounded.
+unfoldable pub is_exact_field : List ℕ → Bool
+is_exact_field field = is_whole_in_units (without_sign field)

@@ -1,7 +1,8 @@
 //! Digits of a number, up to the one that decides how it is rounded.
 ghost use Rattle.std.specs.Prelude.{◌≡◌, ℕ, ◌+◌, ◌*◌, ◌^◌, ◌<◌, ◌≤◌, min, true, length, ◌++◌};
-ghost use Rattle.std.specs.Prelude.{slice_index_or};
+ghost use Rattle.std.specs.Prelude.{slice_index_or, drop};
 ghost use Rattle.pm_io.specs.Digits.{are_digits, value};
+ghost use Rattle.obj_read.specs.Coordinates.{are_zeros};
 ghost use Rattle.obj_prepare.specs.Numbers.{shifted};
 
 /// The greatest absolute value of a coordinate in units.
@@ -71,4 +72,20 @@ pub fn rounded(whole: &[u8], decimals: &[u8], kept: usize) -> u128
     } else {
         n
     }
+}
+
+fn are_zeros(digits: &[u8]) -> bool
+    ensures { result ≡ are_zeros digits.now }
+{
+    digits.iter().all(|b| *b == b'0')
+}
+
+/// Whether all digits after the first `kept` are 0.
+#[tactic(auto, using(crate::proofs::ExactLaws::zeros_after))]
+pub fn are_zeros_after(whole: &[u8], decimals: &[u8], kept: usize) -> bool
+    ensures { result ≡ are_zeros (drop kept (whole.now ++ decimals.now)) }
+{
+    let front = &whole[whole.len().min(kept)..];
+    let back = &decimals[decimals.len().min(kept.saturating_sub(whole.len()))..];
+    are_zeros(front) && are_zeros(back)
 }

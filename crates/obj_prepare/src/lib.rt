@@ -21,7 +21,7 @@ mod standing;
 mod theory;
 mod three;
 
-pub use decimal::decimal_coordinate;
+pub use decimal::{Coordinate, decimal_coordinate, exact_coordinate};
 pub use different::rounded_count;
 pub use exact::ExactPoint;
 pub use extents::{PointBox, box_of, extent, scaled};

@@ -20,6 +20,15 @@ fields (b ∷ bs) =
     else if begins_blank bs then (b ∷ []) ∷ fields bs
     else onto b (fields bs)
 
+-- There is one among these.
+abbrev pub is_some_field : List (List ℕ) → Bool
+is_some_field [] = false
+is_some_field (field ∷ more) = true
+
+-- The line isn't blank.
+abbrev pub has_field : List ℕ → Bool
+has_field bytes = is_some_field (fields bytes)
+
 -- The field is this letter and no more.
 abbrev pub is_letter : ℕ → List ℕ → Bool
 is_letter letter (b ∷ []) = b == letter

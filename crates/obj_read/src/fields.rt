@@ -1,6 +1,6 @@
 //! The fields of a line, one after the other.
 ghost use Rattle.std.specs.Prelude.{◌≡◌, ◌<◌, ◌∷◌, [], length, false, MatchOption};
-ghost use Rattle.obj_read.specs.Fields.{is_blank, begins_blank, fields, is_letter};
+ghost use Rattle.obj_read.specs.Fields.{is_blank, begins_blank, fields, has_field, is_letter};
 
 fn is_blank(b: u8) -> bool
     ensures { result ≡ is_blank b }
@@ -48,6 +48,13 @@ pub fn next_field(bytes: &[u8]) -> Option<(&[u8], &[u8])>
     } else {
         Some(split_field(rest))
     }
+}
+
+/// Whether the line isn't blank.
+pub fn has_field(bytes: &[u8]) -> bool
+    ensures { result ≡ has_field bytes.now }
+{
+    next_field(bytes).is_some()
 }
 
 /// Whether the field is this letter and no more.

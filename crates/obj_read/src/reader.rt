@@ -6,16 +6,18 @@ ghost use Rattle.obj_read.specs.Reading.{HeldMesh, held_of, mesh_rules, IsReadyT
 
 use crate::OutOfMemory;
 use crate::fault::ObjFault;
+use crate::fields::has_field;
 use crate::found::Found;
 use crate::judge::line_found;
 use obj_lines::{LineFault, LineReader, Lines, TextFail};
 use pm_base::Mesh;
 
-/// How many decimals a coordinate has, and the mesh so far.
+/// How many decimals a coordinate has, the mesh so far, and whether a line had a field.
 #[derive(Drop)]
 pub struct Reader {
     pub digits: u32,
     pub mesh: Mesh,
+    pub worded: bool,
 }
 
 // Puts what a line gives into the mesh.
@@ -51,6 +53,7 @@ impl LineReader for Reader {
     // Judges what is read of the line, and puts what it gives into the mesh.
     #[tactic(auto, unfolding(crate::specs::Reading::line_taken))]
     fn take_line(&mut self, lines: &Lines, number: u32) -> Result<(), TextFail<ObjFault>> {
+        self.worded = self.worded || has_field(lines.line());
         let vertices = self.mesh.points.len() as u32;
         let faces = self.mesh.faces.len() as u32;
         match line_found(self.digits, vertices, faces, lines.line()) {

@@ -28,12 +28,12 @@ use Rattle.obj_scan.specs.declared.passed.PassedOver.{PassedOver}
 use Rattle.obj_scan.specs.Passing.{kind_of, is_garbled, passed_after}
 use Rattle.obj_scan.specs.Laws.{scaled_up, scanned_mesh, with_passed, begins_garbled}
 use Rattle.obj_scan.proofs.BareLaws.{after_three, fields_passed}
-use Rattle.obj_scan.proofs.NumberLaws.{whole_in_units}
+use Rattle.obj_scan.proofs.NumberLaws.{whole_in_units, whole_exact}
 
 -- What `obj_read` finds, as it is found here, where this is passed over.
 abbrev pub found_of : Option Kind → ReadFound → Found
 found_of kind reads.Nothing = Found.nothing kind
-found_of kind (reads.Vertex p) = Found.vertex (scaled_up p) kind
+found_of kind (reads.Vertex p) = Found.vertex (scaled_up p) true kind
 found_of kind (reads.Face f) = Found.polygon (f.a ∷ f.b ∷ f.c ∷ [])
 
 abbrev given : Option Kind → Result ReadFound ObjFault → Result Found ObjFault
@@ -57,8 +57,15 @@ vertex_case n a b c more f (Ok x) (Ok y) (Ok z) true p q r room is = let k =
     rw (p, q, r, room) at is in cc
 vertex_case n a b c more f (Ok x) (Ok y) (Ok z) false p q r room is =
     let k = rw (p, q, r, room) at is in
-    rw (whole_in_units a x p, whole_in_units b y q, whole_in_units c z r, room)
-    (ap (given (after_place more)) k)
+    rw (
+      whole_in_units a x p,
+      whole_in_units b y q,
+      whole_in_units c z r,
+      room,
+      whole_exact a x p,
+      whole_exact b y q,
+      whole_exact c z r,
+    ) (ap (given (after_place more)) k)
 
 vertex_found : (n : ℕ) (more : List (List ℕ)) (f : ReadFound) → read_vertex 0 n more ≡ Ok f
     → scanned_vertex_line n more ≡ Ok (found_of (after_three more) f)
@@ -154,6 +161,7 @@ scanned_with kind line p m reads.Nothing = refl
 scanned_with kind line p m (reads.Vertex q) =
     ap (λ points. record {
       points = points;
+      inexact = 0;
       faces = m.faces;
       polygons = [];
       passed = passed_after p line kind;

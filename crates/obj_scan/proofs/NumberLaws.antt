@@ -1,8 +1,8 @@
 -- A field that spells a whole number, with no decimals but zeros, is the same number in units.
-use Rattle.std.proofs.Common.{◌≡◌, ℕ, zero, suc, ◌+◌, ◌-◌, ◌*◌, ◌^◌, ◌<◌, ◌≤◌, ℤ, Bool, true, false}
-use Rattle.std.proofs.Common.{◌==◌, nat_le, nat_lt, List, [], ◌∷◌, ◌++◌, length, drop, Ok, refl}
-use Rattle.std.proofs.Common.{sym, ◌∙◌, ap, arith}
-use Rattle.std.proofs.Math.Nat.{one-le-pow, mul_assoc, div-eq_of_lt-le}
+use Rattle.std.proofs.Common.{◌≡◌, ℕ, zero, suc, ◌+◌, ◌-◌, ◌*◌, ◌%◌, ◌^◌, ◌<◌, ◌≤◌, ℤ, Bool, true}
+use Rattle.std.proofs.Common.{false, ◌==◌, nat_le, nat_lt, List, [], ◌∷◌, ◌++◌, length, drop, Ok}
+use Rattle.std.proofs.Common.{refl, sym, ◌∙◌, ap, arith}
+use Rattle.std.proofs.Math.Nat.{one-le-pow, mul_assoc, mul-mod_left, div-eq_of_lt-le}
 use Rattle.std.proofs.Math.IntN.{pos-*ℤ-pos, negsuc-*ℤ-pos}
 use Rattle.std.proofs.lemmas.Bool.{and_parts, leb-true, le-ltb, ltb-true, ltb-false, ne_eqb}
 use Rattle.std.proofs.lemmas.Bool.{eqb-true}
@@ -16,7 +16,8 @@ use Rattle.obj_read.specs.Coordinates.{is_negative, without_sign, whole_part, de
 use Rattle.obj_read.specs.Coordinates.{are_zeros, with_sign, padded, magnitude, coordinate}
 use Rattle.obj_prepare.specs.Numbers.{nearest, mantissa, exponent_part, exponent_text, is_exponent}
 use Rattle.obj_prepare.specs.Numbers.{is_decimal, exponent, all_digits, shifted, units_of_text}
-use Rattle.obj_prepare.specs.Numbers.{decimal_coordinate}
+use Rattle.obj_prepare.specs.Numbers.{decimal_coordinate, is_whole_shifted, is_whole_in_units}
+use Rattle.obj_prepare.specs.Numbers.{is_exact_field}
 use Rattle.obj_prepare.proofs.DigitLaws.{value_append, value_after}
 use Rattle.obj_scan.specs.Laws.{in_units}
 
@@ -173,6 +174,39 @@ whole_in_units field x is =
     let within : nat_lt (10 ^ 32) (n * 10 ^ 18) ≡ false = le-ltb _ _ (omega (arith, whole.most)) in
     rw (plain.mantissa, plain.exponent, whole.number, all, within)
     (ap Ok (signed_units (is_negative field) n ∙ ap in_units (sym whole.is)))
+
+-- It is exactly that number.
+plain_whole : (number : List ℕ) → IsPlain number → are_zeros (decimals number) ≡ true
+    → is_whole_in_units number ≡ true
+unfolding is_whole_in_units is_whole_shifted all_digits exponent exponent_text without_sign
+plain_whole number plain zeros =
+    let n = value 0 (whole_part number) in
+    let k = length (decimals number) in
+    let worth : n * 10 ^ k + value 0 (decimals number) ≡ n * 10 ^ k =
+    omega (arith, zeros_worth (decimals number) zeros) in
+    let digits : value 0 (whole_part number ++ decimals number) ≡ n * 10 ^ k =
+    value_append 0 (whole_part number) (decimals number) ∙ value_after n (decimals number)
+    ∙ worth in
+    let moved : n * 10 ^ k * 10 ^ 18 ≡ n * 10 ^ 18 * 10 ^ k = grind arith in
+    rw (plain.exponent, plain.mantissa, digits)
+    (ap (λ (m : ℕ). m == 0)
+    (ap (λ (m : ℕ). m % 10 ^ k) moved ∙ mul-mod_left (n * 10 ^ 18) (10 ^ k)))
+
+pub whole_exact : (field : List ℕ) (x : ℤ) → coordinate 0 field ≡ Ok x
+    → is_exact_field field ≡ true
+unfolding is_exact_field
+whole_exact field x is =
+    let whole = whole_case field x _ _ _ refl refl refl is in
+    let number = without_sign field in
+    plain_whole number (plain_number number whole.number) whole.zeros
+
+pub digits_exact : (field : List ℕ) (n : ℕ) → IsOfDigits (without_sign field) n
+    → is_exact_field field ≡ true
+unfolding is_exact_field
+digits_exact field n is =
+    let number = without_sign field in
+    let whole = whole_number number n (record { are = is.are; worth = is.worth }) is.some in
+    plain_whole number (plain_number number whole.form) whole.zeros
 
 -- A number of a few digits alone.
 pub digits_in_units : (field : List ℕ) (n : ℕ) → IsOfDigits (without_sign field) n

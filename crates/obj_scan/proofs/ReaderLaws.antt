@@ -90,6 +90,7 @@ start_ready h is =
       scanned = record {
         within = record {
           points = omega arith;
+          inexact = omega arith;
           faces = omega arith;
           corners = All-nil (AreVerticesBelow 0);
           polygons = All-nil (IsPolygonWithin 0);

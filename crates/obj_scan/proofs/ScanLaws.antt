@@ -23,7 +23,8 @@ use Rattle.obj_lines.specs.Fails.{IsLineFault as IsTextFault}
 use Rattle.obj_scan.specs.Polygons.{before_least, begun_least, fan, fan_of, triangles}
 use Rattle.obj_scan.specs.declared.fault.ScanFault.{ScanFault}
 use Rattle.obj_scan.specs.declared.passed.Kind.{Kind}
-use Rattle.obj_scan.specs.Judged.{Scanned, Found, in_line, polygons_after, with_scanned}
+use Rattle.obj_scan.specs.Judged.{Scanned, Found, in_line, inexact_after, polygons_after}
+use Rattle.obj_scan.specs.Judged.{with_scanned}
 use Rattle.obj_scan.specs.Meaning.{IsWithinLimits}
 use Rattle.obj_scan.specs.Passing.{passed_count}
 use Rattle.obj_scan.specs.Refusals.{of_line}
@@ -107,10 +108,20 @@ wider n k fs le all = λ i d l. let f =
     all i d l in
     record { a = omega (arith, f.a, le); b = omega (arith, f.b, le); c = omega (arith, f.c, le) }
 
-pub vertex_within : (s : Scanned) (line : ℕ) (p : Place) (kind : Option Kind) → IsWithinLimits s
-    → length s.points < 1048576 → IsWithinLimits (with_scanned s line (Found.vertex p kind))
-vertex_within s line p kind within room = record {
+inexact_few : (n k : ℕ) (exact : Bool) → n ≤ k → inexact_after n exact ≤ k + 1
+inexact_few n k true le = omega (arith, le)
+inexact_few n k false le = omega (arith, le)
+
+pub vertex_within : (s : Scanned) (line : ℕ) (p : Place) (exact : Bool) (kind : Option Kind)
+    → IsWithinLimits s → length s.points < 1048576
+    → IsWithinLimits (with_scanned s line (Found.vertex p exact kind))
+vertex_within s line p exact kind within room = record {
   points = omega (arith, room, length-append s.points (p ∷ []));
+  inexact = omega (
+    arith,
+    inexact_few s.inexact (length s.points) exact within.inexact,
+    length-append s.points (p ∷ []),
+  );
   faces = within.faces;
   corners = wider (length s.points) (length (s.points ++ p ∷ [])) s.faces
       (omega (arith, length-append s.points (p ∷ []))) within.corners;
@@ -118,12 +129,12 @@ vertex_within s line p kind within room = record {
   polygons_few = within.polygons_few;
 }
 
-pub vertex_scanning : (s t : Scanned) (line : ℕ) (p : Place) (kind : Option Kind)
+pub vertex_scanning : (s t : Scanned) (line : ℕ) (p : Place) (exact : Bool) (kind : Option Kind)
     → IsScanning line s → length s.points < 1048576
-    → t ≡ with_scanned s line (Found.vertex p kind) → passed_count t.passed < line + 1
+    → t ≡ with_scanned s line (Found.vertex p exact kind) → passed_count t.passed < line + 1
     → IsScanning (line + 1) t
-vertex_scanning s t line p kind scanning room is few = record {
-  within = subst IsWithinLimits (sym is) (vertex_within s line p kind scanning.within room);
+vertex_scanning s t line p exact kind scanning room is few = record {
+  within = subst IsWithinLimits (sym is) (vertex_within s line p exact kind scanning.within room);
   passed = few;
 }
 
@@ -160,6 +171,7 @@ polygon_kept s line corners limits within room =
     ) in
     record {
       points = limits.points;
+      inexact = limits.inexact;
       faces = omega (arith, n, room);
       corners = All-append (AreVerticesBelow (length s.points)) s.faces
           (triangles s.points corners) limits.corners

@@ -13,6 +13,7 @@ abbrev pub scanned_of : Scan → Scanned
 scanned_of s =
     record {
       points = s.points.items;
+      inexact = s.inexact;
       faces = s.faces.items;
       polygons = s.polygons.items;
       passed =

@@ -1,6 +1,6 @@
 -- A line judged alone: what it gives, or its first fault. A unit is 10^-18.
 use Rattle.std.specs.Prelude.{ℕ, ◌+◌, ◌-◌, ◌^◌, ℤ, pos, Bool, true, false, not, List, [], ◌∷◌, ◌++◌}
-use Rattle.std.specs.Prelude.{nat_le, nat_lt, length, Option, Some, None, Result, Ok, Err}
+use Rattle.std.specs.Prelude.{◌&&◌, nat_le, nat_lt, length, Option, Some, None, Result, Ok, Err}
 use Rattle.std.specs.Prelude.{if◌then◌else◌}
 use Rattle.std.specs.Ordering.{int_eq}
 use Rattle.pm_base.specs.declared.limits.TheConstants.{MOST_FACES, MOST_VERTICES}
@@ -11,7 +11,7 @@ use Rattle.obj_read.specs.declared.fault.ObjFault.TheVariants as faults
 use Rattle.obj_read.specs.Fields.{fields, is_letter}
 use Rattle.obj_read.specs.Indices.{index, index_text}
 use Rattle.obj_read.specs.Judged.{◌>>=◌}
-use Rattle.obj_prepare.specs.Numbers.{decimal_coordinate}
+use Rattle.obj_prepare.specs.Numbers.{decimal_coordinate, is_exact_field}
 use Rattle.pm_ears.specs.declared.recut.Polygon.{Polygon}
 use Rattle.obj_scan.specs.declared.fault.ScanFault.{ScanFault}
 use Rattle.obj_scan.specs.declared.fault.ScanFault.TheVariants as scan_faults
@@ -22,19 +22,21 @@ use Rattle.obj_scan.specs.Passing.{is_garbled, kind_of, passed_after}
 use Rattle.obj_scan.specs.Polygons.{triangles}
 use Rattle.pm_io.specs.Letters.{letter_f, letter_v}
 
--- What the lines so far gave: points in units of 10^-18, triangles, where those of each face of
--- more than three corners begin and how many they are, and how much was passed over.
+-- What the lines so far gave: points in units of 10^-18, and how many of them aren't exactly what
+-- was spelled; triangles, where those of each face of more than three corners begin and how many
+-- they are, and how much was passed over.
 pub record Scanned : Type 0 where
   pub points : List Place
+  pub inexact : ℕ
   pub faces : List Corners
   pub polygons : List Polygon
   pub passed : PassedOver
 
--- What a line gives: nothing or a point, and what is passed over of it, if anything is; or the
--- vertex numbers of a polygon's corners.
+-- What a line gives: nothing, or a point and whether it is exactly what its fields spell, and what
+-- is passed over of it, if anything is; or the vertex numbers of a polygon's corners.
 pub data Found : Type 0 where
   nothing : Option Kind → Found
-  vertex : Place → Option Kind → Found
+  vertex : Place → Bool → Option Kind → Found
   polygon : List ℕ → Found
 
 -- A field with this coordinate is a weight: it is a number, and not 1 to the nearest unit. A number
@@ -56,7 +58,8 @@ abbrev pub scanned_vertex_line : ℕ → List (List ℕ) → Result Found ObjFau
 scanned_vertex_line vertices (a ∷ b ∷ c ∷ more) =
     decimal_coordinate a >>= λ x. decimal_coordinate b >>= λ y. decimal_coordinate c >>= λ z.
     if nat_le MOST_VERTICES vertices then Err faults.TooMany
-    else Ok (vertex (record { x = x; y = y; z = z }) (after_place more))
+    else Ok (vertex (record { x = x; y = y; z = z })
+    (is_exact_field a && is_exact_field b && is_exact_field c) (after_place more))
 scanned_vertex_line vertices _ = Err faults.TooFewFields
 
 -- The vertices that these fields name, or the first fault.
@@ -107,11 +110,16 @@ polygons_after ps faces corners =
     then ps ++ record { first = faces; triangles = length corners - 2 } ∷ []
     else ps
 
+-- One more of them, where a point isn't exact.
+abbrev pub inexact_after : ℕ → Bool → ℕ
+inexact_after n exact = if exact then n else n + 1
+
 -- With what a line gives that has this number.
 abbrev pub with_scanned : Scanned → ℕ → Found → Scanned
 with_scanned s line (nothing kind) = record s { passed = passed_after s.passed line kind }
-with_scanned s line (vertex p kind) = record s {
+with_scanned s line (vertex p exact kind) = record s {
   points = s.points ++ p ∷ [];
+  inexact = inexact_after s.inexact exact;
   passed = passed_after s.passed line kind;
 }
 with_scanned s line (polygon corners) = record s {

@@ -29,11 +29,12 @@ in_units n = n *ℤ pos (10 ^ 18)
 abbrev pub scaled_up : Place → Place
 scaled_up p = record { x = in_units p.x; y = in_units p.y; z = in_units p.z }
 
--- A mesh as the lines of its text give it: its points in units, its triangles, no polygons, and
--- nothing that is passed over.
+-- A mesh as the lines of its text give it: its points in units, none of them rounded, its
+-- triangles, no polygons, and nothing that is passed over.
 abbrev pub scanned_mesh : Mesh → Scanned
 scanned_mesh m = record {
   points = map scaled_up m.points;
+  inexact = 0;
   faces = m.faces;
   polygons = [];
   passed = none_passed;

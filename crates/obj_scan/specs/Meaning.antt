@@ -126,7 +126,13 @@ nothing_scanned =
       number = 1;
       continued = 0;
       begun = [];
-      scanned = record { points = []; faces = []; polygons = []; passed = none_passed };
+      scanned = record {
+        points = [];
+        inexact = 0;
+        faces = [];
+        polygons = [];
+        passed = none_passed;
+      };
     }
 
 -- The points and triangles of the bytes, or their first line with a fault.
@@ -136,6 +142,7 @@ scan_meaning_of bytes = scan_meaning_from nothing_scanned (lines bytes)
 -- What a text without a fault gives is within the limits.
 pub record IsWithinLimits (s : Scanned) : Type 0 where
   pub points : length s.points ≤ MOST_VERTICES
+  pub inexact : s.inexact ≤ length s.points
   pub faces : length s.faces ≤ MOST_FACES
   pub corners : All (AreVerticesBelow (length s.points)) s.faces
   pub polygons : All (IsPolygonWithin (length s.faces)) s.polygons

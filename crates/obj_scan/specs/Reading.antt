@@ -32,7 +32,13 @@ nothing_held =
     record {
       continued = 0;
       begun = [];
-      scanned = record { points = []; faces = []; polygons = []; passed = none_passed };
+      scanned = record {
+        points = [];
+        inexact = 0;
+        faces = [];
+        polygons = [];
+        passed = none_passed;
+      };
     }
 
 -- With what a line gives that has this number, or its fault.

@@ -10,12 +10,13 @@ ghost use Rattle.obj_read.specs.Coordinates.{with_sign};
 ghost use Rattle.obj_read.specs.Fails.{IsLineFault};
 ghost use Rattle.obj_read.specs.Fields.{fields};
 ghost use Rattle.obj_prepare.specs.Numbers.{decimal_coordinate as decimal_coordinate_of};
+ghost use Rattle.obj_prepare.specs.Numbers.{is_exact_field};
 ghost use Rattle.obj_scan.specs.Digits.{IsOfDigits};
 ghost use Rattle.obj_scan.specs.Judged.{Found, scanned_vertex_line, indices, polygon_line};
 ghost use Rattle.obj_scan.specs.Judged.{is_weight, after_place};
 
 use crate::passed::Kind;
-use obj_prepare::{ExactPoint, decimal_coordinate};
+use obj_prepare::{Coordinate, ExactPoint, decimal_coordinate, exact_coordinate};
 use obj_read::{ObjFail, ObjFault, index, is_negative, next_field, without_sign};
 use pm_base::{MOST_FACES, MOST_VERTICES};
 use pm_io::{are_digits, value_up_to};
@@ -26,10 +27,12 @@ const ONE: i128 = 1_000_000_000_000_000_000;
 // Whole numbers below it are read by their digits alone.
 const SMALL: u64 = 100_000_000_000_000;
 
-/// A point, and what is passed over that stands after it.
+/// A point, whether it is exactly what its fields spell, and what is passed over that stands after
+/// it.
 #[derive(Clone, Copy, Debug, PartialEq, Eq)]
 pub struct Vertex {
     pub point: ExactPoint,
+    pub exact: bool,
     pub passed: Option<Kind>,
 }
 
@@ -94,14 +97,19 @@ fn in_units(negative: bool, n: u64) -> i128
 
 // The number that a field spells. One of a few digits alone, as most are on the grid, is read as a
 // whole one.
-#[tactic(auto, using(crate::proofs::NumberLaws::digits_in_units))]
-fn number(field: &[u8]) -> Result<i128, ObjFault>
-    ensures value { result ≡ decimal_coordinate_of field.now }
-    ensures range { IfOk result (λ x. unsigned_abs x ≤ 10 ^ 32) }
+#[tactic(auto, using(crate::proofs::NumberLaws::digits_in_units, crate::proofs::NumberLaws::digits_exact))]
+fn number(field: &[u8]) -> Result<Coordinate, ObjFault>
+    ensures value { IfOk result (λ c. decimal_coordinate_of field.now ≡ Ok c.units) }
+    ensures exact { IfOk result (λ c. c.exact ≡ is_exact_field field.now) }
+    ensures fault { IfErr result (λ e. decimal_coordinate_of field.now ≡ Err e) }
+    ensures range { IfOk result (λ c. unsigned_abs c.units ≤ 10 ^ 32) }
 {
     match few_digits(without_sign(field)) {
-        Some(n) => Ok(in_units(is_negative(field), n)),
-        None => decimal_coordinate(field),
+        Some(n) => Ok(Coordinate {
+            units: in_units(is_negative(field), n),
+            exact: true,
+        }),
+        None => exact_coordinate(field),
     }
 }
 
@@ -110,7 +118,7 @@ fn number(field: &[u8]) -> Result<i128, ObjFault>
 fn vertex_of(x: &[u8], y: &[u8], z: &[u8], rest: &[u8], vertices: u32) -> Result<Vertex, ObjFault>
     ensures ok { IfOk result
         (λ v. scanned_vertex_line vertices (x.now ∷ y.now ∷ z.now ∷ fields rest.now)
-        ≡ Ok (Found.vertex v.point v.passed)) }
+        ≡ Ok (Found.vertex v.point v.exact v.passed)) }
     ensures fault { IfErr result
         (λ e. scanned_vertex_line vertices (x.now ∷ y.now ∷ z.now ∷ fields rest.now) ≡ Err e) }
     ensures room { OnOk result (vertices < MOST_VERTICES) }
@@ -121,9 +129,10 @@ fn vertex_of(x: &[u8], y: &[u8], z: &[u8], rest: &[u8], vertices: u32) -> Result
     if vertices >= MOST_VERTICES {
         return Err(ObjFault::TooMany);
     }
-    match ExactPoint::new(x, y, z) {
+    match ExactPoint::new(x.units, y.units, z.units) {
         Some(point) => Ok(Vertex {
             point,
+            exact: x.exact && y.exact && z.exact,
             passed: after_place(rest),
         }),
         None => Err(ObjFault::OutOfRange),
@@ -133,7 +142,7 @@ fn vertex_of(x: &[u8], y: &[u8], z: &[u8], rest: &[u8], vertices: u32) -> Result
 /// What a vertex spells after so many: three coordinates, and fields that make no fault.
 pub fn vertex_line(vertices: u32, text: &[u8]) -> Result<Vertex, ObjFault>
     ensures ok { IfOk result (λ v. scanned_vertex_line vertices (fields text.now)
-        ≡ Ok (Found.vertex v.point v.passed)) }
+        ≡ Ok (Found.vertex v.point v.exact v.passed)) }
     ensures fault { IfErr result (λ e. scanned_vertex_line vertices (fields text.now) ≡ Err e) }
     ensures room { OnOk result (vertices < MOST_VERTICES) }
 {

@@ -16,11 +16,13 @@ use pm_ears::Polygon;
 use pm_io::Source;
 use std::alloc::Global;
 
-/// What a text spells: points in units of 10^-18, triangles, where the fan of each face of more
-/// than three corners stands among them, and how much was passed over.
+/// What a text spells: points in units of 10^-18, and how many of them aren't exactly what was
+/// spelled; triangles, where the fan of each face of more than three corners stands among them, and
+/// how much was passed over.
 #[derive(Drop)]
 pub struct Scan {
     pub points: Vec<ExactPoint>,
+    pub inexact: u32,
     pub faces: Vec<Corners>,
     pub polygons: Vec<Polygon>,
     pub passed: PassedOver,
@@ -35,7 +37,8 @@ pub struct Scan {
 /// Lines that begin with neither `v` nor `f` are counted by what they are and passed over, but for
 /// those whose first word is `v`, `vt`, `vn` or `f` once bytes that aren't letters are dropped:
 /// these are refused. A line that ends in a backslash is continued by the next. A coordinate is the
-/// nearest whole number of 10^-18. Of a vertex the first three are read; where one number more
+/// nearest whole number of 10^-18, and vertices are counted that aren't exactly what their fields
+/// spell. Of a vertex the first three are read; where one number more
 /// stands there, which other programs divide by, it is counted if it isn't 1, and passed over; so
 /// are colours. A polygon is cut into triangles, begun at the corner whose point is least.
 ///

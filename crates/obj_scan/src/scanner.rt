@@ -10,7 +10,7 @@ ghost use Rattle.obj_read.specs.Fails.{IsLineFault};
 ghost use Rattle.obj_read.specs.Fields.{fields};
 ghost use Rattle.obj_scan.specs.Fails.{scanned_of};
 ghost use Rattle.obj_scan.specs.Judged.{Found, scanned_vertex_line, polygon_line, polygons_after};
-ghost use Rattle.obj_scan.specs.Judged.{in_line, other_line, with_scanned};
+ghost use Rattle.obj_scan.specs.Judged.{in_line, inexact_after, other_line, with_scanned};
 ghost use Rattle.obj_scan.specs.Reading.{IsScanning, given, scanned_after, held_of, nothing_held};
 ghost use Rattle.obj_scan.specs.Reading.{taken};
 
@@ -35,6 +35,14 @@ pub struct Scanner {
     pub corners: Vec<u32>,
 }
 
+// One more than so many, where a point isn't exact.
+fn inexact_after(n: u32, exact: bool) -> u32
+    requires { n < MOST_VERTICES }
+    ensures { result ≡ inexact_after n exact }
+{
+    if exact { n } else { n + 1 }
+}
+
 // Takes a vertex.
 fn take_vertex(scan: &mut Scan, text: &[u8], line: u32) -> Result<(), ObjFail>
     requires scanning { IsScanning line (scanned_of scan.old) }
@@ -51,6 +59,7 @@ fn take_vertex(scan: &mut Scan, text: &[u8], line: u32) -> Result<(), ObjFail>
         Err(fault) => Err(ObjFail::Fault { fault, line }),
         Ok(vertex) => {
             scan.passed.take(line, vertex.passed);
+            scan.inexact = inexact_after(scan.inexact, vertex.exact);
             match scan.points.push(vertex.point) {
                 Ok(()) => Ok(()),
                 Err(_) => Err(ObjFail::OutOfMemory),
@@ -179,6 +188,7 @@ impl Scanner {
         Scanner {
             scan: Scan {
                 points: Vec::new(alloc),
+                inexact: 0,
                 faces: Vec::new(alloc),
                 polygons: Vec::new(alloc),
                 passed: PassedOver::new(),
