@@ -28,13 +28,12 @@ use Rattle.pm_tiles.proofs.ShownBorders.{spared_shown}
 use Rattle.pm_commands.specs.declared.asked.Border.{Border}
 use Rattle.pm_commands.specs.declared.asked.Border.TheVariants as borders
 use Rattle.pm_commands.specs.declared.fault.Fault.{Fault}
-use Rattle.pm_commands.specs.Surface.{IsSurfaceRead}
+use Rattle.pm_commands.specs.Surface.{IsSurfaceRead, IsSurfaceGiven}
 use Rattle.pm_commands.specs.Build.{IsMadeOf, no_surface, made}
 use Rattle.pm_commands.specs.Simplified.{IsKeptWith, IsSimplifiedWith, IsSimplifiedText}
 use Rattle.pm_commands.specs.Frames.{ShowsSurfacesOf}
 use Rattle.pm_commands.specs.Borders.{FramesShowBorder}
-use Rattle.pm_commands.proofs.BuildLaws.{one_made}
-use Rattle.pm_commands.proofs.SimplifiedLaws.{one_simplified_with}
+use Rattle.pm_commands.proofs.GivenLaws.{surface_given, one_simplified_text}
 use Rattle.pm_commands.proofs.SomeOutcomes.{surface_starts}
 use Rattle.pm_commands.proofs.FrameLaws.{scripts_closed, none_closed, shows_surfaces}
 
@@ -84,17 +83,18 @@ border_made m start target h is firm T closed =
     subst (λ (g : Hierarchy). ShowsBorder g T m) (sym is.made)
     (spared_shown m start is.log known.run spares shape T same)
 
--- A hierarchy that is made of a text is made of its mesh.
+-- A hierarchy that is made of a text that shall have a mesh is made of its mesh.
 pub made_of :
     (Makes : Mesh → Hierarchy → Type 0) (digits : ℕ) (bytes : List ℕ) (h : Hierarchy)
     (r : Result Hierarchy Fault) (place : Option ℕ) → r ≡ Ok h → place ≡ None →
-    IsMadeOf Makes digits bytes r place → (m : Mesh) × IsSurfaceRead digits bytes (Ok m) None
-    × Makes m h
+    IsMadeOf (IsSurfaceGiven digits) Makes bytes r place
+    → (m : Mesh) × IsSurfaceRead digits bytes (Ok m) None × Makes m h
 made_of Makes digits bytes h r place is nowhere (no_surface f i read) = absurd (cc)
 made_of Makes digits bytes h r place is nowhere (made m g i read makes) =
     let same : g ≡ h = cc in (
       m,
-      subst (λ (p : Option ℕ). IsSurfaceRead digits bytes (Ok m) p) nowhere read,
+      subst (λ (p : Option ℕ). IsSurfaceRead digits bytes (Ok m) p) nowhere
+          (surface_given digits bytes m i read),
       subst (λ (x : Hierarchy). Makes m x) same makes,
     )
 
@@ -105,8 +105,8 @@ border_shown :
     FramesShowBorder target digits bytes old new
 border_shown target digits bytes old new h is firm shown =
     let both : Ok h ≡ Ok shown.h =
-    (one_made (λ m h. IsSimplifiedWith borders.Kept m target h) digits
-    (λ m h g. one_simplified_with borders.Kept m target h g) bytes is shown.built).0 in
+    (one_simplified_text borders.Kept target digits bytes (Ok h) (Ok shown.h) None None is
+    shown.built).0 in
     let same : h ≡ shown.h = cc in
     let whole : IsFirm shown.h = subst IsFirm same firm in
     let (m, read, makes) = made_of (λ m h. IsSimplifiedWith borders.Kept m target h) digits bytes

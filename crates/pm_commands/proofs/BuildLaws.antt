@@ -28,6 +28,11 @@ use Rattle.pm_commands.specs.Build.{IsSimplified, IsMadeOf, no_surface, made}
 use Rattle.pm_commands.specs.Outcome.{IsOutcome, done_with, GivesMeshBack}
 use Rattle.pm_commands.proofs.SurfaceLaws.{one_surface}
 
+-- There is one such result, and one such place.
+abbrev pub GivesOne : {X : Type 0} → (Result X Fault → Option ℕ → Type 0) → Type 0
+GivesOne {X = X} IsRead =
+    (p q : Result X Fault) (i j : Option ℕ) → IsRead p i → IsRead q j → (p ≡ q) × (i ≡ j)
+
 -- The log of a run to a target is the only one, and so its hierarchy.
 pub one_simplified : (m : Mesh) (target : ℕ) (h g : Hierarchy) → IsSimplified m target h
     → IsSimplified m target g → h ≡ g
@@ -46,52 +51,43 @@ run_simplifies n m target log (Ok h) same run is = record {
 }
 run_simplifies n m target log (Err e) same run is = tt
 
--- What is made of a mesh, with so many decimals a coordinate.
-module _ (Makes : Mesh → Hierarchy → Type 0) (digits : ℕ) where
-  -- Bytes give one thing, where a mesh does.
-
-  same_mesh : (bytes : List ℕ) (m n : Mesh) {i j : Option ℕ} → IsSurfaceRead digits bytes (Ok m) i
-      → IsSurfaceRead digits bytes (Ok n) j → m ≡ n
-  same_mesh bytes m n is are =
-      let same : Ok m ≡ Ok n = (one_surface digits bytes is are).0 in
-      cc
-
-  mesh_or_fault : (bytes : List ℕ) (m : Mesh) (f : Fault) {i j : Option ℕ}
-      → IsSurfaceRead digits bytes (Ok m) i → IsSurfaceRead digits bytes (Err f) j → ⊥
-  mesh_or_fault bytes m f is are =
-      let same : Ok m ≡ Err f = (one_surface digits bytes is are).0 in
-      absurd (cc)
-
-  pub one_made : ((m : Mesh) (h g : Hierarchy) → Makes m h → Makes m g → h ≡ g)
-      → (bytes : List ℕ) {a b : Result Hierarchy Fault} {i j : Option ℕ}
-      → IsMadeOf Makes digits bytes a i → IsMadeOf Makes digits bytes b j → (a ≡ b) × (i ≡ j)
-  one_made one bytes (no_surface f i is) (no_surface g j are) =
-      let same : Err f ≡ Err g = (one_surface digits bytes is are).0 in
+-- What is made of a mesh that is read.
+module _ (IsRead : List ℕ → Result Mesh Fault → Option ℕ → Type 0)
+    (Makes : Mesh → Hierarchy → Type 0) where
+  -- Bytes give one thing, where they give one mesh and a mesh gives one thing.
+  pub one_made : (bytes : List ℕ) → GivesOne (IsRead bytes)
+      → ((m : Mesh) (h g : Hierarchy) → Makes m h → Makes m g → h ≡ g)
+      → GivesOne (IsMadeOf IsRead Makes bytes)
+  one_made bytes read one a b k l (no_surface f i is) (no_surface g j are) =
+      let same : Err f ≡ Err g = (read (Err f) (Err g) i j is are).0 in
       let fault : f ≡ g = cc in
-      (ap (λ (x : Fault). Err x) fault, (one_surface digits bytes is are).1)
-  one_made one bytes (no_surface f i is) (made n g j are makes) =
-      absurd (mesh_or_fault bytes n f are is)
-  one_made one bytes (made m h i is makes) (no_surface g j are) =
-      absurd (mesh_or_fault bytes m g is are)
-  one_made one bytes (made m h i is makes) (made n g j are other) = (
-    ap (λ (x : Hierarchy). Ok x)
-        (one m h g makes
-        (subst (λ (x : Mesh). Makes x g) (sym (same_mesh bytes m n is are)) other)),
-    (one_surface digits bytes is are).1,
-  )
+      (ap (λ (x : Fault). Err x) fault, (read (Err f) (Err g) i j is are).1)
+  one_made bytes read one a b k l (no_surface f i is) (made n g j are makes) =
+      let same : Err f ≡ Ok n = (read (Err f) (Ok n) i j is are).0 in
+      absurd (cc)
+  one_made bytes read one a b k l (made m h i is makes) (no_surface g j are) =
+      let same : Ok m ≡ Err g = (read (Ok m) (Err g) i j is are).0 in
+      absurd (cc)
+  one_made bytes read one a b k l (made m h i is makes) (made n g j are other) =
+      let same : Ok m ≡ Ok n = (read (Ok m) (Ok n) i j is are).0 in
+      let mesh : n ≡ m = cc in (
+        ap (λ (x : Hierarchy). Ok x)
+            (one m h g makes (subst (λ (x : Mesh). Makes x g) mesh other)),
+        (read (Ok m) (Ok n) i j is are).1,
+      )
 
   -- How making ends.
 
   made_before : (bytes : List ℕ) (taken : ℕ)
-      → ((r : Result Mesh Fault) (place : Option ℕ) → IsSurfaceRead digits bytes r place
+      → ((r : Result Mesh Fault) (place : Option ℕ) → IsRead bytes r place
       → IfSome place (λ n. taken < n))
-      → (r : Result Hierarchy Fault) (place : Option ℕ) → IsMadeOf Makes digits bytes r place
+      → (r : Result Hierarchy Fault) (place : Option ℕ) → IsMadeOf IsRead Makes bytes r place
       → IfSome place (λ n. taken < n)
   made_before bytes taken before r place (no_surface f i is) = before (Err f) i is
   made_before bytes taken before r place (made m h i is makes) = before (Ok m) i is
 
-  made_unreached : (left now : Option (List ℕ)) → Unreached (IsSurfaceRead digits) left now
-      → Unreached (IsMadeOf Makes digits) left now
+  made_unreached : (left now : Option (List ℕ)) → Unreached IsRead left now
+      → Unreached (IsMadeOf IsRead Makes) left now
   made_unreached left now fails = record {
     taken = fails.taken;
     took = fails.took;
@@ -100,15 +96,15 @@ module _ (Makes : Mesh → Hierarchy → Type 0) (digits : ℕ) where
     where
       before : (left : Option (List ℕ))
           → IfSome left (λ bytes. (r : Result Mesh Fault) (place : Option ℕ)
-          → IsSurfaceRead digits bytes r place → IfSome place (λ n. length fails.taken < n))
+          → IsRead bytes r place → IfSome place (λ n. length fails.taken < n))
           → IfSome left (λ bytes. (r : Result Hierarchy Fault) (place : Option ℕ)
-          → IsMadeOf Makes digits bytes r place → IfSome place (λ n. length fails.taken < n))
+          → IsMadeOf IsRead Makes bytes r place → IfSome place (λ n. length fails.taken < n))
       before None is = tt
       before (Some bytes) is = made_before bytes (length fails.taken) is
 
   pub made_refused : (e : InputFail) (left now : Option (List ℕ)) (in_old in_new : ℕ)
-      → Stops (IsSurfaceRead digits) e left now in_old in_new
-      → Stops (IsMadeOf Makes digits) e left now in_old in_new
+      → Stops IsRead e left now in_old in_new
+      → Stops (IsMadeOf IsRead Makes) e left now in_old in_new
   made_refused (input.Faulty f) None now in_old in_new stops = (tt, stops.1)
   made_refused (input.Faulty f) (Some bytes) now in_old in_new
       stops = (
@@ -119,8 +115,8 @@ module _ (Makes : Mesh → Hierarchy → Type 0) (digits : ℕ) where
   made_refused input.OutOfMemory left now in_old in_new stops = stops
 
   pub made_stands : (left : Option (List ℕ)) (m : Mesh) (h : Hierarchy)
-      → IfSome left (λ bytes. IsSurfaceRead digits bytes (Ok m) None) → Makes m h
-      → IfSome left (λ bytes. IsMadeOf Makes digits bytes (Ok h) None)
+      → IfSome left (λ bytes. IsRead bytes (Ok m) None) → Makes m h
+      → IfSome left (λ bytes. IsMadeOf IsRead Makes bytes (Ok h) None)
   made_stands None m h is makes = tt
   made_stands (Some bytes) m h is makes = made m h None is makes
 

@@ -5,6 +5,7 @@ pub mod ReadingLaws
 pub mod BuildLaws
 pub mod SomePolicyRuns
 pub mod SimplifiedLaws
+pub mod GivenLaws
 pub mod FrameLaws
 pub mod OutcomeLaws
 pub mod DemoLaws

@@ -19,23 +19,22 @@ use Rattle.pm_demo.proofs.SummaryLaws.{one_summary}
 use Rattle.pm_commands.specs.Ran.{Ran, refused, whole_output, unread}
 use Rattle.pm_commands.specs.Surface.{IsSurfaceRead}
 use Rattle.pm_commands.specs.Build.{IsSimplified, IsBuilt}
-use Rattle.pm_commands.specs.Simplified.{IsSimplifiedWith, IsSimplifiedText}
+use Rattle.pm_commands.specs.Simplified.{IsSimplifiedText}
 use Rattle.pm_commands.specs.Beginning.{IsHierarchyText}
 use Rattle.pm_commands.specs.Outcome.{IsOutcome, done_with, Follows, counts_line, OneOutcome}
 use Rattle.pm_commands.specs.Outcome.{Replied, CutShort}
 use Rattle.pm_commands.specs.Ending.{PutBy, ReadFails, ReadToEnd, TakesTo, ReadToPlace, Ends}
 use Rattle.pm_commands.specs.Ending.{Counts}
 use Rattle.pm_commands.proofs.SurfaceLaws.{one_surface}
-use Rattle.pm_commands.proofs.BuildLaws.{one_simplified, one_made}
-use Rattle.pm_commands.proofs.SimplifiedLaws.{one_simplified_with}
+use Rattle.pm_commands.proofs.BuildLaws.{GivesOne, one_simplified, one_made}
+use Rattle.pm_commands.proofs.GivenLaws.{one_simplified_text}
 use Rattle.pm_commands.proofs.BeginningLaws.{one_valid, one_hierarchy}
 
 -- Bytes have one outcome.
 
 one_follows : {X : Type 0} {IsRead : Result X Fault → Option ℕ → Type 0} {does : X
     → Ran} {a b : Ran}
-    → ((p q : Result X Fault) (i j : Option ℕ) → IsRead p i → IsRead q j → (p ≡ q) × (i ≡ j))
-    → Follows IsRead does a → Follows IsRead does b → a ≡ b
+    → GivesOne IsRead → Follows IsRead does a → Follows IsRead does b → a ≡ b
 one_follows {does = does} one is are =
     let same = one is.read are.read is.place are.place is.is are.is in
     is.done ∙ ap (λ (r : Result _ Fault). done_with does r is.place) same.0
@@ -45,8 +44,9 @@ pub one_outcome : OneOutcome
 one_outcome (asked.Canon digits) bytes a b is are =
     one_follows (λ p q i j one other. one_surface digits bytes one other) is are
 one_outcome (asked.Build target digits) bytes a b is are =
-    one_follows (λ p q i j one other. one_made (λ m h. IsSimplified m target h) digits
-    (λ m h g. one_simplified m target h g) bytes one other) is are
+    one_follows (one_made (IsSurfaceRead digits) (λ m h. IsSimplified m target h) bytes
+    (λ p q i j one other. one_surface digits bytes one other)
+    (λ m h g. one_simplified m target h g)) is are
 one_outcome asked.Expand bytes a b is are =
     one_follows (λ p q i j one other. one_hierarchy bytes one other) is are
 one_outcome asked.Check bytes a b is are =
@@ -58,8 +58,7 @@ one_outcome (asked.Live budget) bytes a b is are =
 one_outcome (asked.Demo n) bytes a b is are =
     is.done ∙ ap unread (one_summary n is.text are.text is.summary are.summary) ∙ sym are.done
 one_outcome (asked.Simplify target digits border) bytes a b is are =
-    one_follows (λ p q i j one other. one_made (λ m h. IsSimplifiedWith border m target h) digits
-    (λ m h g. one_simplified_with border m target h g) bytes one other) is are
+    one_follows (one_simplified_text border target digits bytes) is are
 
 -- What follows from what the bytes give.
 

@@ -30,8 +30,9 @@ use Rattle.pm_commands.specs.declared.fault.Fault.{Fault}
 use Rattle.pm_commands.specs.declared.fault.Fault.TheVariants as faults
 use Rattle.pm_commands.specs.declared.asked.Asked.TheVariants as asked
 use Rattle.pm_commands.specs.Surface.{IsSurfaceRead, bad_line, no_manifold, manifold}
-use Rattle.pm_commands.specs.Build.{IsSimplified, IsMadeOf, no_surface, made}
-use Rattle.pm_commands.specs.Simplified.{IsSimplifiedWith}
+use Rattle.pm_commands.specs.Surface.{mesh_given, IsSurfaceGiven}
+use Rattle.pm_commands.specs.Build.{IsSimplified, IsMadeOf, no_surface, made, IsBuilt}
+use Rattle.pm_commands.specs.Simplified.{IsSimplifiedWith, IsSimplifiedText}
 use Rattle.pm_commands.specs.Beginning.{Beginning, IsBeginning, begins, leaf_side_twice}
 use Rattle.pm_commands.specs.Beginning.{wrong_neighbour, IsValidBeginning, invalid, valid}
 use Rattle.pm_commands.specs.Beginning.{IsHierarchyText, no_hierarchy, bytes_after, whole_text}
@@ -40,6 +41,7 @@ use Rattle.pm_commands.specs.Outcome.{done_with, Follows, counts_line, PlaysScri
 use Rattle.pm_commands.proofs.JudgedLaws.{once_or_repeats, judged}
 use Rattle.pm_commands.proofs.StreamLaws.{bad_text}
 use Rattle.pm_commands.proofs.SimplifiedLaws.{some_simplified, some_simplified_with}
+use Rattle.pm_commands.proofs.GivenLaws.{given_starts}
 
 -- What the bytes give, and by which place.
 abbrev Given : {X : Type 0} → (Result X Fault → Option ℕ → Type 0) → Type 0
@@ -64,16 +66,22 @@ surface_starts digits bytes r place (no_manifold m f is fault) = tt
 surface_starts digits bytes r place (manifold m is whole) =
     record { formed = meaning_formed digits bytes m is; manifold = whole }
 
+-- The same of a text that shall have a mesh.
+some_given : (digits : ℕ) (bytes : List ℕ) → Given (IsSurfaceGiven digits bytes)
+some_given digits bytes =
+    let (read, place, is) = some_surface digits bytes in
+    (mesh_given bytes read, place, record { read = read; is = is; given = refl })
+
 -- What is made of a mesh.
-some_made : (Makes : Mesh → Hierarchy → Type 0) (digits : ℕ)
-    → ((m : Mesh) → IsStartOfRun m → (h : Hierarchy) × Makes m h) → (bytes : List ℕ)
-    → Given (IsMadeOf Makes digits bytes)
-some_made Makes digits some bytes =
-    let s = some_surface digits bytes in
-    go s.0 s.1 s.2 (surface_starts digits bytes s.0 s.1 s.2)
+some_made : (IsRead : List ℕ → Result Mesh Fault → Option ℕ → Type 0)
+    (Makes : Mesh → Hierarchy → Type 0) (bytes : List ℕ) → Given (IsRead bytes)
+    → ((r : Result Mesh Fault) (place : Option ℕ) → IsRead bytes r place → IfOk r IsStartOfRun)
+    → ((m : Mesh) → IsStartOfRun m → (h : Hierarchy) × Makes m h)
+    → Given (IsMadeOf IsRead Makes bytes)
+some_made IsRead Makes bytes s starts some = go s.0 s.1 s.2 (starts s.0 s.1 s.2)
   where
-    go : (r : Result Mesh Fault) (place : Option ℕ) → IsSurfaceRead digits bytes r place
-        → IfOk r IsStartOfRun → Given (IsMadeOf Makes digits bytes)
+    go : (r : Result Mesh Fault) (place : Option ℕ) → IsRead bytes r place
+        → IfOk r IsStartOfRun → Given (IsMadeOf IsRead Makes bytes)
     go (Err f) place is start = (Err f, place, no_surface f place is)
     go (Ok m) place is start =
         let (h, makes) = some m start in
@@ -157,15 +165,15 @@ some_outcome (asked.Canon digits) size bytes are =
     follows (IsSurfaceRead digits bytes) (λ m. whole_output (canonical_text digits m))
     (some_surface digits bytes)
 some_outcome (asked.Build target digits) size bytes are =
-    follows (IsMadeOf (λ m h. IsSimplified m target h) digits bytes)
-    (λ h. whole_output (stream digits h))
-    (some_made (λ m h. IsSimplified m target h) digits (λ m start. some_simplified m start target)
-    bytes)
+    follows (IsBuilt target digits bytes) (λ h. whole_output (stream digits h))
+    (some_made (IsSurfaceRead digits) (λ m h. IsSimplified m target h) bytes
+    (some_surface digits bytes) (surface_starts digits bytes)
+    (λ m start. some_simplified m start target))
 some_outcome (asked.Simplify target digits border) size bytes are =
-    follows (IsMadeOf (λ m h. IsSimplifiedWith border m target h) digits bytes)
-    (λ h. whole_output (stream digits h))
-    (some_made (λ m h. IsSimplifiedWith border m target h) digits
-    (λ m start. some_simplified_with border m start target) bytes)
+    follows (IsSimplifiedText border target digits bytes) (λ h. whole_output (stream digits h))
+    (some_made (IsSurfaceGiven digits) (λ m h. IsSimplifiedWith border m target h) bytes
+    (some_given digits bytes) (given_starts digits bytes (surface_starts digits bytes))
+    (λ m start. some_simplified_with border m start target))
 some_outcome asked.Expand size bytes are =
     follows (IsHierarchyText bytes)
     (λ o. whole_output (canonical_text o.digits (input_mesh_of o.h))) (some_text bytes are)

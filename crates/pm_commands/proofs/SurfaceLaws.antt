@@ -1,21 +1,28 @@
 -- Bytes give one surface, or are refused for one fault.
 use Rattle.std.proofs.Common.{◌≡◌, ℕ, ◌+◌, ◌<◌, List, length, Option, Some, None, IfSome, Result}
-use Rattle.std.proofs.Common.{Ok, Err, inl, inr, refl, sym, ◌∙◌, ap, subst, arith}
+use Rattle.std.proofs.Common.{Ok, Err, IfOk, IfErr, OnOk, inl, inr, refl, sym, ◌∙◌, ap, subst}
+use Rattle.std.proofs.Common.{arith}
 use Rattle.std.proofs.lemmas.Bool.{cases_lt}
 use Rattle.pm_base.specs.Meshes.{Mesh, IsWellFormed}
 use Rattle.pm_base.specs.Sides.{Net, net_of}
 use Rattle.pm_base.specs.Fans.{IsOrientedManifold}
+use Rattle.pm_io.specs.Causes.{HasCause}
+use Rattle.pm_runs.specs.Runs.{IsStartOfRun}
 use Rattle.pm_twins.specs.Faults.{IsFirstRepeating, IsFirstBroken}
 use Rattle.pm_twins.proofs.Faultless.{repeats_none}
 use Rattle.obj_read.specs.declared.fault.ObjFault.{ObjFault}
-use Rattle.obj_read.specs.Fails.{IsRefusal, FaultNotReached, FailsBefore}
+use Rattle.obj_read.specs.declared.fault.ObjFail.{ObjFail}
+use Rattle.obj_read.specs.declared.fault.ObjFail.TheVariants as fails
+use Rattle.obj_read.specs.Fails.{IsRefusal, FaultNotReached, FailsBefore, Explains, of_source}
 use Rattle.obj_read.specs.Meaning.{Refused, meaning_of}
 use Rattle.obj_read.proofs.FormedLaws.{meaning_formed}
 use Rattle.pm_commands.specs.declared.fault.Fault.{Fault}
 use Rattle.pm_commands.specs.declared.fault.Fault.TheVariants as faults
-use Rattle.pm_commands.specs.Input.{Unreached, IsFaulty}
-use Rattle.pm_commands.specs.Surface.{IsMeshFault, side_twice, no_fan, IsSurfaceRead, bad_line}
-use Rattle.pm_commands.specs.Surface.{no_manifold, manifold}
+use Rattle.pm_commands.specs.declared.fault.InputFail.{InputFail}
+use Rattle.pm_commands.specs.declared.fault.InputFail.TheVariants as input
+use Rattle.pm_commands.specs.Input.{Unreached, IsFaulty, Stops}
+use Rattle.pm_commands.specs.Surface.{obj_fail, IsMeshFault, side_twice, no_fan, IsNoSurface}
+use Rattle.pm_commands.specs.Surface.{IsSurfaceRead, bad_line, no_manifold, manifold}
 
 pub first_repeating_one : (m : Net) (f g : ℕ) → IsFirstRepeating m f → IsFirstRepeating m g → f ≡ g
 first_repeating_one m f g is are =
@@ -104,7 +111,7 @@ module _ (digits : ℕ) where
         ∙ ap (λ (n : ℕ). faults.Obj fault n) refusal.1) (bad_line r is);
   }
 
-  pub line_refuses : (left : Option (List ℕ)) (fault : ObjFault) (line : ℕ)
+  line_refuses : (left : Option (List ℕ)) (fault : ObjFault) (line : ℕ)
       → IfSome left (λ bytes. IsRefusal fault line (meaning_of digits bytes))
       → IfSome left (λ bytes. IsFaulty (IsSurfaceRead digits) bytes (faults.Obj fault line))
   line_refuses None fault line is = tt
@@ -120,7 +127,7 @@ module _ (digits : ℕ) where
   surface_before bytes taken before found place (no_manifold m f is fault) = tt
   surface_before bytes taken before found place (manifold m is whole) = tt
 
-  pub surface_unreached : (left now : Option (List ℕ)) → FailsBefore digits left now
+  surface_unreached : (left now : Option (List ℕ)) → FailsBefore digits left now
       → Unreached (IsSurfaceRead digits) left now
   surface_unreached left now fails = record {
     taken = fails.taken;
@@ -135,7 +142,7 @@ module _ (digits : ℕ) where
       before None is = tt
       before (Some bytes) is = surface_before bytes (length fails.taken) is
 
-  pub mesh_refuses : (left : Option (List ℕ)) (m : Mesh) (f : Fault)
+  mesh_refuses : (left : Option (List ℕ)) (m : Mesh) (f : Fault)
       → IfSome left (λ bytes. meaning_of digits bytes ≡ Ok m) → IsMeshFault (net_of m.faces) f
       → IfSome left (λ bytes. IsFaulty (IsSurfaceRead digits) bytes f)
   mesh_refuses None m f is fault = tt
@@ -147,3 +154,39 @@ module _ (digits : ℕ) where
   mesh_stands None m s same is whole = tt
   mesh_stands (Some bytes) m s same is whole =
       subst (λ (x : Mesh). IsSurfaceRead digits bytes (Ok x) None) (sym same) (manifold m is whole)
+
+  -- How reading ends.
+
+  pub obj_stops : (T : Type 0) (e : ObjFail) (left now : Option (List ℕ)) (in_old in_new : ℕ)
+      → Explains digits e left now → HasCause in_old in_new (of_source {T = T} (Err e))
+      → Stops (IsSurfaceRead digits) (obj_fail e) left now in_old in_new
+  obj_stops T (fails.Fault fault line) left now in_old in_new is cause =
+      (line_refuses left fault line is, cause.same)
+  obj_stops T fails.Read left now in_old in_new is cause =
+      (surface_unreached left now is, cause.failed)
+  obj_stops T fails.OutOfMemory left now in_old in_new is cause = cause.same
+
+  pub mesh_stops : (e : InputFail) (left now : Option (List ℕ)) (m : Mesh) (in_old in_new : ℕ)
+      → IfSome left (λ bytes. meaning_of digits bytes ≡ Ok m) → IsNoSurface m e → in_new ≡ in_old
+      → Stops (IsSurfaceRead digits) e left now in_old in_new
+  mesh_stops (input.Faulty f) left now m in_old in_new is fault same =
+      (mesh_refuses left m f is fault, same)
+  mesh_stops input.Read left now m in_old in_new is fault same = absurd fault
+  mesh_stops input.OutOfMemory left now m in_old in_new is fault same = same
+
+  -- The surface of a mesh, as far as there is one.
+
+  pub all_stand : {E : Type 0} (left : Option (List ℕ)) (m : Mesh) (r : Result Mesh E)
+      → IfSome left (λ bytes. meaning_of digits bytes ≡ Ok m) → IfOk r (λ s. s ≡ m)
+      → OnOk r (IsStartOfRun m)
+      → IfOk r (λ s. IfSome left (λ bytes. IsSurfaceRead digits bytes (Ok s) None))
+  all_stand left m (Ok s) is same start = mesh_stands left m s same is start.manifold
+  all_stand left m (Err e) is same start = tt
+
+  pub all_stop : (left now : Option (List ℕ)) (m : Mesh) (r : Result Mesh InputFail)
+      (in_old in_new : ℕ) → IfSome left (λ bytes. meaning_of digits bytes ≡ Ok m)
+      → IfErr r (IsNoSurface m) → in_new ≡ in_old
+      → IfErr r (λ e. Stops (IsSurfaceRead digits) e left now in_old in_new)
+  all_stop left now m (Ok s) in_old in_new is fault same = tt
+  all_stop left now m (Err e) in_old in_new is fault same =
+      mesh_stops e left now m in_old in_new is fault same

@@ -15,17 +15,17 @@ pub record IsSimplified (m : Mesh) (target : ℕ) (h : Hierarchy) : Type 0 where
   pub run : IsRunTo m target log
   pub made : h ≡ hierarchy_of_run m log
 
--- The text gives no mesh, or this hierarchy is made of its mesh, where `Makes` says what is made of
--- a mesh; and how many bytes decide that, where it isn't the end of the text.
+-- The text gives no mesh, or this hierarchy is made of its mesh, where `IsRead` says what mesh a
+-- text gives and `Makes` what is made of a mesh; and how many bytes decide that, where it isn't the
+-- end of the text.
 pub data IsMadeOf
-    (Makes : Mesh → Hierarchy → Type 0) (digits : ℕ) (bytes : List ℕ)
-    : Result Hierarchy Fault → Option ℕ → Type 0 where
-  no_surface : (f : Fault) (place : Option ℕ) → IsSurfaceRead digits bytes (Err f) place
-      → IsMadeOf Makes digits bytes (Err f) place
-  made : (m : Mesh) (h : Hierarchy) (place : Option ℕ) → IsSurfaceRead digits bytes (Ok m) place
-      → Makes m h
-      → IsMadeOf Makes digits bytes (Ok h) place
+    (IsRead : List ℕ → Result Mesh Fault → Option ℕ → Type 0) (Makes : Mesh → Hierarchy → Type 0)
+    (bytes : List ℕ) : Result Hierarchy Fault → Option ℕ → Type 0 where
+  no_surface : (f : Fault) (place : Option ℕ) → IsRead bytes (Err f) place
+      → IsMadeOf IsRead Makes bytes (Err f) place
+  made : (m : Mesh) (h : Hierarchy) (place : Option ℕ) → IsRead bytes (Ok m) place → Makes m h
+      → IsMadeOf IsRead Makes bytes (Ok h) place
 
 -- The text gives no mesh, or its mesh is simplified.
 abbrev pub IsBuilt : ℕ → ℕ → List ℕ → Result Hierarchy Fault → Option ℕ → Type 0
-IsBuilt target digits = IsMadeOf (λ m h. IsSimplified m target h) digits
+IsBuilt target digits = IsMadeOf (IsSurfaceRead digits) (λ m h. IsSimplified m target h)

@@ -42,6 +42,7 @@ fault_text (faults.Obj e n) = place_text (fault_number e) (codes "line") n
 fault_text (faults.EdgeTwice face) = place_text 11 (codes "face") face
 fault_text (faults.LeafEdgeTwice face) = place_text 11 (codes "face") face
 fault_text (faults.NotFan vertex) = place_text 12 (codes "vertex") vertex
+fault_text faults.NoMesh = bare_text 14
 fault_text (faults.BadLine n) = place_text 30 (codes "line") n
 fault_text (faults.NoRecord n) = place_text 31 (codes "line") n
 fault_text faults.ScriptTooLong = bare_text 32

@@ -11,6 +11,7 @@ use Rattle.pm_number.specs.Numbering.{hierarchy_of_run}
 use Rattle.pm_commands.specs.declared.asked.Border.{Border}
 use Rattle.pm_commands.specs.declared.asked.Border.TheVariants as borders
 use Rattle.pm_commands.specs.declared.fault.Fault.{Fault}
+use Rattle.pm_commands.specs.Surface.{IsSurfaceGiven}
 use Rattle.pm_commands.specs.Build.{IsMadeOf}
 
 -- Where the border is free no vertex is kept. Where it is kept, the vertices on it are, and no
@@ -29,6 +30,7 @@ pub record IsSimplifiedWith (border : Border) (m : Mesh) (target : ℕ) (h : Hie
   pub run : IsRunBy (fine_keeping kept) m target log
   pub made : h ≡ hierarchy_of_run m log
 
--- The text gives no mesh, or its mesh is simplified so.
+-- The text gives no mesh, as one with nothing of a mesh does, or its mesh is simplified so.
 abbrev pub IsSimplifiedText : Border → ℕ → ℕ → List ℕ → Result Hierarchy Fault → Option ℕ → Type 0
-IsSimplifiedText border target digits = IsMadeOf (λ m h. IsSimplifiedWith border m target h) digits
+IsSimplifiedText border target digits =
+    IsMadeOf (IsSurfaceGiven digits) (λ m h. IsSimplifiedWith border m target h)

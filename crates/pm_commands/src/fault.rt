@@ -3,10 +3,11 @@ ghost use Rattle.std.specs.Prelude.{◌≡◌};
 ghost use Rattle.pm_commands.specs.declared.fault.InputFail.TheVariants as input;
 ghost use Rattle.pm_commands.specs.declared.fault.CommandFail.TheVariants as fails;
 ghost use Rattle.pm_commands.specs.Input.{fail_of};
+ghost use Rattle.pm_commands.specs.Surface.{obj_fail};
 ghost use Rattle.pm_commands.specs.Beginning.{stream_fail, load_fail};
 ghost use Rattle.pm_commands.specs.Ran.{serve_fail};
 
-use obj_read::ObjFault;
+use obj_read::{ObjFail, ObjFault};
 use pm_format::{FormatError, StreamFail};
 use pm_io::WriteFault;
 use pm_load::LoadFail;
@@ -38,6 +39,9 @@ pub enum Fault {
     LeafEdgeTwice(u32),
     /// The faces at this vertex, counted from 1, are no fan.
     NotFan(u32),
+    /// No line of an OBJ text is a vertex or a face, though some line has more than blanks and a
+    /// comment.
+    NoMesh,
 }
 
 /// Why the input gives nothing to work on.
@@ -62,6 +66,19 @@ impl From<AllocError> for InputFail {
 
     fn from(_refused: AllocError) -> InputFail {
         InputFail::OutOfMemory
+    }
+}
+
+// Want of memory is no fault of a text.
+impl From<ObjFail> for InputFail {
+    ghost from_gives = { λ cause fail. fail ≡ obj_fail cause };
+
+    fn from(cause: ObjFail) -> InputFail {
+        match cause {
+            ObjFail::Fault { fault, line } => InputFail::Faulty(Fault::Obj(fault, line)),
+            ObjFail::Read => InputFail::Read,
+            ObjFail::OutOfMemory => InputFail::OutOfMemory,
+        }
     }
 }
 

@@ -79,6 +79,7 @@ fn put_fault(line: &mut Line, fault: Fault)
         Fault::EdgeTwice(face) => put_place(line, 11, b"face", u64::from(face)),
         Fault::LeafEdgeTwice(face) => put_place(line, 11, b"face", u64::from(face)),
         Fault::NotFan(vertex) => put_place(line, 12, b"vertex", u64::from(vertex)),
+        Fault::NoMesh => put_number(line, 14),
     }
 }
 

@@ -17,7 +17,7 @@ ghost use Rattle.pm_commands.specs.Ending.{Ends, Counts};
 use crate::asked::{Asked, Border};
 use crate::fault::{CommandFail, InputFail};
 use crate::owned::put_stream;
-use crate::surface::read_surface;
+use crate::surface::read_given_surface;
 use pm_fine_costs::simplify_fine;
 use pm_forest::Hierarchy;
 use pm_io::{Sink, Source};
@@ -90,13 +90,14 @@ fn simplified_text<S: Source>(
     ensures err { IfErr result (λ e. Stops (IsSimplifiedText border target digits) e
         (S.left input.old) (S.left input.new) (S.faults input.old) (S.faults input.new)) }
 {
-    let surface = read_surface(alloc, digits, input)?;
+    let surface = read_given_surface(alloc, digits, input)?;
     Ok(simplified_with(alloc, surface, target, border)?)
 }
 
 /// Reads an OBJ text, simplifies its mesh to a number of faces or as far as pairs may be collapsed,
 /// and writes the stream text of the run's hierarchy, with so many decimals a coordinate. A border
-/// that is kept is shown by every frame of that stream.
+/// that is kept is shown by every frame of that stream. A text with nothing of a mesh in it is
+/// refused.
 pub fn simplify<S: Source, K: Sink>(
     alloc: Global,
     target: u32,

@@ -44,4 +44,5 @@ abbrev pub is_text_fault : Fault → Bool
 is_text_fault (faults.Obj e n) = true
 is_text_fault (faults.EdgeTwice face) = true
 is_text_fault (faults.NotFan vertex) = true
+is_text_fault faults.NoMesh = true
 is_text_fault f = false

@@ -1,5 +1,5 @@
 //! Why nothing is made.
-ghost use Rattle.std.specs.Prelude.{◌≡◌, false, Some, IfSome, IfNone};
+ghost use Rattle.std.specs.Prelude.{◌≡◌, false, Some, None, IfSome, IfNone};
 ghost use Rattle.pm_viewer.specs.Causes.{Tells};
 ghost use Rattle.pm_making.specs.Making.{is_text_fault};
 
@@ -24,6 +24,17 @@ pub enum PrepareFail {
     OutOfMemory,
 }
 
+// A fault without a place.
+fn bare(number: u32) -> Cause
+    ensures number { result.number ≡ number }
+    ensures place { result.place ≡ None }
+{
+    Cause {
+        number,
+        place: None,
+    }
+}
+
 // A fault with its place.
 fn placed(number: u32, place: u32) -> Cause
     ensures number { result.number ≡ number }
@@ -36,7 +47,8 @@ fn placed(number: u32, place: u32) -> Cause
 }
 
 /// The number and the place of a fault of an OBJ text, as `build` and `simplify` say them: a line,
-/// face or vertex counted from 1. There is none for a fault that no such text has.
+/// face or vertex counted from 1, if the fault has a place. There is no cause for a fault that no
+/// such text has.
 #[tactic(auto, unfolding(pm_commands::specs::FaultText::fault_text))]
 pub fn text_cause_of(fault: Fault) -> Option<Cause>
     ensures told { IfSome result (λ c. Tells fault c.number c.place) }
@@ -46,6 +58,7 @@ pub fn text_cause_of(fault: Fault) -> Option<Cause>
         Fault::Obj(fault, line) => Some(placed(fault.number(), line)),
         Fault::EdgeTwice(face) => Some(placed(11, face)),
         Fault::NotFan(vertex) => Some(placed(12, vertex)),
+        Fault::NoMesh => Some(bare(14)),
         _ => None,
     }
 }

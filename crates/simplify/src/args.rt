@@ -93,7 +93,10 @@ pub fn answer<S: Source, K: Sink, E: Sink>(
     ensures memory { result ≡ 5 → K.got out.new ≡ K.got out.old }
     ensures counts { CountsFaults S.Source K.Sink result input.old input.new out.old out.new }
     ensures said { SaysEnding E.Sink (codes "simplify") result err.old err.new }
-    ensures said_memory { result ≡ 5 → Unput E.Sink err.old err.new
+    // Where memory is wanted it is said, but where the words can't be gathered: then nothing is
+    // read or put.
+    ensures said_memory { result ≡ 5 → (Unput E.Sink err.old err.new
+        × Untouched S.Source K.Sink input.old input.new out.old out.new)
         ⊎ Tells E.Sink err.old err.new (codes "simplify: out of memory\n") }
     // Where no device failed, a whole outcome gives 0 and a fault gives 1, unless memory is wanted.
     ensures complete { (asked : Asked) (bytes : List ℕ) (all : Ran) → ArgsAsk args asked
