@@ -1,0 +1,1 @@
+"""Levels of detail of a model, as files that other programs read."""

@@ -1,0 +1,137 @@
+"""Tries tools/lod.py and what stands under it: python3 tools/test_lod.py"""
+import json
+import os
+import struct
+import subprocess
+import sys
+import tempfile
+import unittest
+from pathlib import Path
+from typing import Dict, List, Tuple
+
+TOOLS = Path(__file__).resolve().parent
+TOP = TOOLS.parent
+sys.path.insert(0, str(TOOLS))
+
+from lods.levels import distance_up, levels_of  # noqa: E402
+from lods.shown import Grid, Level, script_of  # noqa: E402
+from lods.written import decimals_of, glb, normals, obj, ply, stl  # noqa: E402
+
+OCTAHEDRON = TOP / "examples" / "octahedron.vdpm"
+UNITS = Grid(0.5, (100.0, 0.0, -1.0))
+SQUARE = Level(
+    [(0, 0, 0), (2, 0, 0), (2, 2, 0), (0, 2, 0)], UNITS, [(0, 1, 2), (0, 2, 3)], 0.0, 0.0
+)
+
+
+def parts_of(data: bytes) -> Tuple[Dict[str, object], bytes]:
+    """The document of a GLB file, and what it holds beside."""
+    magic, version, size = struct.unpack_from("<4sII", data)
+    assert (magic, version, size) == (b"glTF", 2, len(data))
+    length, kind = struct.unpack_from("<I4s", data, 12)
+    assert kind == b"JSON"
+    at = 20 + length
+    binary, other = struct.unpack_from("<I4s", data, at)
+    assert other == b"BIN\0" and at + 8 + binary == len(data)
+    return json.loads(data[20:at]), data[at + 8 :]
+
+
+class Levels(unittest.TestCase):
+    def test_faces_and_errors_of_each_front(self) -> None:
+        levels = levels_of(OCTAHEDRON.read_bytes())
+        self.assertEqual(levels.faces[-1], 8)
+        self.assertEqual(levels.errors[-1], 0)
+        self.assertEqual(levels.faces, sorted(levels.faces))
+        self.assertEqual(levels.errors, sorted(levels.errors, reverse=True))
+
+    def test_levels_by_faces_by_error_and_by_halves(self) -> None:
+        levels = levels_of(OCTAHEDRON.read_bytes())
+        self.assertEqual(levels.most_within(8), len(levels.faces) - 1)
+        self.assertEqual(levels.most_within(0), 0)
+        self.assertEqual(levels.least_within(0), len(levels.faces) - 1)
+        self.assertEqual(levels.least_within(levels.errors[0]), 0)
+        halves = levels.halves(9)
+        self.assertEqual(halves[0], len(levels.faces) - 1)
+        self.assertEqual(halves, sorted(set(halves), reverse=True))
+
+    def test_lengths_are_rounded_up(self) -> None:
+        self.assertEqual(distance_up((0, 0, 0), (3, 4, 0)), 5)
+        self.assertEqual(distance_up((0, 0, 0), (1, 1, 0)), 2)
+
+    def test_a_script_splits_each_record_once(self) -> None:
+        self.assertEqual(script_of([0, 2, 3]), b"l\nw\ns 0\ns 1\nl\nw\ns 2\nl\nw\n")
+
+
+class Written(unittest.TestCase):
+    def test_obj_has_the_coordinates_of_the_file(self) -> None:
+        lines = obj(SQUARE).decode().splitlines()
+        self.assertEqual([float(c) for c in lines[2].split()[1:]], [101.0, 1.0, -1.0])
+        self.assertEqual(lines[4:], ["f 1 2 3", "f 1 3 4"])
+
+    def test_decimals_tell_a_hundredth_of_a_step(self) -> None:
+        self.assertEqual(decimals_of(Grid(0.01, (0.0, 0.0, 0.0))), 2)
+        self.assertEqual(decimals_of(Grid(0.003, (0.0, 0.0, 0.0))), 5)
+        self.assertEqual(decimals_of(Grid(1000.0, (0.5, 0.0, 0.0))), 0)
+
+    def test_ply_and_stl_have_all_triangles(self) -> None:
+        head, _, data = ply(SQUARE).partition(b"end_header\n")
+        self.assertIn(b"element vertex 4\n", head)
+        self.assertEqual(struct.unpack_from("<3d", data, 24), (101.0, 0.0, -1.0))
+        self.assertEqual(struct.unpack_from("<B3i", data, 4 * 24), (3, 0, 1, 2))
+        solid = stl(SQUARE)
+        self.assertEqual(len(solid), 84 + 50 * 2)
+        self.assertEqual(struct.unpack_from("<6f", solid, 84), (0, 0, 1, 100, 0, -1))
+
+    def test_glb_stands_at_the_middle_of_the_file(self) -> None:
+        document, binary = parts_of(glb(SQUARE))
+        self.assertEqual(document["nodes"], [{"mesh": 0, "translation": [100.0, 0.0, -1.0]}])
+        accessors = document["accessors"]
+        assert isinstance(accessors, list)
+        self.assertEqual((accessors[0]["min"], accessors[0]["max"]), ([0, 0, 0], [1, 1, 0]))
+        self.assertEqual(struct.unpack_from("<3f", binary, 12), (1, 0, 0))
+        self.assertEqual(struct.unpack_from("<3f", binary, 48), (0, 0, 1))
+        self.assertEqual(struct.unpack_from("<6I", binary, 96), (0, 1, 2, 0, 2, 3))
+
+    def test_a_vertex_without_area_round_it_looks_up(self) -> None:
+        self.assertEqual(list(normals([(0.0, 0.0, 0.0)], [])), [(0.0, 0.0, 1.0)])
+
+
+class Program(unittest.TestCase):
+    """The whole way, by the programs that VIEWER_TESTS_PROGRAM names, or those at the top."""
+
+    def lod(self, *words: str) -> "subprocess.CompletedProcess[bytes]":
+        program = os.environ.get("VIEWER_TESTS_PROGRAM", str(TOP / "vdpm"))
+        told = [sys.executable, str(TOOLS / "lod.py"), *words, "--program", program]
+        return subprocess.run(told, capture_output=True, check=False)
+
+    def test_each_level_has_half_of_the_triangles(self) -> None:
+        with tempfile.TemporaryDirectory() as room:
+            torus = str(TOP / "examples" / "torus.obj")
+            done = self.lod(torus, "--levels", "3", "--out", f"{room}/t", "--format", "stl")
+            self.assertEqual(done.returncode, 0, done.stderr.decode())
+            counts: List[int] = []
+            for level in range(3):
+                data = Path(f"{room}/t-{level}.stl").read_bytes()
+                counts += struct.unpack_from("<I", data, 80)
+            self.assertEqual(counts, [576, 288, 144])
+            said = done.stdout.decode().splitlines()
+            self.assertRegex(said[0], r"t-0\.stl: 576 triangles, error 0, from planes 0$")
+
+    def test_coordinates_are_those_of_the_file(self) -> None:
+        with tempfile.TemporaryDirectory() as room:
+            scan = str(TOP / "examples" / "ring_scan.obj")
+            done = self.lod(scan, "--error", "0", "--out", f"{room}/r")
+            self.assertEqual(done.returncode, 0, done.stderr.decode())
+            points = [line for line in Path(f"{room}/r.obj").read_text().split("\n") if "v" in line]
+            xs = [float(line.split()[1]) for line in points]
+            self.assertAlmostEqual(max(xs), 0.6, places=5)
+            self.assertAlmostEqual(min(xs), -0.6, places=5)
+
+    def test_what_cannot_be_read_is_told(self) -> None:
+        done = self.lod("nowhere.obj", "--faces", "5")
+        self.assertEqual(done.returncode, 1)
+        self.assertEqual(done.stderr, b"lod: nowhere.obj: No such file or directory\n")
+
+
+if __name__ == "__main__":
+    unittest.main()
