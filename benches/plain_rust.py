@@ -5,7 +5,8 @@
 A FOLDER has vdpm, prepare and simplify: `proved=proved rustc=../plain/target/release`, say. The
 mesh is a grid of 199,712 faces. Seconds are processor time, the least of N rounds in which each
 program runs once, since a machine that is shared hides differences of some percent; the column
-behind them is the last over the first. The bytes that the programs write are compared.
+behind them is the last over the first. The bytes that the programs write are compared. A folder
+that lacks a program has a dash there.
 """
 import argparse
 import hashlib
@@ -67,19 +68,31 @@ def measured(work: Work, folders: Dict[str, Path], rounds: int,
     digests = set()
     for _ in range(rounds):
         for name, folder in folders.items():
-            costs[name].append(run_once(str(folder / work.program), work.words, work.source, out))
-            digests.add(hashlib.sha256(out.read_bytes()).hexdigest())
+            program = folder / work.program
+            if program.is_file():
+                costs[name].append(run_once(str(program), work.words, work.source, out))
+                digests.add(hashlib.sha256(out.read_bytes()).hexdigest())
     return costs, len(digests)
 
 
+def told(numbers: List[float], most: bool) -> str:
+    """The greatest number, or the least with its thousandths; a dash where there is none."""
+    if not numbers:
+        return "–"
+    return f"{max(numbers):.0f}" if most else f"{min(numbers):.3f}"
+
+
 def row(work: Work, costs: Dict[str, List[Cost]], outputs: int) -> str:
-    least = [min(cost.seconds for cost in all_of) for all_of in costs.values()]
-    memory = [max(cost.memory for cost in all_of) for all_of in costs.values()]
-    statuses = {cost.status for all_of in costs.values() for cost in all_of}
+    seconds = [[cost.seconds for cost in some] for some in costs.values()]
+    memory = [[cost.memory for cost in some] for some in costs.values()]
+    statuses = {cost.status for some in costs.values() for cost in some}
     note = "same" if outputs == 1 else "DIFFERENT"
     note += "" if statuses == {0} else f", statuses {sorted(statuses)}"
-    cells = [f"{seconds:.3f}" for seconds in least] + [f"{least[-1] / max(least[0], 1e-3):.2f}"]
-    return " | ".join(["", work.name, *cells, *(f"{mb:.0f}" for mb in memory), note, ""]).strip()
+    first, last = seconds[0], seconds[-1]
+    ratio = f"{min(last) / max(min(first), 1e-3):.2f}" if first and last else "–"
+    cells = [*(told(some, False) for some in seconds), ratio]
+    cells += [told(some, True) for some in memory]
+    return " | ".join(["", work.name, *cells, note, ""]).strip()
 
 
 def parsed() -> Tuple[int, Dict[str, Path]]:

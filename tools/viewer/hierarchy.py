@@ -54,4 +54,9 @@ def mean_colours(nodes: Nodes, colours: Optional[bytes]) -> Optional[List[Colour
             total[:] = [*colours[3 * vertex - 3:3 * vertex], 1]
         if parent != NO_PARENT:
             sums[parent] = [a + b for a, b in zip(sums[parent], total)]
-    return [(round(r / count), round(g / count), round(b / count)) for r, g, b, count in sums]
+    return [(nearest(r, count), nearest(g, count), nearest(b, count)) for r, g, b, count in sums]
+
+
+def nearest(total: int, count: int) -> int:
+    """The mean as a whole number, halves up, as the page and `vdpm_means` have it."""
+    return (2 * total + count) // (2 * count)

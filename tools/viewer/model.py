@@ -71,8 +71,11 @@ class Done(NamedTuple):
     proved: bool
 
 
+speaker = "viewer"  # the tool whose name stands before what is told
+
+
 def tell(text: str) -> None:
-    print(f"viewer: {text}", file=sys.stderr, flush=True)
+    print(f"{speaker}: {text}", file=sys.stderr, flush=True)
 
 
 def run(path: Path, words: Sequence[str], text: bytes, doing: str) -> Done:

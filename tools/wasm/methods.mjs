@@ -99,6 +99,7 @@ test("a fault tells the line of the programs", () => {
   thrown(() => vdpm.open(stream.subarray(0, 30)), "fault 22 byte 30");
   thrown(() => vdpm.open(text), "fault 20");
   thrown(() => vdpm.build("f 1 2 3\n"), "fault 7 line 1");
+  thrown(() => vdpm.simplify("ply\n"), "fault 14");
   thrown(() => vdpm.prepare(""), "fault 12");
   thrown(() => within((session) => session.line("w w")), "fault 30");
 });

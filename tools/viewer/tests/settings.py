@@ -113,7 +113,7 @@ class Detail(Page):
         self.assertEqual(len(self.answers), count)
         self.slide("budget", 20)
         self.page.until("viewer.session.budget === 4294967295 && viewer.isSettled")
-        self.assertGreater(self.faces(), 1000)
+        self.assertGreater(self.faces(), 500)
 
 
 class Folding(Page):

@@ -2,6 +2,7 @@
 //! would end the process.
 
 use super::alloc::{AllocError, Global};
+use std::hash::Hash;
 use std::vec::Vec;
 
 // How many items a block has at most.
@@ -93,9 +94,38 @@ impl<K: Ord> BTreeSet<K> {
     }
 }
 
+/// That of std, where each insertion says whether there was memory.
+#[derive(Debug)]
+pub struct HashMap<K, V>(std::collections::HashMap<K, V>);
+
+impl<K: Hash + Eq, V> HashMap<K, V> {
+    pub fn new(_: Global) -> HashMap<K, V> {
+        HashMap(std::collections::HashMap::new())
+    }
+
+    pub fn get(&self, key: &K) -> Option<&V> {
+        self.0.get(key)
+    }
+
+    /// Puts a value in, and answers the one that stood there. Where memory is wanting the map is
+    /// as before.
+    pub fn insert(&mut self, key: K, value: V) -> Result<Option<V>, AllocError> {
+        self.0.try_reserve(1).map_err(|_| AllocError)?;
+        Ok(self.0.insert(key, value))
+    }
+}
+
 #[cfg(test)]
 mod tests {
     use super::*;
+
+    #[test]
+    fn a_hash_map_answers_what_was_put_in_last() {
+        let mut map = HashMap::new(Global);
+        assert_eq!(map.insert(3, "three"), Ok(None));
+        assert_eq!(map.insert(3, "drei"), Ok(Some("three")));
+        assert_eq!((map.get(&3), map.get(&4)), (Some(&"drei"), None));
+    }
 
     #[test]
     fn is_the_map_of_std() {
