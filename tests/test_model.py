@@ -161,7 +161,7 @@ class Building(unittest.TestCase):
 class Simplifying(unittest.TestCase):
     def test_planes_round_a_vertex_weigh_by_area_and_hold_the_border(self) -> None:
         surface = surface_of(Mesh([(0, 0, 0), (4, 0, 0), (0, 4, 0)], [(0, 1, 2)]), FINE)
-        normals = [(0, 0, 256), (0, -1408, 0), (-1408, 0, 0)]
+        normals = [(0, 0, 128), (0, -704, 0), (-704, 0, 0), (2, 0, 0), (0, 2, 0), (0, 0, 2)]
         self.assertEqual(surface.planes[0], [(n, 0) for n in normals])
         twice = [((0, 0, 512), 0), ((0, -2816, 0), 0), ((-2816, 0, 0), 0)]
         self.assertEqual(surface.taken[0], twice)
@@ -177,7 +177,7 @@ class Simplifying(unittest.TestCase):
 
     def test_the_least_pairs_of_the_octahedron_by_these_planes(self) -> None:
         log = run_to(octahedron(), 0, (), FINE)
-        pairs = [(0, 2, (50, 50, 0)), (4, 6, (22, 22, 62))]
+        pairs = [(0, 2, (50, 50, 0)), (4, 6, (19, 19, 73))]
         self.assertEqual([(entry.t, entry.u, entry.place) for entry in log], pairs)
 
 

@@ -46,6 +46,19 @@ class Preparing(unittest.TestCase):
         done = answer("prepare", ["10"], (points + "f 1 2 3\nf 1 4 3\nf 1 5 3\n").encode())
         self.assertIn("prepare: vertices joined 2, 1 of them by rounding\n", done.error)
 
+    def test_what_rounding_did_is_told(self) -> None:
+        box = "v 0 0 0\nv 20 0 0\nv 0 20 0\nf 1 2 3\n"
+        for ys, told in (
+            (("3.49", "3.58", "3.52"), "turned over by rounding 1"),
+            (("3.1", "3.1", "3.3"), "made flat by rounding 1"),
+        ):
+            points = "".join(f"v {x} {y} 0\n" for x, y in zip((3, 7, 5), ys))
+            done = answer("prepare", ["10"], (box + points + "f 4 5 6\n").encode())
+            self.assertIn(f"prepare: faces {told}\n", done.error)
+        text = b"v 0 0 0\nv 10 4e-19 0\nv 0 10 0\nf 1 2 3\n"
+        line = "prepare: vertices rounded at the 18th decimal 1\n"
+        self.assertEqual(answer("prepare", [], text).error, line)
+
     def test_of_a_strip_the_lesser_area_is_turned(self) -> None:
         points = "v 0 0 0\nv 0 9 0\nv 9 0 0\nv 9 9 0\nv 18 0 0\n"
         done = answer("prepare", [], (points + "f 1 2 3\nf 2 3 4\nf 3 5 4\n").encode())

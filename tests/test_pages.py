@@ -164,7 +164,7 @@ class Pages(unittest.TestCase):
         rows = [
             ({"README.md": 1400, "docs/A.md": 44100}, []),
             ({"README.md": 1401}, [("README.md", "1401 words are more than 1400")]),
-            ({"docs/A.md": 47000, "b.md": 1}, [("all pages", "47001 words are more than 47000")]),
+            ({"docs/A.md": 50000, "b.md": 1}, [("all pages", "50001 words are more than 50000")]),
         ]
         for words, wanted in rows:
             self.assertEqual(list(pages.too_many_words(words)), wanted)

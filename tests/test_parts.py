@@ -81,7 +81,7 @@ class Rust(unittest.TestCase):
         answers = [Run(0, ""), Run(0, ""), tests, cases, units, units, *[units] * 2]
         with mock.patch.object(parts, "web_module", return_value=parts.NONE):
             count, commands = self.told(answers)
-        self.assertEqual(count, Count(47, 0))
+        self.assertEqual(count, Count(52, 0))
         self.assertEqual(commands[3][2:4], ["--vdpm", "/r/target/checked/vdpm"])
 
 

@@ -86,8 +86,9 @@ class Verdicts(unittest.TestCase):
 
     def test_an_answer_that_is_not_taken_counts(self) -> None:
         said = "proofs/sums/add/Answers.antt:3:1: error: `returns-clause-sum`: is no proof\n"
-        done = wrong.outcome(self.first, f"{said}fn some::sums::add: not proved\n")
-        self.assertTrue(done.passed)
+        for between in ("", "fn some::sums::one_more: proved (1 goal)\n"):
+            done = wrong.outcome(self.first, f"{said}{between}fn some::sums::add: not proved\n")
+            self.assertTrue(done.passed)
 
     def test_a_check_that_says_nothing_of_it_fails(self) -> None:
         for said in ("", "rt: no such function\n", SAID.replace("some::", "other::")):

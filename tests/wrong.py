@@ -28,7 +28,9 @@ HEAD = "The wrong bodies of tests/wrong_bodies/list.txt at the last `./test wron
 FUNCTION_LINE = re.compile(r"^fn (\S+): (.*)")
 GOAL_LINE = re.compile(r"^note: \S+: .*\(`([^`]+)`\)")
 NAMED_GOALS = re.compile(r"did not prove ((?:`[^`]+`(?:, )?)+)")
-ERROR_LINE = re.compile(r"^(?:\./)?(?:proofs|src)/\S+: error: (?:`([^`]+)`: )?(.*)")
+ERROR_LINE = re.compile(r"^(?:\./)?((?:proofs|src)/\S+): error: (?:`([^`]+)`: )?(.*)")
+# An answer stands in a folder that is named after its function.
+ANSWER = re.compile(r"proofs/(.+)/\w+\.antt:")
 
 
 class ListFault(Exception):
@@ -114,21 +116,31 @@ def batches(bodies: Sequence[Body]) -> List[List[Body]]:
     return groups
 
 
+def answered(place: str) -> str:
+    """The function that an answer at this place of a crate is of; empty where it is none."""
+    found = ANSWER.match(place)
+    return found[1].replace("/", "::") if found else ""
+
+
 def said_of(function: str, text: str) -> Tuple[Optional[str], List[str]]:
-    """What a check says of a function, and the goals at which it fails."""
+    """What a check says of a function, and the goals at which it fails: those told before its line
+    and after that of another function, and its answers that aren't taken, wherever they stand."""
     goals: List[str] = []
+    refused: List[str] = []
     for line in text.splitlines():
         goal, error, fn = (form.match(line) for form in (GOAL_LINE, ERROR_LINE, FUNCTION_LINE))
         if goal:
             goals.append(goal[1])
         elif error:
-            goals.append(error[1] or error[2][:60])
+            of = answered(error[1])
+            own = function.endswith(f"::{of}") if of else False
+            (refused if own else goals).append(error[2] or error[3][:60])
         elif fn:
             named = NAMED_GOALS.search(fn[2])
             if named:
                 goals += [g for g in re.findall(r"`([^`]+)`", named[1]) if g not in goals]
             if fn[1] == function:
-                return fn[2], goals
+                return fn[2], goals + refused
             goals = []
     return None, goals
 

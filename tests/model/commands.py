@@ -7,7 +7,7 @@ from .fine import FINE
 from .front import Shown, judge_hierarchy
 from .hierarchy import Hierarchy, hierarchy_of_run, input_mesh
 from .mesh import Corners, Mesh, Point, canonical_text
-from .obj import surface_of_text
+from .obj import given_surface_of_text, surface_of_text
 from .run import border_of, run_to
 from .script import LiveSession, Session, serve
 from .stream import Stream, read_stream, stream_text
@@ -153,7 +153,7 @@ def answer(words: List[str], data: bytes) -> Answer:
 
 
 def simplify(text: bytes, target: int, digits: int, keeps_border: bool) -> Answer:
-    mesh = surface_of_text(text, digits)
+    mesh = given_surface_of_text(text, digits)
     log = run_to(mesh, target, border_of(mesh) if keeps_border else set(), FINE)
     return Answer(0, stream_text(hierarchy_of_run(mesh, log), digits), "")
 

@@ -1,6 +1,6 @@
 """The policy of `simplify`: planes weigh by the area of their faces, planes on the border hold it,
-a vertex takes the planes round it when it is made, and a fourth candidate is near where the planes
-of a pair have the least sum of squares."""
+each point of the input has three of its own, a vertex takes the planes round it when it is made,
+and a fourth candidate is near where the planes of a pair have the least sum of squares."""
 from math import isqrt
 from typing import List, Optional, Tuple
 
@@ -9,6 +9,7 @@ from .mesh import minus, normal, sides, twins
 from .run import Places, Plane, Policy, midpoint, plane_through
 
 Matrix = Tuple[Point, Point, Point]  # by rows
+POINT_NORMALS: List[Point] = [(2, 0, 0), (0, 2, 0), (0, 0, 2)]
 MATRIX_DIGITS, GRADIENT_DIGITS, DIVISOR_DIGITS = 33, 52, 42
 
 
@@ -35,6 +36,10 @@ def border_normal(a: Point, b: Point, n: Point) -> Point:
     return scaled(cross(minus(b, a), n), 11 << 18, 2 * length) if length else n
 
 
+def halved(n: Point) -> Point:
+    return scaled(n, 1, 2)
+
+
 def doubled(n: Point) -> Point:
     return 2 * n[0], 2 * n[1], 2 * n[2]
 
@@ -57,12 +62,14 @@ def normals_round(faces: Faces, places: Places, vertex: int) -> List[Point]:
 
 
 def brought(faces: Faces, places: Places, vertex: int) -> List[Plane]:
-    """The planes round a vertex, all through its place."""
-    return [plane_through(n, places[vertex]) for n in normals_round(faces, places, vertex)]
+    """The planes round a vertex with normals of half the length, and three along the axes with
+    normals of length 2, all through its place."""
+    normals = [halved(n) for n in normals_round(faces, places, vertex)]
+    return [plane_through(n, places[vertex]) for n in normals + POINT_NORMALS]
 
 
 def taken(faces: Faces, places: Places, vertex: int) -> List[Plane]:
-    """The same, with four times their weight."""
+    """The planes round a vertex with normals of twice the length."""
     normals = normals_round(faces, places, vertex)
     return [plane_through(doubled(n), places[vertex]) for n in normals]
 

@@ -19,7 +19,7 @@ MOST_LINE_BYTES = 65_536
 
 TOO_LONG, CONTINUED, TOO_FEW_FIELDS, BAD_NUMBER, NOT_WHOLE = 1, 2, 3, 4, 5
 OUT_OF_RANGE, BAD_INDEX, NOT_TRIANGLE, TOO_MANY, REPEATED_CORNER = 6, 7, 8, 9, 10
-EDGE_TWICE, NOT_FAN = 11, 12
+EDGE_TWICE, NOT_FAN, NO_MESH = 11, 12, 14
 
 
 def lines_of(text: bytes) -> List[bytes]:
@@ -117,4 +117,17 @@ def surface_of_text(text: bytes, digits: int) -> Mesh:
     vertex = first_broken(mesh.faces)
     if vertex is not None:
         raise Fault(NOT_FAN, f"vertex {vertex + 1}")
+    return mesh
+
+
+def has_words(text: bytes) -> bool:
+    """Whether some line has more than blanks and a comment."""
+    return any(fields_of(content_of(line)) for line in lines_of(text))
+
+
+def given_surface_of_text(text: bytes, digits: int) -> Mesh:
+    """The same of a text that shall have a mesh."""
+    mesh = surface_of_text(text, digits)
+    if not mesh.points and has_words(text):
+        raise Fault(NO_MESH)
     return mesh

@@ -24,6 +24,7 @@ from .scan import PASSED_OVER, UNITS, Soup, nearest, soup_of_text
 
 
 NO_FACES = 12
+FINER = 4096
 
 
 class Fit(NamedTuple):
@@ -87,6 +88,26 @@ def is_thin(a: Point, b: Point, c: Point) -> bool:
     """The three points are on a line: the parallelogram over them has no area on any axis."""
     (ux, uy, uz), (vx, vy, vz) = [tuple(q - p for p, q in zip(a, end)) for end in (b, c)]
     return uy * vz == uz * vy and uz * vx == ux * vz and ux * vy == uy * vx
+
+
+def looks_away(m: Point, n: Point) -> bool:
+    """Two normals look away from each other."""
+    return sum(a * b for a, b in zip(m, n)) < 0
+
+
+def rounded_faces(
+    fit: Optional[Fit], points: List[Point], places: Dict[int, Point], faces: List[Corners]
+) -> Tuple[int, int]:
+    """How many triangles rounding made flat, and how many it turned over, as seen on a grid that is
+    4,096 times as fine."""
+    if fit is None:
+        return 0, 0
+    fine = fit._replace(size=FINER * fit.size)
+    both = [
+        (normal(*[places[v] for v in face]), normal(*[fine.place(points[v]) for v in face]))
+        for face in faces
+    ]
+    return sum(not any(n) and any(m) for n, m in both), sum(looks_away(n, m) for n, m in both)
 
 
 def joined(places: Dict[int, Point]) -> Dict[int, int]:
@@ -297,6 +318,7 @@ def prepared(soup: Soup, size: Optional[int]) -> Prepared:
     named = corners_in(three)
     places = {v: stand[v] for v in named}
     names = joined(places)
+    flattened, overturned = rounded_faces(fit, soup.points, places, three)
     renamed = [(names[a], names[b], names[c]) for a, b, c in three]
     stay = kept(renamed)
     turns = turning(stay, places)
@@ -310,6 +332,9 @@ def prepared(soup: Soup, size: Optional[int]) -> Prepared:
     notes = [
         ("polygons cut", len(soup.polygons)),
         ("polygons whose triangles overlap", overlapping),
+        ("vertices rounded at the 18th decimal", len(soup.inexact)),
+        ("faces made flat by rounding", flattened),
+        ("faces turned over by rounding", overturned),
         *[(f"{kind} passed over", soup.passed.count(kind)) for kind in PASSED_OVER],
         ("lines passed over", len(soup.others)),
         ("vertices joined", sum(names[v] != v for v in named)),

@@ -7,7 +7,7 @@ count units of 10^-18.
 """
 import re
 from fractions import Fraction
-from typing import List, NamedTuple
+from typing import List, NamedTuple, Tuple
 
 from .faults import Fault
 from .mesh import MOST_FACES, MOST_VERTICES, Corners, Point
@@ -56,6 +56,7 @@ class Soup(NamedTuple):
     polygons: List[Polygon]
     passed: List[str]  # of what kind each thing is that was passed over
     others: List[int]  # the lines that begin otherwise
+    inexact: List[int]  # the points that aren't exactly what was read
 
 
 def nearest(value: Fraction) -> int:
@@ -64,8 +65,8 @@ def nearest(value: Fraction) -> int:
     return -size if value < 0 else size
 
 
-def decimal(field: bytes) -> int:
-    """The units of 10^-18 that a field spells."""
+def decimal(field: bytes) -> Tuple[int, bool]:
+    """The units of 10^-18 that a field spells, and whether exactly so many."""
     form = re.fullmatch(rb"([+-]?)([0-9]*)(?:\.([0-9]*))?(?:[eE]([+-]?)([0-9]+))?", field)
     if form is None or not (form[2] or form[3]):
         raise Fault(BAD_NUMBER)
@@ -73,16 +74,17 @@ def decimal(field: bytes) -> int:
     if exponent > GREATEST_EXPONENT:
         raise Fault(OUT_OF_RANGE)
     shift = (-exponent if form[4] == b"-" else exponent) - len(decimals)
-    units = nearest(Fraction(int(form[2] + decimals)) * Fraction(10) ** shift * UNITS)
+    value = Fraction(int(form[2] + decimals)) * Fraction(10) ** shift * UNITS
+    units = nearest(value)
     if units > GREATEST_UNITS:
         raise Fault(OUT_OF_RANGE)
-    return -units if form[1] == b"-" else units
+    return (-units if form[1] == b"-" else units), units == value
 
 
 def is_weight(field: bytes) -> bool:
     """The field is a number, and not 1."""
     try:
-        return decimal(field) != UNITS
+        return decimal(field)[0] != UNITS
     except Fault as fault:
         return fault.number == OUT_OF_RANGE
 
@@ -118,9 +120,11 @@ def take(soup: Soup, text: bytes, number: int) -> None:
     if word in (b"v", b"f") and len(fields) < 3:
         raise Fault(TOO_FEW_FIELDS)
     if word == b"v":
-        x, y, z = [decimal(field) for field in fields[:3]]
+        (x, *of_x), (y, *of_y), (z, *of_z) = [decimal(field) for field in fields[:3]]
         if len(soup.points) == MOST_VERTICES:
             raise Fault(TOO_MANY)
+        if not all(of_x + of_y + of_z):
+            soup.inexact.append(len(soup.points))
         soup.points.append((x, y, z))
         soup.passed.extend(passed_after_place(fields[3:]))
     elif word == b"f":
@@ -149,7 +153,7 @@ def read_of(number: int, line: bytes) -> bytes:
 def soup_of_text(text: bytes) -> Soup:
     """The points and triangles of a text, or the first fault of its first line with one. Of lines
     that go together the first is named."""
-    soup, begun, first = Soup([], [], [], [], []), b"", 1
+    soup, begun, first = Soup([], [], [], [], [], []), b"", 1
     for number, line in enumerate(lines_of(text), 1):
         if len(line) > MOST_LINE_BYTES:
             raise Fault(TOO_LONG, f"line {number}")
