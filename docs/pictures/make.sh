@@ -26,7 +26,7 @@ python3 tools/flight.py --at 0 0 0 --tolerance 16 --width 640 --height 480 \
     < examples/asteroid.eyes > "$work/flight.script"
 draw "$work/flight.script" flight --at 0 0 0 --height 480 --eyes "$work/flight.script"
 # A terrain with a flat sea, by error and by deviation.
-python3 benches/terrain.py 60 sea | "$vdpm" build 0 > "$work/sea.vdpm"
+python3 benches/terrain.py 60 sea | "$simplify" > "$work/sea.vdpm"
 for line in v vd; do
     printf '%s 0 -30000 14000 600 12\nw\n' "$line" | cat "$work/sea.vdpm" - | "$vdpm" live 4000
 done | python3 tools/frames_to_svg.py docs/pictures/flat --width 640 --from 0 -3 1.6
