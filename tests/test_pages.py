@@ -162,15 +162,15 @@ class Pages(unittest.TestCase):
 
     def test_too_many_words_are_told(self) -> None:
         rows = [
-            ({"README.md": 1400, "docs/A.md": 44100}, []),
-            ({"README.md": 1401}, [("README.md", "1401 words are more than 1400")]),
+            ({"README.md": 900, "docs/A.md": 44600}, []),
+            ({"README.md": 901}, [("README.md", "901 words are more than 900")]),
             ({"docs/A.md": 50000, "b.md": 1}, [("all pages", "50001 words are more than 50000")]),
         ]
         for words, wanted in rows:
             self.assertEqual(list(pages.too_many_words(words)), wanted)
         self.assertIn(
-            "README.md: 1402 words are more than 1400",
-            faults({"README.md": "a - " * 1402}),
+            "README.md: 902 words are more than 900",
+            faults({"README.md": "a - " * 902}),
         )
 
     def test_a_page_for_users_may_be_longer(self) -> None:
