@@ -23,6 +23,7 @@ sys.path.insert(0, str(TOP / "tools"))
 
 from drawing import cross, dot, minus  # noqa: E402
 from frames import read_frames  # noqa: E402
+from mesh_files.reading import read_soup  # noqa: E402
 
 ALL_MOVES = 4294967295
 FEW = 4  # triangles of a box that isn't parted any more
@@ -40,17 +41,9 @@ class Mesh(NamedTuple):
 
 
 def read_obj(path: Path) -> Mesh:
-    mesh = Mesh([], [])
-    with open(path, encoding="ascii") as lines:
-        for line in lines:
-            word, *fields = line.split() or [""]
-            if word == "v":
-                x, y, z = (float(field) for field in fields[:3])
-                mesh.points.append((x, y, z))
-            elif word == "f":
-                a, b, c = (int(field.split("/")[0]) - 1 for field in fields)
-                mesh.faces.append((a, b, c))
-    return mesh
+    soup = read_soup(path)
+    numbers, corners = iter(soup.points), iter(soup.corners)
+    return Mesh(list(zip(numbers, numbers, numbers)), list(zip(corners, corners, corners)))
 
 
 def plus(p: Place, q: Place, part: float) -> Place:

@@ -26,7 +26,10 @@ from typing import Dict, List, NamedTuple, Optional, Tuple
 TOP = Path(__file__).resolve().parent.parent
 sys.path.insert(0, str(TOP / "tools"))
 
-from worlds.form import MOST_FACES, Corners, Place, Tile, World, read_world  # noqa: E402
+from mesh_files.reading import read_soup  # noqa: E402
+from worlds.form import (  # noqa: E402
+    MOST_FACES, Corners, Place, Tile, World, moved, read_world,
+)
 from worlds.fronts import frame_of, places_in_world, splits  # noqa: E402
 from worlds.parents import Child, read_child  # noqa: E402
 
@@ -87,10 +90,9 @@ class Grid:
     def __init__(self, world: World) -> None:
         self.heights: Dict[Tuple[int, int], int] = {}
         for tile in world.level(0):
-            for line in world.mesh(tile).read_text().splitlines():
-                if not line.startswith("v "):
-                    break
-                x, y, z = (int(c) + o for c, o in zip(line.split()[1:], tile.offset))
+            numbers = map(int, read_soup(world.mesh(tile)).points)
+            for place in zip(numbers, numbers, numbers):
+                x, y, z = moved(place, tile.offset)
                 self.heights[x, y] = z
         xs, ys = zip(*self.heights)
         self.xs, self.ys = sorted(set(xs)), sorted(set(ys))

@@ -4,11 +4,11 @@
     python3 tools/lod.py MODEL --error 0.5 --format glb
     python3 tools/lod.py MODEL --levels 5 --out FOLDER/NAME
 
-MODEL is an OBJ text or a stream. What comes out has the coordinates of the file, of a stream those
-that were built. `prepare` makes the text fit where it has to be, `simplify` finds the levels, and
-`vdpm` shows them; what these say goes to standard error. One line for each file goes to standard
-output: its name, how many triangles it has, how far a vertex is from those of the model that it
-stands for at most, and how far from the planes of their faces.
+MODEL is an OBJ, PLY or STL file, or a stream. What comes out has the coordinates of the file, of a
+stream those that were built. `prepare` makes a mesh fit where it has to be, `simplify` finds the
+levels, and `vdpm` shows them; what these say goes to standard error. One line for each file goes to
+standard output: its name, how many triangles it has, how far a vertex is from those of the model
+that it stands for at most, and how far from the planes of their faces.
 
 NAME-0 is the finest of several levels, and each has half of the triangles of the one before. Ends
 with status 1 where a file can't be read or written or the model is refused, and says why.
@@ -32,7 +32,8 @@ from viewer.program import ProgramEnded  # noqa: E402
 def arguments(words: List[str]) -> argparse.Namespace:
     told = (__doc__ or "").split("\n", 1)[0]
     parser = argparse.ArgumentParser(prog="lod.py", description=told)
-    parser.add_argument("model", type=Path, metavar="MODEL", help="an OBJ text or a stream")
+    told = "an OBJ, PLY or STL file, or a stream"
+    parser.add_argument("model", type=Path, metavar="MODEL", help=told)
     want = parser.add_mutually_exclusive_group(required=True)
     want.add_argument("--faces", type=positive, metavar="N", help="at most so many triangles")
     told = "no vertex farther off than so many units of the file"

@@ -12,6 +12,8 @@ from flight import LARGEST, planes
 from frames import FrameFault, all_frames, file_names, read_frames
 from frames_to_obj import coordinate, obj_lines
 from frames_to_svg import eyes_of
+from mesh_files.obj import read_lines
+from mesh_files.reading import polygons_of
 
 TOOLS = Path(__file__).resolve().parent
 TOP = TOOLS.parent
@@ -24,17 +26,16 @@ def lines_of(path: Path) -> List[str]:
     return path.read_text().splitlines(keepends=True)
 
 
-def triangles(text: Iterable[str]) -> Set[Tuple[Tuple[str, ...], ...]]:
+def triangles(text: Iterable[str]) -> Set[Tuple[Tuple[float, ...], ...]]:
     """The faces of an OBJ text by their points, each from its least corner on."""
-    points: List[Tuple[str, ...]] = []
-    faces: Set[Tuple[Tuple[str, ...], ...]] = set()
-    for kind, *fields in (line.split("#")[0].split() for line in text):
-        if kind == "v":
-            points.append(tuple(fields))
-        else:
-            corners = [points[int(field) - 1] for field in fields]
-            least = corners.index(min(corners))
-            faces.add(tuple(corners[least:] + corners[:least]))
+    soup = read_lines(line.encode("ascii") for line in text)
+    numbers = iter(soup.points)
+    points = list(zip(numbers, numbers, numbers))
+    faces: Set[Tuple[Tuple[float, ...], ...]] = set()
+    for named in polygons_of(soup):
+        corners = [points[corner] for corner in named]
+        least = corners.index(min(corners))
+        faces.add(tuple(corners[least:] + corners[:least]))
     return faces
 
 

@@ -16,6 +16,7 @@ sys.path.insert(0, str(TOOLS))
 from lods.levels import distance_up, levels_of  # noqa: E402
 from lods.shown import Grid, Level, script_of  # noqa: E402
 from lods.written import decimals_of, glb, normals, obj, ply, stl  # noqa: E402
+from mesh_files.reading import read_soup  # noqa: E402
 
 OCTAHEDRON = TOP / "examples" / "octahedron.vdpm"
 UNITS = Grid(0.5, (100.0, 0.0, -1.0))
@@ -126,6 +127,27 @@ class Program(unittest.TestCase):
             xs = [float(line.split()[1]) for line in points]
             self.assertAlmostEqual(max(xs), 0.6, places=5)
             self.assertAlmostEqual(min(xs), -0.6, places=5)
+
+    def test_a_ply_and_an_stl_lie_on_themselves(self) -> None:
+        with tempfile.TemporaryDirectory() as room:
+            scan = str(TOP / "examples" / "ring_scan.obj")
+            for given, made in (("obj", "ply"), ("ply", "stl"), ("stl", "obj")):
+                model = scan if given == "obj" else f"{room}/{given}.{given}"
+                done = self.lod(model, "--error", "0", "--format", made, "--out", f"{room}/{made}")
+                self.assertEqual(done.returncode, 0, done.stderr.decode())
+                soup = read_soup(Path(f"{room}/{made}.{made}"))
+                self.assertEqual(soup.faces, 576)
+                self.assertAlmostEqual(max(soup.points), 0.6, places=4)
+                self.assertAlmostEqual(min(soup.points), -0.6, places=4)
+
+    def test_a_faulty_file_is_told_by_line(self) -> None:
+        with tempfile.TemporaryDirectory() as room:
+            path = Path(f"{room}/x.ply")
+            path.write_text("ply\nformat ascii 1.0\nelement vertex x\nend_header\n")
+            done = self.lod(str(path), "--faces", "5")
+            self.assertEqual(done.returncode, 1)
+            said = f"lod: {path}: line 3: 'element vertex x' is no line of a PLY head\n"
+            self.assertEqual(done.stderr.decode(), said)
 
     def test_what_cannot_be_read_is_told(self) -> None:
         done = self.lod("nowhere.obj", "--faces", "5")

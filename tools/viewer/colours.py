@@ -6,6 +6,8 @@ vertex has the mean of those of the file that were scaled to its place.
 """
 from typing import Dict, List, NamedTuple, Optional, Tuple
 
+from mesh_files.obj import fields_of
+
 PLAIN = (184, 178, 168)
 Point = Tuple[float, float, float]
 
@@ -18,8 +20,7 @@ class Vertex(NamedTuple):
 def coloured_vertices(text: bytes) -> Optional[List[Vertex]]:
     """All vertices of an OBJ text in order; None where none has a colour."""
     vertices: List[Vertex] = []
-    for line in text.split(b"\n"):
-        fields = line.split(b"#", 1)[0].split()
+    for _, fields in fields_of(text.split(b"\n")):
         if len(fields) < 4 or fields[0] != b"v":
             continue
         numbers = _numbers(fields[1:])
@@ -74,9 +75,9 @@ def packed_by_place(vertices: List[Vertex], mesh: bytes, unit: float, middle: Po
                 total[part] += scale * colour[part]
             total[3] += 1
     parts = bytearray()
-    for line in mesh.split(b"\n"):
-        if line.startswith(b"v "):
-            found = _nearby(sums, tuple(int(field) for field in line.split()[1:4]))
+    for _, fields in fields_of(mesh.split(b"\n")):
+        if fields[0] == b"v":
+            found = _nearby(sums, tuple(int(field) for field in fields[1:4]))
             parts += bytes(_byte(part / found[3]) for part in found[:3]) if found else bytes(PLAIN)
     return bytes(parts)
 

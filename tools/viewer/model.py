@@ -1,9 +1,9 @@
 """From a file to a stream that is ready to be looked at.
 
-A file that begins with the bytes `VDPM` is a stream, and `vdpm check` judges it. Any other is taken
-for an OBJ text: `vdpm canon` judges it with the least number of decimals that it allows; where that
-refuses it, `prepare` makes it fit; then `simplify` makes the stream. Each step is told on standard
-error, with the seconds where it takes some.
+A file that begins with the bytes `VDPM` is a stream, and `vdpm check` judges it. Of a PLY or STL
+file an OBJ text is made; any other is taken for one: `vdpm canon` judges it with the least number
+of decimals that it allows; where that refuses it, `prepare` makes it fit; then `simplify` makes the
+stream. Each step is told on standard error, with the seconds where it takes some.
 """
 import re
 import subprocess
@@ -13,6 +13,10 @@ import time
 from pathlib import Path
 from subprocess import PIPE
 from typing import IO, List, NamedTuple, Optional, Sequence, Set, Tuple
+
+from mesh_files.obj import face_count
+from mesh_files.reading import as_obj
+from mesh_files.soup import MeshFault
 
 from . import colours, manual
 from .program import UNPROVED, ProgramEnded, end_of, feed, is_notice
@@ -150,12 +154,23 @@ def model_of(path: Path, programs: Programs) -> Model:
     if text.startswith(MAGIC):
         checked = needed(run(programs.vdpm, ["check"], text, "checking"), manual.STREAM)
         return Model(path.name, text, checked.out.decode("ascii").strip(), checked.proved)
-    return _built(path.name, text, programs)
+    return _built(path.name, text_at(path), programs)
+
+
+def text_at(path: Path) -> bytes:
+    """The OBJ text of a mesh file; what is passed over of another kind of file is told."""
+    try:
+        text, notes = as_obj(path)
+    except MeshFault as fault:
+        raise ProgramEnded(str(fault)) from None
+    for note in notes:
+        tell(note)
+    return text
 
 
 def _built(name: str, text: bytes, programs: Programs) -> Model:
     mesh, digits, prepared = _fitting(text, programs)
-    faces = mesh.count(b"\nf ") + mesh.startswith(b"f ")
+    faces = face_count(mesh)
     if faces == 0:
         raise ProgramEnded(f"{name} has no faces, so there is nothing to look at")
     tell(f"building a hierarchy of {faces:,} faces")

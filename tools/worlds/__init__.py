@@ -4,7 +4,6 @@ tools/world.py is the command; docs/WORLDS.md tells what a world is and how one 
 
     form        what world.json says, and where a world's files lie
     heights     reads height fields
-    soup        reads OBJ files of any size
     cutting     which tile each face belongs to
     mending     makes an oriented manifold of a tile's faces
     making      writes a world

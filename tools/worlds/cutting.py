@@ -9,9 +9,12 @@ from dataclasses import dataclass
 from math import isnan
 from typing import Dict, Iterator, List, NamedTuple, Optional, Tuple
 
+from mesh_files.ears import triangles_of
+from mesh_files.reading import polygons_of
+from mesh_files.soup import Soup
+
 from .form import Corners, Place, WorldFault, box_of, fits
 from .heights import Heights
-from .soup import Soup
 
 _BINS = 4096
 _MOST_PLACE = 1 << 29  # of a world's places, so that three of them add up within 32 bits
@@ -157,7 +160,19 @@ def rounded(soup: Soup, unit: float, origin: Tuple[float, float, float]) -> Roun
             if abs(place) > _MOST_PLACE:
                 raise WorldFault(f"more than {_MOST_PLACE:,} units across: take a larger unit")
             points[number] = place
-    return Rounded(points, soup.corners)
+    return _cut_polygons(Rounded(points, soup.corners), soup)
+
+
+def _cut_polygons(found: Rounded, soup: Soup) -> Rounded:
+    """With the polygons cut as `prepare` cuts them."""
+    if not soup.polygons:
+        return found
+    corners = array("I")
+    for named in polygons_of(soup):
+        faces = [tuple(named)] if len(named) == 3 else triangles_of(named, found.place)
+        for face in faces:
+            corners.extend(face)
+    return found._replace(corners=corners)
 
 
 def _bag_box(soup: Rounded, bag: "array[int]") -> Tuple[Place, Place]:

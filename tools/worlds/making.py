@@ -9,6 +9,9 @@ from dataclasses import replace
 from pathlib import Path
 from typing import Callable, Dict, Iterable, List, NamedTuple, Set, Tuple
 
+from mesh_files.reading import read_soup
+from mesh_files.soup import MeshFault
+
 from .cutting import Grid, Half, cut_grid, cut_soup, rounded
 from .form import (
     LONGEST_SPAN, MOST_FACES, Place, Side, Tile, World, WorldFault, box_of, fits, middle,
@@ -16,7 +19,6 @@ from .form import (
 )
 from .heights import read_heights
 from .mending import Mended, Mesh, mended
-from .soup import read_soup
 
 _DIGITS = (1.0, 2.0, 5.0, 10.0)
 Say = Callable[[str], None]
@@ -143,7 +145,7 @@ class Cut(NamedTuple):
     halves: Iterable[Half]
 
 
-def _cut_heights(asked: Asked) -> Cut:
+def _cut_heights(asked: Asked, say: Say) -> Cut:
     field = read_heights(asked.source, asked.spacing, asked.rise)
     low, high = field.range()
     extent = max((field.columns - 1) * field.across, (field.rows - 1) * field.along, high - low)
@@ -154,8 +156,13 @@ def _cut_heights(asked: Asked) -> Cut:
     return Cut(unit, origin, cut_grid(Grid(field, unit, origin), asked.faces))
 
 
-def _cut_obj(asked: Asked) -> Cut:
-    soup = read_soup(asked.source)
+def _cut_mesh(asked: Asked, say: Say) -> Cut:
+    try:
+        soup = read_soup(asked.source)
+    except MeshFault as fault:
+        raise WorldFault(f"{asked.source}: {fault}") from None
+    for note in soup.notes():
+        say(note)
     lows = [min(soup.points[axis::3]) for axis in range(3)]
     highs = [max(soup.points[axis::3]) for axis in range(3)]
     unit = _unit(asked, max(b - a for a, b in zip(lows, highs)))
@@ -169,7 +176,7 @@ def make_world(asked: Asked, say: Say) -> World:
     if not 2 <= asked.faces <= MOST_FACES:
         raise WorldFault(f"a tile has from 2 to {MOST_FACES:,} faces")
     is_field = asked.source.suffix.lower() in (".asc", ".pgm")
-    cut = (_cut_heights if is_field else _cut_obj)(asked)
+    cut = (_cut_heights if is_field else _cut_mesh)(asked, say)
     world = World(asked.folder, cut.unit, cut.origin, 0)
     seams = Seams()
     tiles: Dict[str, Tile] = {}

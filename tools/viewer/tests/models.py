@@ -57,8 +57,10 @@ class Files(Case):
             self.assertIn(cure, caught.exception.cure)
 
     def test_nothing_to_look_at_is_told(self) -> None:
-        with self.assertRaisesRegex(ProgramEnded, "no faces"):
+        with self.assertRaisesRegex(ProgramEnded, "looks like a PNG picture"):
             looked_at(self.written("picture.png", b"\x89PNG\r\n"))
+        with self.assertRaisesRegex(ProgramEnded, "no faces"):
+            looked_at(self.written("words.txt", b"words\n"))
 
     def test_a_program_that_is_not_proved_says_so(self) -> None:
         notice = "vdpm: not proved on this machine yet, run-time checks are on; ./prove proves it"

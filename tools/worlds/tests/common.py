@@ -7,6 +7,8 @@ import unittest
 from pathlib import Path
 from typing import Dict, Iterable, List, Optional, Set, Tuple
 
+from mesh_files.reading import read_soup
+
 from ..form import Corners, Place, Tile, World, moved, read_world
 from ..fronts import run
 from ..making import Asked, make_world
@@ -46,16 +48,9 @@ def triangles(places: List[Place], faces: Iterable[Corners]) -> Set[Triangle]:
 
 
 def read_obj(path: Path) -> Tuple[List[Place], List[Corners]]:
-    places: List[Place] = []
-    faces: List[Corners] = []
-    for line in path.read_text().splitlines():
-        word, i, j, k = line.split()
-        numbers = (int(i), int(j), int(k))
-        if word == "v":
-            places.append(numbers)
-        else:
-            faces.append((numbers[0] - 1, numbers[1] - 1, numbers[2] - 1))
-    return places, faces
+    soup = read_soup(path)
+    numbers, corners = map(int, soup.points), iter(soup.corners)
+    return list(zip(numbers, numbers, numbers)), list(zip(corners, corners, corners))
 
 
 def tile_faces(world: World, tile: Tile) -> Set[Triangle]:

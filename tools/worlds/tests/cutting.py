@@ -99,7 +99,11 @@ class Soups(WithWorld):
         path = self.file("ball.obj", obj_text(points, polygons))
         places = [(int(x), int(y), int(z)) for x, y, z in points]
         low, _ = box_of(places)
-        fans = [(p[0], b, c) for p in polygons for b, c in zip(p[1:], p[2:])]
+        fans = []
+        for named in polygons:
+            least = min(range(len(named)), key=lambda i: places[named[i]])
+            first, *rest = named[least:] + named[:least]
+            fans += [(first, b, c) for b, c in zip(rest, rest[1:])]
         wanted = triangles([below(place, low) for place in places], fans)
         for most in (2, 11, 60, 1000):
             world = self.cut(path, most)
@@ -121,9 +125,10 @@ class Soups(WithWorld):
 
     def test_faults_of_a_file_are_named(self) -> None:
         for text, said in (
-            ("v 1 2\n", "line 1 can't be read"), ("v 1 2 3\nf 1 1\n", "line 2 can't be read"),
-            ("v 1 2 3\nf 1 2 3\n", "line 2"), ("v 1 2 3\n", "has no faces"),
-            ("v 1 2 x\n", "line 1"), ("f 1 2 \\\n3\n", "line 1"),
+            ("v 1 2\n", "bad.obj: line 1: a vertex has three"), ("v 1 2 3\n", "has no faces"),
+            ("v 1 2 3\nf 1 1\n", "line 2: a face has three"), ("v 1 2 x\n", "line 1: a coord"),
+            ("v 1 2 3\nf 1 2 3\n", "line 2: vertex 2 is named, and 1 are read so far"),
+            ("v nan 2 3\n", "line 1: a coordinate is NaN"),
         ):
             with self.assertRaisesRegex(WorldFault, said):
                 self.cut(self.file("bad.obj", text), 2)

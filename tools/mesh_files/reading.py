@@ -1,0 +1,103 @@
+"""The soup of a mesh file of any kind that is read here, and its text for `prepare`."""
+from decimal import Decimal
+from pathlib import Path
+from typing import BinaryIO, Callable, Dict, Iterator, List, Tuple
+
+from . import obj, ply, stl
+from .soup import MeshFault, Soup
+
+_HEAD = 512
+# Files of other kinds, by their first bytes.
+_OTHERS = (
+    (b"glTF", "a GLB file"), (b"OFF", "an OFF file"), (b"PK\x03\x04", "a ZIP archive"),
+    (b"\x89PNG", "a PNG picture"), (b"\xff\xd8\xff", "a JPEG picture"), (b"GIF8", "a GIF picture"),
+    (b"II*\0", "a TIFF picture"), (b"MM\0*", "a TIFF picture"), (b"II+\0", "a TIFF picture"),
+    (b"%PDF", "a PDF document"), (b"Kaydara FBX", "an FBX file"), (b"MM", "a 3DS file"),
+    (b"<", "a text of HTML or XML"), (b"\x1f\x8b", "a file compressed by gzip"),
+    (b"VDPM", "a stream of this project"), (b"ncols", "a height field, whose name ends in .asc"),
+    (b"P5", "a PGM picture, whose name ends in .pgm"),
+)  # fmt: skip
+Reader = Callable[[BinaryIO, int], Soup]
+READERS: Dict[str, Reader] = {
+    "OBJ": obj.read, "PLY": ply.read, "binary STL": stl.read_binary, "STL": stl.read_text,
+}
+
+
+def kind_of(head: bytes, size: int) -> str:
+    """Which kind a file of so many bytes is, by the first of them; MeshFault where it is one that
+    isn't read here."""
+    if head.startswith((b"ply\n", b"ply\r")):
+        return "PLY"
+    if stl.is_binary(head, size):
+        return "binary STL"
+    if head.split()[:1] and head.split()[0].lower() == b"solid":
+        if b"\0" in head:
+            raise _cut_off(head, size)
+        return "STL"
+    for begin, name in _OTHERS:
+        if head.startswith(begin):
+            raise MeshFault(f"it looks like {name}: an OBJ, PLY or STL file is read here")
+    if b"\0" in head and head[:2] not in (b"\xff\xfe", b"\xfe\xff"):
+        raise _cut_off(head, size)
+    return "OBJ"
+
+
+def _cut_off(head: bytes, size: int) -> MeshFault:
+    """What is said of a file with zero bytes, which may be an STL file that lost its end."""
+    count = int.from_bytes(head[80:84], "little")
+    wanted = stl.HEAD + stl.EACH * count
+    if size < wanted <= 100 * size:
+        return MeshFault(
+            f"byte {size}: the data end before triangle {max(0, size - 84) // 50 + 1} of {count}"
+        )
+    return MeshFault("it is no text, and no PLY or STL file that is whole")
+
+
+def kind_at(path: Path) -> str:
+    with path.open("rb") as file:
+        return kind_of(file.read(_HEAD), path.stat().st_size)
+
+
+def read_soup(path: Path) -> Soup:
+    """The soup of a file; MeshFault where it has a fault or no faces."""
+    reader, size = READERS[kind_at(path)], path.stat().st_size
+    with path.open("rb") as file:
+        soup = reader(file, size)
+    if not soup.corners:
+        raise MeshFault("it has no faces")
+    return soup
+
+
+def exact(number: float) -> str:
+    """All decimals of a binary number, without an exponent."""
+    return format(Decimal(number), "f")
+
+
+def polygons_of(soup: Soup) -> Iterator[List[int]]:
+    """The faces, each with all its corners."""
+    sizes = dict(soup.polygons)
+    corners, face = soup.corners, 0
+    while face < soup.faces:
+        more = sizes.get(face, 3) - 3
+        thirds = corners[3 * face + 2 : 3 * (face + more) + 3 : 3]
+        yield [*corners[3 * face : 3 * face + 2], *thirds]
+        face += 1 + more
+
+
+def text_of(soup: Soup) -> bytes:
+    """An OBJ text with the same numbers: binary ones with all their decimals."""
+    told = exact if soup.is_binary else repr
+    numbers = iter(soup.points)
+    lines = [
+        f"v {told(x)} {told(y)} {told(z)}" for x, y, z in zip(numbers, numbers, numbers)
+    ]
+    lines += ["f " + " ".join(str(v + 1) for v in corners) for corners in polygons_of(soup)]
+    return ("\n".join(lines) + "\n").encode("ascii")
+
+
+def as_obj(path: Path) -> Tuple[bytes, List[str]]:
+    """The OBJ text of a file, its own where it is one, and what was passed over."""
+    if kind_at(path) == "OBJ":
+        return obj.without_mark(path.read_bytes()), []
+    soup = read_soup(path)
+    return text_of(soup), soup.notes()
