@@ -6,9 +6,9 @@
     world.py parent WORLD NAME [--faces N] [--program PATH]
     world.py check WORLD [--jobs J] [--program PATH]
 
-INPUT is a height field (an ESRI ASCII grid `.asc`, a binary PGM `.pgm`) or an OBJ file; WORLD is a
-folder, or its world.json. `./simplify --keep-border` makes a stream of each tile in between. Needs
-nothing but Python 3.8.
+INPUT is a height field (an ESRI ASCII grid `.asc`, a binary PGM `.pgm`; a GeoTIFF, an .hgt and the
+like where GDAL is installed) or a mesh (OBJ, PLY, STL); WORLD is a folder, or its world.json.
+`./simplify --keep-border` makes a stream of each tile in between. Needs nothing but Python 3.8.
 
 Ends with status 1 where an input has a fault or the tiles don't meet, and says which.
 """
@@ -41,8 +41,8 @@ def positive(text: str) -> float:
 def arguments(words: Optional[List[str]] = None) -> argparse.Namespace:
     parser = argparse.ArgumentParser(prog="world.py", description="Worlds of tiles that meet.")
     verbs = parser.add_subparsers(dest="verb", required=True)
-    cut = verbs.add_parser("cut", help="cut a height field or an OBJ file into tiles")
-    cut.add_argument("input", type=Path, help="a .asc grid, a binary .pgm, or an OBJ file")
+    cut = verbs.add_parser("cut", help="cut a height field or a mesh into tiles")
+    cut.add_argument("input", type=Path, help="a height field, or an OBJ, PLY or STL file")
     cut.add_argument("world", type=Path, help="the folder that is made")
     cut.add_argument("--unit", type=positive, default=0.0, help="a unit, in the input's measure")
     cut.add_argument("--spacing", type=positive, default=1.0, help="between the points of a .pgm")

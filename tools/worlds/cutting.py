@@ -51,13 +51,15 @@ class Grid(NamedTuple):
     unit: float
     origin: Tuple[float, float, float]
 
-    def place(self, row: int, column: int) -> Optional[Place]:
-        field, unit = self.heights, self.unit
-        height = field.at(row, column)
-        if isnan(height):
-            return None
-        x, y = round(column * field.across / unit), round(row * field.along / unit)
-        return x, y, round((height - self.origin[2]) / unit)
+    def places(self, row: int, west: int, east: int) -> List[Optional[Place]]:
+        """The places of a row from one column to another, None where no height is known."""
+        field, unit, lowest = self.heights, self.unit, self.origin[2]
+        y = round(row * field.along / unit)
+        return [
+            None if isnan(height) else
+            (round(column * field.across / unit), y, round((height - lowest) / unit))
+            for column, height in enumerate(field.part(row, west, east), west)
+        ]
 
 
 class Range(NamedTuple):
@@ -96,10 +98,9 @@ def _piece_of(grid: Grid, one: Range) -> Piece:
     places: List[Place] = []
     known: List[bool] = []
     for row in range(one.south, one.north + 1):
-        for column in range(one.west, one.east + 1):
-            place = grid.place(row, column)
-            known.append(place is not None)
-            places.append(place or (0, 0, 0))
+        found = grid.places(row, one.west, one.east)
+        known += [place is not None for place in found]
+        places += [place or (0, 0, 0) for place in found]
     faces: List[Corners] = []
     for here in range(len(places) - wide):
         if here % wide != wide - 1:

@@ -5,6 +5,7 @@ matched by their places in the world: a side of one tile that another tile has t
 is a part of a seam, and one that none has is a part of the world's outline. In memory are the input
 and the border sides that haven't been matched yet, some 400 bytes each.
 """
+import shutil
 from dataclasses import replace
 from pathlib import Path
 from typing import Callable, Dict, Iterable, List, NamedTuple, Set, Tuple
@@ -17,9 +18,11 @@ from .form import (
     LONGEST_SPAN, MOST_FACES, Place, Side, Tile, World, WorldFault, box_of, fits, middle,
     write_world,
 )
-from .heights import read_heights
+from .heights import FIELDS, Heights, read_heights
 from .mending import Mended, Mesh, mended
+from .rasters import Extent, grid_of, is_raster, refuse_degrees
 
+RASTER = "raster"  # the folder of a grid that GDAL made, until the world is cut
 _DIGITS = (1.0, 2.0, 5.0, 10.0)
 Say = Callable[[str], None]
 
@@ -145,9 +148,21 @@ class Cut(NamedTuple):
     halves: Iterable[Half]
 
 
+def _extent_of(field: Heights, rise: float) -> Extent:
+    east = field.west + (field.columns - 1) * field.across
+    north = field.south + (field.rows - 1) * field.along
+    step = max(field.across, field.along)
+    return Extent(field.west, field.south, east, north, step, rise)
+
+
 def _cut_heights(asked: Asked, say: Say) -> Cut:
-    field = read_heights(asked.source, asked.spacing, asked.rise)
-    low, high = field.range()
+    grid = asked.source
+    if is_raster(grid):
+        grid = grid_of(grid, asked.folder / RASTER, say)
+    field = read_heights(grid, asked.spacing, asked.rise)
+    low, high = field.low, field.high
+    if grid.suffix.lower() != ".pgm":
+        refuse_degrees(grid, asked.source, _extent_of(field, high - low))
     extent = max((field.columns - 1) * field.across, (field.rows - 1) * field.along, high - low)
     unit = _unit(asked, extent)
     if min(field.across, field.along) < unit:
@@ -175,7 +190,7 @@ def make_world(asked: Asked, say: Say) -> World:
     """Cuts the input, writes the tiles, and world.json last."""
     if not 2 <= asked.faces <= MOST_FACES:
         raise WorldFault(f"a tile has from 2 to {MOST_FACES:,} faces")
-    is_field = asked.source.suffix.lower() in (".asc", ".pgm")
+    is_field = asked.source.suffix.lower() in FIELDS or is_raster(asked.source)
     cut = (_cut_heights if is_field else _cut_mesh)(asked, say)
     world = World(asked.folder, cut.unit, cut.origin, 0)
     seams = Seams()
@@ -209,4 +224,5 @@ def _finished(world: World, tiles: Dict[str, Tile], ways: List[str], seams: Seam
     everything = {tile.name: tile for tile in known + parents_of(ways, tiles)}
     done = World(world.folder, world.unit, world.origin, seams.outline, everything)
     write_world(done)
+    shutil.rmtree(world.folder / RASTER, ignore_errors=True)
     return done

@@ -1,5 +1,6 @@
 """Cutting: nothing is lost, and each tile is fit to be simplified by itself."""
 import random
+import struct
 from math import cos, pi, sin
 from typing import List, Tuple
 
@@ -110,6 +111,22 @@ class Soups(WithWorld):
             self.check_tiles(world, most)
             self.check_whole(world, wanted)
             self.assertEqual(world.outline, 0)
+
+    def test_an_stl_file_is_cut_as_its_triangles(self) -> None:
+        points, polygons = ball(5, 7)
+        low, _ = box_of([(int(x), int(y), int(z)) for x, y, z in points])
+        data, wanted = bytes(80), set()
+        fans = [(p[0], b, c) for p in polygons for b, c in zip(p[1:], p[2:])]
+        data += struct.pack("<I", len(fans))
+        for fan in fans:
+            data += struct.pack("<12fH", 0, 0, 0, *(c for corner in fan for c in points[corner]), 0)
+            a, b, c = ((int(x), int(y), int(z)) for x, y, z in (points[corner] for corner in fan))
+            wanted.add(turned(below(a, low), below(b, low), below(c, low)))
+        path = self.room / "ball.stl"
+        path.write_bytes(data)
+        world = self.cut(path, 20)
+        self.check_tiles(world, 20)
+        self.check_whole(world, wanted)
 
     def test_decimals_become_whole_numbers_of_units(self) -> None:
         path = self.file("one.obj", "v 0.25 -1.5 0\nv 2.25 -1.5 0\nv 0.25 3 1e-2\nf 1/1 2//2 -1\n")
