@@ -10,7 +10,7 @@ import unittest
 from pathlib import Path
 
 TOOLS = Path(__file__).resolve().parent
-SUBJECTS = ("reading", "cutting", "meeting", "commands")
+SUBJECTS = ("reading", "cutting", "whole", "meeting", "commands")
 
 
 def main() -> None:

@@ -4,11 +4,15 @@ tools/world.py is the command; docs/WORLDS.md tells what a world is and how one 
 
     form        what world.json says, and where a world's files lie
     heights     reads height fields
-    cutting     which tile each face belongs to
+    rasters     fields that GDAL reads, and fields in degrees
+    cutting     which tile each face of a height field belongs to
+    soups       which tile each face of a mesh belongs to
+    parting     moves faces so that no tile touches itself
     mending     makes an oriented manifold of a tile's faces
     making      writes a world
     streams     reads of a stream what a world asks of it
     fronts      plays scripts on a stream, and tells the border sides of what is shown
     checking    whether the tiles of a world meet
+    union       whether tiles are pieces of one manifold
     parents     makes one coarse mesh of several tiles' fronts
 """

@@ -1,38 +1,91 @@
-"""Whether the tiles of a world meet: each stream is valid, each border fixed, and each seam has the
-same sides in both tiles. So they meet whatever each of them shows.
+"""Whether the tiles of a world meet whatever each of them shows, as the law of pm_join has it: each
+stream is valid and made of its tile's mesh with the border kept, and the tiles that were cut are
+pieces of one oriented manifold with the outline that was cut (union).
 
-A stream whose border is fixed shows exactly the border sides of its full mesh, at the same places,
-in every closed front. In memory are the border sides of all tiles, some 400 bytes each.
+In memory are the border sides of all tiles, some 600 bytes each.
 """
+from collections import Counter
 from concurrent.futures import ProcessPoolExecutor
+from multiprocessing import get_context
 from pathlib import Path
-from typing import Dict, Iterable, List, NamedTuple, Tuple
+from typing import Dict, Iterable, List, NamedTuple, Optional, Tuple, Union
 
-from .form import Side, Tile, World, WorldFault
+from mesh_files.reading import read_soup
+from mesh_files.soup import MeshFault
+
+from .form import Place, Side, Tile, World, WorldFault, moved, outline_of
 from .fronts import needed, run
-from .streams import border_of, read_stream
+from .mending import border_sides, first_broken
+from .streams import Border, border_of, read_stream
+from .union import fault_of_union
+
+MOST_FAULTS = 20
 
 
 class Checked(NamedTuple):
     name: str
     counts: str  # the line of `vdpm check`
-    sides: List[Side]
+    border: Border
+
+    @property
+    def sides(self) -> List[Side]:
+        return self.border.sides
 
 
-def check_tile(vdpm: Path, world: World, tile: Tile) -> Checked:
-    """The border of a tile; WorldFault where its stream isn't valid or the border isn't fixed."""
-    data = needed(world.stream(tile))
-    counts = run([str(vdpm), "check"], data).decode("ascii").strip()
-    border = border_of(read_stream(data), tile.offset)
+def told(place: Place) -> str:
+    return "({}, {}, {})".format(*place)
+
+
+def _border_of_mesh(path: Path, offset: Place) -> "Counter[Side]":
+    """The border sides of a tile's file."""
+    try:
+        soup = read_soup(path)
+    except MeshFault as fault:
+        raise WorldFault(f"{path}: {fault}") from None
+    numbers, corners = map(int, soup.points), iter(soup.corners)
+    places = [moved(place, offset) for place in zip(numbers, numbers, numbers)]
+    sides = border_sides(list(zip(corners, corners, corners)))
+    return Counter((places[start], places[end]) for start, end in sides)
+
+
+def _judge_border(world: World, tile: Tile, border: Border) -> None:
+    """Whether the border of a stream can't move, and is that of the tile."""
     if border.loose:
         raise WorldFault(
             f"{tile.name}: {len(border.loose)} vertices of the border may be collapsed, the first"
-            f" at {border.loose[0]}: build it with --keep-border"
+            f" at {told(border.loose[0])}: build it with --keep-border"
         )
-    return Checked(tile.name, counts, border.sides)
+    path = world.mesh(tile)
+    if not path.is_file():
+        return
+    own, wanted = Counter(border.sides), _border_of_mesh(path, tile.offset)
+    if own != wanted:
+        start, end = min((own - wanted) or (wanted - own))
+        raise WorldFault(
+            f"{tile.name}: the border of its stream isn't that of {path.name}: one of them alone"
+            f" has the side from {told(start)} to {told(end)}: build it anew from {path.name}"
+        )
 
 
-def sum_of(borders: Iterable[List[Side]]) -> Dict[Side, int]:
+def check_tile(vdpm: Path, world: World, tile: Tile) -> Checked:
+    """The border of a tile; WorldFault where its stream isn't valid, isn't a manifold, or hasn't
+    the tile's border for ever."""
+    data = needed(world.stream(tile))
+    try:
+        counts = run([str(vdpm), "check"], data).decode("ascii").strip()
+    except WorldFault as fault:
+        raise WorldFault(f"{tile.name}: {fault}: build it anew") from None
+    stream = read_stream(data)
+    broken = first_broken(stream.faces)
+    if broken is not None:
+        place = told(moved(stream.place(broken), tile.offset))
+        raise WorldFault(f"{tile.name}: it is no manifold at {place}: build it anew")
+    border = border_of(stream, tile.offset)
+    _judge_border(world, tile, border)
+    return Checked(tile.name, counts, border)
+
+
+def sum_of(borders: Iterable[Iterable[Side]]) -> Dict[Side, int]:
     """How often each side is left where a side takes away one that runs the other way."""
     left: Dict[Side, int] = {}
     for sides in borders:
@@ -47,34 +100,83 @@ def sum_of(borders: Iterable[List[Side]]) -> Dict[Side, int]:
     return left
 
 
-def outline_fault(world: World, borders: Dict[str, List[Side]]) -> str:
-    """Names a tile whose border sides aren't those that it was cut with; empty where all are."""
-    left = sum_of(borders[tile.name] for tile in world.level(0))
-    count = sum(left.values())
-    if count == world.outline:
+def _difference(own: Dict[Side, int], wanted: Dict[Side, int]) -> Optional[Side]:
+    """The least side of which there are more in one than in the other."""
+    unlike = (side for side in {*own, *wanted} if own.get(side) != wanted.get(side))
+    return min(unlike, default=None)
+
+
+def outline_fault(world: World, done: Dict[str, Checked], names: List[str]) -> str:
+    """Names a side that isn't in the outline that was cut, or is only there; empty where none."""
+    left = sum_of(done[name].sides for name in names)
+    outline = outline_of(world)
+    side = _difference(left, sum_of([outline]))
+    if side is None:
         return ""
-    owner = {side: name for name, sides in borders.items() for side in sides}
-    side = min(left)
+    start, end = map(told, side)
+    if side not in left:
+        return f"no tile has the side from {start} to {end} of the outline: build all tiles anew"
+    owner = next(name for name in names if side in done[name].sides)
     return (
-        f"{count} border sides have no partner where the outline has {world.outline}; the first is"
-        f" {side[0]} to {side[1]} of {owner[side]}: build the tiles anew from the files of one cut"
+        f"{owner}: its side from {start} to {end} has no partner and isn't in the outline: build"
+        " all tiles anew from the files of one cut"
     )
 
 
-def check_parents(world: World, borders: Dict[str, List[Side]]) -> List[str]:
+def parent_faults(world: World, done: Dict[str, Checked]) -> List[str]:
     """The border of each parent is that of its children together."""
     faults = []
     for tile in world.tiles.values():
-        if tile.level == 0 or tile.name not in borders:
-            continue
-        children = sum_of(borders[name] for name in tile.children)
-        if sum_of([borders[tile.name]]) != children:
-            faults.append(f"{tile.name}: its border isn't that of its children: make it anew")
+        if tile.level and tile.name in done and all(name in done for name in tile.children):
+            children = sum_of(done[name].sides for name in tile.children)
+            side = _difference(sum_of([done[tile.name].sides]), children)
+            if side is not None:
+                start, end = map(told, side)
+                faults.append(
+                    f"{tile.name}: its border isn't that of its children, first at the side from"
+                    f" {start} to {end}: make it anew"
+                )
     return faults
 
 
-def _task(given: Tuple[Path, World, Tile]) -> Checked:
-    return check_tile(*given)
+def cut_at(world: World, level: int, done: Dict[str, Checked]) -> List[str]:
+    """The tiles of this level, and of lesser ones where no parent of it is there."""
+    parents = world.parents()
+    found = []
+    for name in done:
+        above = parents.get(name, "")
+        if world.tiles[name].level <= level and (
+            above not in done or world.tiles[above].level > level
+        ):
+            found.append(name)
+    return found
+
+
+def _task(given: Tuple[Path, World, Tile]) -> Union[Checked, str]:
+    try:
+        return check_tile(*given)
+    except WorldFault as fault:
+        return str(fault)
+
+
+def _each_checked(tasks: List[Tuple[Path, World, Tile]], jobs: int) -> List[Union[Checked, str]]:
+    if jobs == 1:
+        return list(map(_task, tasks))
+    with ProcessPoolExecutor(jobs, mp_context=get_context("spawn")) as pool:
+        return list(pool.map(_task, tasks))
+
+
+def whole_faults(world: World, done: Dict[str, Checked]) -> List[str]:
+    """What keeps the tiles of the least level that has a fault from being one manifold with the
+    outline; the parents' own faults, where they have some."""
+    for level in range(world.levels):
+        names = cut_at(world, level, done)
+        union = fault_of_union({name: done[name].border for name in names})
+        outline = outline_fault(world, done, names)
+        faults = [fault for fault in (union, outline) if fault]
+        if faults:
+            return (parent_faults(world, done) if level else []) or faults
+    return []
 
 
 def check_world(vdpm: Path, world: World, jobs: int) -> List[Checked]:
@@ -82,11 +184,11 @@ def check_world(vdpm: Path, world: World, jobs: int) -> List[Checked]:
     tiles = [
         tile for tile in world.tiles.values() if not tile.level or world.stream(tile).is_file()
     ]
-    with ProcessPoolExecutor(max_workers=jobs) as pool:
-        done = list(pool.map(_task, [(vdpm, world, tile) for tile in tiles]))
-    borders = {one.name: one.sides for one in done}
-    faults = [fault for fault in [outline_fault(world, borders)] if fault]
-    faults += check_parents(world, borders)
+    found = _each_checked([(vdpm, world, tile) for tile in tiles], jobs)
+    faults = [one for one in found if isinstance(one, str)]
+    done = {one.name: one for one in found if isinstance(one, Checked)}
+    faults = faults or whole_faults(world, done)
     if faults:
-        raise WorldFault("\n".join(faults))
-    return done
+        more = [f"and {len(faults) - MOST_FAULTS} more"] if len(faults) > MOST_FAULTS else []
+        raise WorldFault("\n".join(faults[:MOST_FAULTS] + more))
+    return list(done.values())

@@ -106,6 +106,28 @@ def write_world(world: World) -> None:
     part.replace(world.folder / "world.json")
 
 
+def outline_path(world: World) -> Path:
+    return world.folder / "outline.txt"
+
+
+def write_outline(world: World, sides: Iterable[Side]) -> None:
+    """The border sides beside which no other tile stands, a line each: from three numbers to
+    three."""
+    with outline_path(world).open("w", encoding="ascii") as file:
+        for start, end in sides:
+            file.write(" ".join(map(str, (*start, *end))) + "\n")
+
+
+def outline_of(world: World) -> List[Side]:
+    path = outline_path(world)
+    try:
+        lines = path.read_text(encoding="ascii").splitlines()
+        rows = [tuple(map(int, line.split())) for line in lines]
+        return [((a, b, c), (d, e, f)) for a, b, c, d, e, f in rows]
+    except (OSError, ValueError) as fault:
+        raise WorldFault(f"{path} can't be read: cut the world anew") from fault
+
+
 def read_world(path: Path) -> World:
     """The world of a folder, or of its world.json."""
     file = path / "world.json" if path.is_dir() else path

@@ -160,7 +160,7 @@ def _texts(file: BinaryIO, begun: bytes, line: int) -> Iterator[Tuple[int, bytes
     while True:
         block = file.read(_BLOCK)
         text = begun + block
-        end = max(text.rfind(b"\n"), text.rfind(b" "), text.rfind(b"\t")) + 1 if block else len(text)
+        end = max(text.rfind(blank) for blank in (b"\n", b" ", b"\t")) + 1 if block else len(text)
         if not end and len(text) > _BLOCK:
             raise WorldFault(f"line {line}: no blank in {_BLOCK:,} bytes: this is no grid")
         yield line, text[:end]

@@ -13,14 +13,15 @@ from typing import Callable, Dict, Iterable, List, NamedTuple, Set, Tuple
 from mesh_files.reading import read_soup
 from mesh_files.soup import MeshFault
 
-from .cutting import Grid, Half, cut_grid, cut_soup, rounded
+from .cutting import Grid, Half, cut_grid
 from .form import (
     LONGEST_SPAN, MOST_FACES, Place, Side, Tile, World, WorldFault, box_of, fits, middle,
-    write_world,
+    write_outline, write_world,
 )
 from .heights import FIELDS, Heights, read_heights
 from .mending import Mended, Mesh, mended
 from .rasters import Extent, grid_of, is_raster, refuse_degrees
+from .soups import cut_soup, rounded
 
 RASTER = "raster"  # the folder of a grid that GDAL made, until the world is cut
 _DIGITS = (1.0, 2.0, 5.0, 10.0)
@@ -183,7 +184,7 @@ def _cut_mesh(asked: Asked, say: Say) -> Cut:
     unit = _unit(asked, max(b - a for a, b in zip(lows, highs)))
     # A whole number of units, so that coordinates which are whole numbers of units stay so.
     x, y, z = (unit * round(low / unit) for low in lows)
-    return Cut(unit, (x, y, z), cut_soup(rounded(soup, unit, (x, y, z)), asked.faces))
+    return Cut(unit, (x, y, z), cut_soup(rounded(soup, unit, (x, y, z)), asked.faces, say))
 
 
 def make_world(asked: Asked, say: Say) -> World:
@@ -210,7 +211,7 @@ def make_world(asked: Asked, say: Say) -> World:
     if dropped:
         say(f"{dropped} faces that became edges or stand twice were left out")
     if split:
-        say(f"{split} vertices were split off where a tile touches itself or isn't a manifold")
+        say(f"{split} vertices were split off where the surface touches itself or is no manifold")
     return _finished(world, tiles, ways, seams)
 
 
@@ -223,6 +224,7 @@ def _finished(world: World, tiles: Dict[str, Tile], ways: List[str], seams: Seam
     ]
     everything = {tile.name: tile for tile in known + parents_of(ways, tiles)}
     done = World(world.folder, world.unit, world.origin, seams.outline, everything)
+    write_outline(done, (side for side, names in seams.alone.items() for _ in names))
     write_world(done)
     shutil.rmtree(world.folder / RASTER, ignore_errors=True)
     return done

@@ -5,7 +5,7 @@ one, goes. The surface is cut open along a side at which more than two faces mee
 against each other, and a vertex becomes as many as there are fans of faces at it. So a tile may
 touch itself in a vertex. Places stay as they are, and so does the sum of all border sides.
 """
-from typing import Dict, FrozenSet, List, NamedTuple, Optional, Set, Tuple
+from typing import Dict, FrozenSet, Iterable, List, NamedTuple, Optional, Set, Tuple
 
 from .form import Corners, Place
 
@@ -50,9 +50,9 @@ def border_sides(faces: List[Corners]) -> List[Tuple[int, int]]:
     return [(a, b) for a, b in sides if (b, a) not in sides]
 
 
-def _twins(faces: List[Corners]) -> List[int]:
+def _twins(faces: List[Corners], opened: Iterable[Tuple[int, ...]] = ()) -> List[int]:
     """For each side 3 f + i, from corner i of face f to the next, the one side that runs back;
-    none where another runs the same way as one of the two."""
+    none where another runs the same way as one of the two, or where the edge is opened."""
     by_ends: Dict[Tuple[int, int], int] = {}
     doubled: Set[Tuple[int, int]] = set()
     side = 0
@@ -65,8 +65,8 @@ def _twins(faces: List[Corners]) -> List[int]:
     twins = [_NONE] * side
     for (a, b), side in by_ends.items():
         twins[side] = by_ends.get((b, a), _NONE)
-    for a, b in doubled:
-        for side in (by_ends[a, b], by_ends.get((b, a), _NONE)):
+    for a, b in [*doubled, *((a, b) for a, b in opened)]:
+        for side in (by_ends.get((a, b), _NONE), by_ends.get((b, a), _NONE)):
             if side != _NONE:
                 twins[side] = _NONE
     return twins
@@ -113,9 +113,31 @@ def split(mesh: Mesh, twins: List[int]) -> Mesh:
     return Mesh(places, faces)
 
 
-def mended(places: List[Place], faces: List[Corners]) -> Mended:
+def first_broken(faces: List[Corners]) -> Optional[int]:
+    """A vertex at which a directed side begins twice, or that has several fans of faces; None where
+    the faces are an oriented manifold."""
+    begun: Set[Tuple[int, int]] = set()
+    for a, b, c in faces:
+        for ends in ((a, b), (b, c), (c, a)):
+            if ends in begun:
+                return ends[0]
+            begun.add(ends)
+    fan_of: Dict[int, int] = {}
+    fans = _fans(_twins(faces))
+    for corner, vertex in enumerate(corner for face in faces for corner in face):
+        if fan_of.setdefault(vertex, fans[corner]) != fans[corner]:
+            return vertex
+    return None
+
+
+def mended(
+    places: List[Place], faces: List[Corners], opened: FrozenSet[FrozenSet[Place]] = frozenset()
+) -> Mended:
+    """The surface is cut open along the opened edges too."""
     once = joined(places, faces)
-    twins = _twins(once.faces)
+    number_at = {place: number for number, place in enumerate(once.places)} if opened else {}
+    edges = (tuple(number_at.get(place, _NONE) for place in edge) for edge in opened)
+    twins = _twins(once.faces, edges)
     mesh = split(once, twins)
     border = border_sides(mesh.faces)
     return Mended(mesh, border, len(faces) - len(once.faces), len(mesh.places) - len(once.places))

@@ -4,7 +4,7 @@ the bytes before."""
 import sys
 from array import array
 from math import isqrt
-from typing import List, NamedTuple, Set, Tuple
+from typing import Dict, List, NamedTuple, Set, Tuple
 
 from .form import Corners, Place, Side, moved
 from .mending import border_sides
@@ -108,11 +108,18 @@ def read_stream(data: bytes) -> Stream:
 
 
 class Border(NamedTuple):
-    """The border of a stream's full mesh by places of the world, and the ends of its sides that
-    could be collapsed."""
+    """The border of a stream's full mesh: its sides by leaves, the other directed sides between
+    their ends, where these stand in the world, and those that could be collapsed."""
 
-    sides: List[Side]
+    leaves: List[Tuple[int, int]]
+    chords: List[Tuple[int, int]]
+    places: Dict[int, Place]
     loose: List[Place]
+
+    @property
+    def sides(self) -> List[Side]:
+        """The sides by places of the world."""
+        return [(self.places[start], self.places[end]) for start, end in self.leaves]
 
 
 def border_of(stream: Stream, offset: Place) -> Border:
@@ -120,7 +127,12 @@ def border_of(stream: Stream, offset: Place) -> Border:
     ends = {leaf for side in found for leaf in side}
     at = {leaf: moved(stream.place(leaf), offset) for leaf in ends}
     loose = [at[leaf] for leaf in sorted(ends) if not stream.is_fixed(leaf)]
-    return Border([(at[start], at[end]) for start, end in found], loose)
+    on_border = set(found)
+    chords = [
+        side for a, b, c in stream.faces for side in ((a, b), (b, c), (c, a))
+        if side[0] in ends and side[1] in ends and side not in on_border
+    ]
+    return Border(found, chords, at, loose)
 
 
 def _distance_up(p: Place, q: Place) -> int:

@@ -95,14 +95,30 @@ class Checking(WithWorld):
         self.world.stream(self.tile).write_bytes(run([str(VDPM), "build"], mesh))
         self.refused("t01: .* vertices of the border may be collapsed, the first at .*keep-border")
 
+    def test_a_stream_of_another_border(self) -> None:
+        mesh = self.world.mesh(self.tile)
+        mesh.write_bytes(mesh.read_bytes().rpartition(b"f ")[0])
+        self.refused("t01: the border of its stream isn't that of t01.obj: .* from .* to .* anew")
+
+    def test_an_outline_that_was_not_cut(self) -> None:
+        path = self.world.folder / "outline.txt"
+        lines = path.read_text().splitlines()
+        path.write_text("\n".join(lines[1:]))
+        self.refused("its side from .* has no partner and isn't in the outline")
+        path.write_text("\n".join([*lines, "0 0 0 9 9 9"]))
+        self.refused("no tile has the side from .0, 0, 0. to .9, 9, 9. of the outline")
+        path.unlink()
+        self.refused("outline.txt can't be read: cut the world anew")
+
     def test_a_stream_of_another_tile(self) -> None:
         shutil.copy(self.world.stream(self.world.tiles["t10"]), self.world.stream(self.tile))
-        self.refused("border sides have no partner where the outline has 32")
+        shutil.copy(self.world.mesh(self.world.tiles["t10"]), self.world.mesh(self.tile))
+        self.refused("its side from .* has no partner and isn't in the outline")
 
     def test_a_damaged_stream_and_a_missing_one(self) -> None:
         path = self.world.stream(self.tile)
         path.write_bytes(path.read_bytes()[:-4])
-        self.refused("check ended with status 1.*fault 22")
+        self.refused("t01: .*check ended with status 1.*fault 22 .*: build it anew")
         path.unlink()
         self.refused("t01.vdpm can't be read")
 
