@@ -31,6 +31,13 @@
 extern "C" {
 #endif
 
+/* The version of the library. What may change with which number: docs/LIBRARY.md. */
+#define VDPM_VERSION_MAJOR 1
+#define VDPM_VERSION_MINOR 0
+#define VDPM_VERSION_PATCH 0
+#define VDPM_VERSION \
+    (VDPM_VERSION_MAJOR * 10000 + VDPM_VERSION_MINOR * 100 + VDPM_VERSION_PATCH)
+
 /* What a function answers: VDPM_DONE, or why not. A fault of a stream is answered by its own
  * number (docs/COMMANDS.md, "The faults of a stream"): 11, 20 to 29 or 33. */
 enum {

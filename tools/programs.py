@@ -17,10 +17,11 @@ from typing import List
 from quick_start.module import NotCaught
 from quick_start.prove import prove
 from quick_start.record import is_current
+from quick_start.running import say
 from quick_start.sources import LIBRARY, PROGRAMS, Program
 from quick_start.status import status_lines
 from quick_start.stopped import NOT_BUILT, Stopped
-from quick_start.unproved import build, say
+from quick_start.unproved import build
 
 TOP = Path(__file__).resolve().parent.parent
 

@@ -19,7 +19,9 @@ from typing import Dict, Optional
 
 from plain_rust import webassembly
 from plain_rust.package import Files, Unknown, package, sum_of_all, write
+from quick_start.install import texts
 from quick_start.record import commit_of
+from quick_start.sources import LINK, SHARED, STATIC
 from quick_start.stopped import Stopped
 from releasing.archives import Entries, Entry, sums, tar_gz
 from releasing.building import Built, NotBuilt, build, compilers
@@ -40,9 +42,11 @@ def version_of(files: Files, commit: str) -> str:
 def natives(built: Built, page: Entries) -> Entries:
     """What is for Linux."""
     made = {f"bin/{name}": Entry(data, runs=True) for name, data in built.programs.items()}
-    made["lib/libvdpm.so"] = Entry(built.library, runs=True)
-    made["lib/libvdpm.a"] = Entry(built.archive)
+    made[f"lib/{SHARED}"] = Entry(built.library, runs=True)
+    made[f"lib/{LINK}"] = Entry(b"", runs=True, leads_to=SHARED)
+    made[f"lib/{STATIC}"] = Entry(built.archive)
     made["include/libvdpm.h"] = Entry((TOP / "libvdpm.h").read_bytes())
+    made.update({place: Entry(text.encode()) for place, text in texts(TOP).items()})
     return {**made, **page}
 
 

@@ -286,7 +286,7 @@ class Library(OverTestKit):
     def setUp(self) -> None:
         super().setUp()
         self.archive, self.shared = (self.repository.top / f"proved/libvdpm.{end}"
-                                     for end in ("a", "so"))
+                                     for end in ("a", "so.1"))
 
     def status(self) -> str:
         return self.repository.run("prove", "--status").stdout
@@ -295,19 +295,21 @@ class Library(OverTestKit):
         ran = self.repository.run("prove", "libvdpm")
         self.assertEqual(ran.returncode, 0, ran.stderr)
         self.assertIn("prove: 2 crates,", ran.stderr)
-        self.assertIn("libvdpm is proved and built: proved/libvdpm.a and proved/libvdpm.so\n",
+        self.assertIn("libvdpm is proved and built: proved/libvdpm.a and proved/libvdpm.so.1\n",
                       ran.stderr)
         for built in (self.archive, self.shared):
             self.assertEqual(built.read_text(), "a library\n")
             self.assertIn(f"proved/{built.name}: proved; of these sources\n", self.status())
         left = sorted(it.name for it in self.archive.parent.iterdir())
         names = [self.archive.name, self.shared.name]
-        self.assertEqual(left, sorted(names + [f"{name}.record" for name in names]))
+        records = [f"{name}.record" for name in names]
+        self.assertEqual(left, sorted([*names, *records, "libvdpm.so"]))
+        self.assertEqual(os.readlink(self.shared.with_suffix("")), "libvdpm.so.1")
 
     def test_programs_alone_are_proved_without_words(self) -> None:
         self.assertEqual(self.repository.run("prove").returncode, 0)
         self.assertFalse(self.shared.exists())
-        self.assertIn("proved/libvdpm.so: not built\n", self.status())
+        self.assertIn("proved/libvdpm.so.1: not built\n", self.status())
 
     def test_beside_a_program(self) -> None:
         ran = self.repository.run("prove", "vdpm", "libvdpm")
@@ -329,7 +331,7 @@ class Library(OverTestKit):
     def test_other_sources_are_told(self) -> None:
         self.repository.run("prove", "libvdpm")
         self.repository.change("crates/low/specs/Low.antt", "more\n")
-        self.assertIn("proved/libvdpm.so: proved; of other sources than these\n", self.status())
+        self.assertIn("proved/libvdpm.so.1: proved; of other sources than these\n", self.status())
 
     def test_an_open_goal_is_named_and_nothing_built(self) -> None:
         self.repository.change("crates/vdpm_c/src/lib.rt", "# OPEN\n")

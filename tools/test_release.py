@@ -19,12 +19,14 @@ import release  # noqa: E402
 from plain_rust import webassembly  # noqa: E402
 from releasing import building  # noqa: E402
 from releasing.archives import Entry, sums, tar_gz, zipped  # noqa: E402
-from releasing.building import Built, NotBuilt, glibc_of  # noqa: E402
+from quick_start.joining import glibc_of  # noqa: E402
+from releasing.building import Built, NotBuilt  # noqa: E402
 from releasing.telling import proof_of, text  # noqa: E402
 from releasing.wheel import tag_of, wheel  # noqa: E402
 
 TOP = Path(__file__).resolve().parent.parent
 ENTRIES = {"b": Entry(b"two"), "a/run": Entry(b"#!", runs=True)}
+LINKED = {**ENTRIES, "c": Entry(b"", leads_to="b")}
 TOLD = {"commit": "0123456789ab", "built": "2026-01-01 00:00:00 UTC", "kit": "rustc 1",
         "sources": "5"}
 LIBRARY = b"\x7fELF\0GLIBC_2.2.5\0GLIBC_2.34\0GLIBC_PRIVATE\0"
@@ -49,6 +51,12 @@ class Archives(unittest.TestCase):
         with tarfile.open(fileobj=io.BytesIO(made)) as archive:
             found = [(it.name, it.mode, it.mtime, it.uid) for it in archive]
         self.assertEqual(found, [("top/a/run", 0o755, 0, 0), ("top/b", 0o644, 0, 0)])
+
+    def test_a_tar_has_links(self) -> None:
+        with tarfile.open(fileobj=io.BytesIO(tar_gz("top", LINKED))) as archive:
+            self.assertEqual(archive.getmember("top/c").linkname, "b")
+            link = archive.extractfile("top/c")
+            self.assertEqual(link and link.read(), b"two")
 
     def test_a_zip_has_modes_and_no_time(self) -> None:
         made = zipped(ENTRIES)
@@ -113,7 +121,8 @@ class Building(unittest.TestCase):
         cargo.chmod(0o755)
         path = f"{cargo.parent}:{os.environ['PATH']}"
         for patch in (mock.patch.dict(os.environ, {"PATH": path}),
-                      mock.patch.object(building, "has_musl", return_value=False)):
+                      mock.patch.object(building, "has_musl", return_value=False),
+                      mock.patch.object(building, "archive_of", lambda code, room: code[0])):
             patch.start()
             self.addCleanup(patch.stop)
 
@@ -126,6 +135,7 @@ class Building(unittest.TestCase):
         self.assertEqual(len(asked), 4)
         self.assertTrue(all("target-feature=+crt-static" in line for line in asked[:3]))
         self.assertIn("--features c", asked[3])
+        self.assertIn("link-arg=-Wl,-soname,libvdpm.so.1", asked[3])
         self.assertIn(f"link-arg=--sysroot={self.top.resolve()}/old", asked[3])
 
     def test_what_fails_is_told(self) -> None:

@@ -57,13 +57,19 @@ def path_of_library() -> str:
                             "python3 tools/library.py builds it without a proof")
 
 
+def _record_of(path: Path) -> Path:
+    """The record beside a library, or beside the file that a link leads to."""
+    beside = path.with_name(f"{path.name}.record")
+    return beside if beside.exists() else path.resolve().with_name(f"{path.resolve().name}.record")
+
+
 def version(library: Optional[str] = None) -> Version:
     """Tells which library is loaded by default, or that one: whether it was proved, and of which
     sources it was built, by a sum of them. It isn't looked whether those still stand."""
     path = library or path_of_library()
     unknown = Version(path, None, None, None, None, None)
     try:
-        lines = Path(f"{path}.record").read_text(encoding="utf-8").splitlines()
+        lines = _record_of(Path(path)).read_text(encoding="utf-8").splitlines()
         found = hashlib.sha256(Path(path).read_bytes()).hexdigest()
     except (OSError, ValueError):
         return unknown

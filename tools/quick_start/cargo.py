@@ -13,7 +13,8 @@ import sys
 from pathlib import Path
 from typing import Iterator, List
 
-from .sources import CODE, Program, files_of, sum_of_file, sum_of_sources
+from .joining import join, stop_without_tools
+from .sources import CODE, STATIC, Program, files_of, sum_of_file, sum_of_sources
 from .stopped import Stopped
 from .way import Way
 
@@ -68,6 +69,8 @@ def words_for(program: Program) -> List[str]:
 
 def make(program: Program, room: Path) -> None:
     """Puts the program, or the files of the library, into the room."""
+    if program.is_library:
+        stop_without_tools()
     package = program.unproved.parent / "rust"
     maker = [sys.executable, str(program.top / MAKER[0]), str(package)]
     words = ["cargo", "build", "--quiet", "--profile", PROFILE, *words_for(program)]
@@ -76,8 +79,11 @@ def make(program: Program, room: Path) -> None:
         run_shown([*words, "--target-dir", str(package / "target")], package,
                   "cargo failed: is it recent enough? the oldest that will do is rust-version in "
                   f"{package}/Cargo.toml; {TO_INSTALL}")
-        for name in program.files:
-            shutil.copy2(package / "target" / PROFILE / name, room / name)
+        made = package / "target" / PROFILE
+        if program.is_library:
+            join([made / STATIC], room)
+        else:
+            shutil.copy2(made / program.name, room / program.name)
 
 
 def way_of_cargo() -> Way:

@@ -1,4 +1,4 @@
-"""Builds the library for C, libvdpm.a and libvdpm.so: from what `rt lib` proved and built, or
+"""Builds the library for C, libvdpm.a and libvdpm.so.1: from what `rt lib` proved and built, or
 without a proof, with the checks of the run time left in, as an unproved program is built.
 """
 import contextlib
@@ -8,14 +8,15 @@ import shutil
 import tempfile
 import time
 from pathlib import Path
-from typing import List
 
+from .joining import glibc_of, join, put_link, stop_without_tools
 from .kit import Kit, find_kit, stop_where_it_lacks
 from .module import NotCaught, REFUSAL, first_lines, output_of, try_words
 from .record import path_of, write_record
-from .sources import CODE, Program, sum_of_sources
+from .running import run_tool, say, telling_time
+from .sources import CODE, LINK, SHARED, Program, sum_of_sources
 from .stopped import Stopped
-from .unproved import FLAGS, run_tool, way_at_hand
+from .unproved import FLAGS, way_at_hand
 from .way import Way
 
 # The kit lowers programs alone, and of a program what its main leads to.
@@ -68,13 +69,6 @@ EXPORT = re.compile(r'define internal (?:noundef )?(i32|void) @"vdpm_c::\w+::(vd
 USE = re.compile(r'@"vdpm_c::\w+::(vdpm_\w+)"')
 
 
-def stop_without_tools() -> None:
-    """Stops where a tool lacks that a library is put together by, beside those of the kit."""
-    for name, what in (("cc", "C compiler"), ("ar", "archiver")):
-        if shutil.which(name) is None:
-            raise Stopped(f"the library needs a {what}, and {name} isn't on the path")
-
-
 def module_of_library(program: Program, kit: Kit, room: Path) -> Path:
     """The library's module, as that of a program that calls each of its functions."""
     sources = room / "src"
@@ -100,32 +94,20 @@ def exported(text: str) -> str:
     return text.replace("define i32 @main()", "define internal i32 @main()", 1)
 
 
-def compile_unproved(program: Program, kit: Kit, room: Path) -> None:
-    """Puts the library's code into the room, compiled without a proof."""
+def compile_unproved(program: Program, kit: Kit, room: Path) -> Path:
+    """The library's code in the room, compiled without a proof."""
     module, text = module_of_library(program, kit, room), room / "module.ll"
     run_tool([str(kit.clang), "-S", "-emit-llvm", "-O0", "-x", "ir", str(module), "-o", str(text)])
     text.write_text(exported(text.read_text(encoding="utf-8")), encoding="utf-8")
     flags = [flag for flag in FLAGS if flag != "-fPIE"]
     code = room / "library.o"
     run_tool([str(kit.clang), *flags, "-fPIC", "-c", "-x", "ir", str(text), "-o", str(code)])
+    return code
 
 
 def made_by_rt(program: Program) -> Path:
     """Where `rt lib` leaves the library's code."""
     return program.folder / f"out/lib{program.crate}.a"
-
-
-def take_apart(archive: Path, room: Path) -> None:
-    run_tool(["ar", "x", "--output", str(room), str(archive)])
-
-
-def join(kit: Kit, room: Path) -> None:
-    """Makes libvdpm.a and libvdpm.so in the room, of the code there and the C code of the kit."""
-    for archive in kit.archives:
-        take_apart(archive, room)
-    pieces: List[str] = [str(piece) for piece in sorted(room.glob("*.o"))]
-    run_tool(["ar", "rcs", str(room / "libvdpm.a"), *pieces])
-    run_tool(["cc", "-shared", "-o", str(room / "libvdpm.so"), *pieces])
 
 
 def put_in_place(program: Program, room: Path, folder: Path) -> None:
@@ -134,6 +116,7 @@ def put_in_place(program: Program, room: Path, folder: Path) -> None:
         with contextlib.suppress(FileNotFoundError):
             path_of(folder / name).unlink()
         os.replace(room / name, folder / name)
+    put_link(folder)
 
 
 def put_proved(program: Program, kit: Kit) -> None:
@@ -141,8 +124,7 @@ def put_proved(program: Program, kit: Kit) -> None:
     folder = program.top / "proved"
     folder.mkdir(exist_ok=True)
     with tempfile.TemporaryDirectory(prefix=f".{program.name}-", dir=folder) as it:
-        take_apart(made_by_rt(program), Path(it))
-        join(kit, Path(it))
+        join([*kit.archives, made_by_rt(program)], Path(it))
         put_in_place(program, Path(it), folder)
 
 
@@ -153,8 +135,7 @@ def way_of_kit() -> Way:
     stop_without_tools()
 
     def make(program: Program, room: Path) -> None:
-        compile_unproved(program, kit, room)
-        join(kit, room)
+        join([*kit.archives, compile_unproved(program, kit, room)], room)
 
     return Way(kit.version, lambda it: sum_of_sources(it, CODE), make, "without a proof")
 
@@ -165,7 +146,9 @@ def build_unproved(program: Program, folder: Path) -> None:
     folder.mkdir(exist_ok=True)
     program.unproved.parent.mkdir(exist_ok=True)
     sources = way.sum_of(program)
-    with tempfile.TemporaryDirectory(prefix=f".{program.name}-", dir=folder) as it:
+    say(program, f"building from the sources, {way.told}: a minute or two")
+    room = tempfile.TemporaryDirectory(prefix=f".{program.name}-", dir=folder)
+    with room as it, telling_time(program):
         way.make(program, Path(it))
         seen = time.time_ns()
         if way.sum_of(program) != sources:

@@ -13,6 +13,9 @@ CODE = ("src",)
 PROVED = ("src", "specs", "proofs")
 PROGRAMS = ("vdpm", "prepare", "simplify")
 LIBRARY = "libvdpm"
+# What is built of the library, and the link by which a linker finds the second. Its number is
+# VDPM_VERSION_MAJOR of libvdpm.h.
+STATIC, SHARED, LINK = "libvdpm.a", "libvdpm.so.1", "libvdpm.so"
 
 
 @dataclass(frozen=True)
@@ -37,7 +40,7 @@ class Program:
     @property
     def files(self) -> Tuple[str, ...]:
         """What is built of it: of the library the static and the shared one."""
-        return (f"{self.name}.a", f"{self.name}.so") if self.is_library else (self.name,)
+        return (STATIC, SHARED) if self.is_library else (self.name,)
 
     def files_in(self, folder: str) -> List[Path]:
         """The files in that folder of the repository, `proved` or `unproved`."""

@@ -8,17 +8,16 @@ import contextlib
 import fcntl
 import os
 import shutil
-import subprocess
-import sys
 import tempfile
 import time
 from pathlib import Path
-from typing import Callable, Iterator, List
+from typing import Callable, Iterator
 
 from .cargo import TO_INSTALL, way_of_cargo
 from .kit import Kit, find_kit, stop_where_it_lacks
 from .module import module_of
 from .record import is_current, path_of, write_record
+from .running import run_tool, say, telling_time
 from .sources import CODE, Program, sum_of_sources
 from .stopped import Stopped
 from .way import Way
@@ -32,10 +31,6 @@ FLAGS = f"""--target={TARGET} -march=x86-64-v2 -mllvm -no-trap-after-noreturn -f
  -mllvm -sink-common-insts=false --no-default-config -no-canonical-prefixes
  -fno-crash-diagnostics -fPIE -O1 -w""".split()
 TRIES = 3
-
-
-def say(program: Program, line: str) -> None:
-    print(f"{program.name}: {line}", file=sys.stderr, flush=True)
 
 
 @contextlib.contextmanager
@@ -60,14 +55,6 @@ def drop_leftovers(program: Program) -> None:
     """Removes the folders of builds that were killed. None is under way while the lock is held."""
     for folder in program.unproved.parent.glob(f".{program.name}-*"):
         shutil.rmtree(folder, ignore_errors=True)
-
-
-def run_tool(words: List[str]) -> None:
-    done = subprocess.run(words, stdin=subprocess.DEVNULL, stdout=subprocess.PIPE,
-                          stderr=subprocess.STDOUT, text=True, errors="replace", check=False)
-    if done.returncode:
-        lines = done.stdout.strip().splitlines() or [f"status {done.returncode}"]
-        raise Stopped(f"{words[0]} failed: {lines[-1]}")
 
 
 def compiled(kit: Kit, module: Path, room: Path, made: Path) -> None:
@@ -127,7 +114,9 @@ def build(program: Program) -> None:
         again = " anew" if program.unproved.exists() else ""
         say(program, f"building{again} from the sources, {way.told}: about a minute")
         try:
-            if not any(build_once(program, way) for _ in range(TRIES)):
+            with telling_time(program):
+                is_built = any(build_once(program, way) for _ in range(TRIES))
+            if not is_built:
                 raise Stopped("the sources changed while it was built: start it again")
         except OSError as error:
             place = error.filename or program.unproved.parent

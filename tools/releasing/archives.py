@@ -16,6 +16,7 @@ class Entry(NamedTuple):
 
     data: bytes
     runs: bool = False
+    leads_to: str = ""  # (of a link, which has no data)
 
 
 Entries = Dict[str, Entry]
@@ -32,6 +33,8 @@ def tar_gz(folder: str, entries: Entries) -> bytes:
         for name, entry in sorted(entries.items()):
             info = tarfile.TarInfo(f"{folder}/{name}")
             info.size, info.mode = len(entry.data), mode_of(entry)
+            if entry.leads_to:
+                info.type, info.linkname = tarfile.SYMTYPE, entry.leads_to
             archive.addfile(info, io.BytesIO(entry.data))
     return gzip.compress(tar.getvalue(), mtime=0)
 

@@ -1,16 +1,18 @@
 """Building the programs and the library of the Cargo package, so that they run elsewhere."""
 import os
-import re
 import shutil
 import subprocess
+import tempfile
 from pathlib import Path
 from typing import Dict, List, NamedTuple, Optional, Sequence
+
+from quick_start.joining import archive_of, glibc_of
+from quick_start.sources import SHARED
 
 PROGRAMS = ("vdpm", "prepare", "simplify")
 MUSL = "x86_64-unknown-linux-musl"
 RELEASE = "target/release"
 LIBRARIES = ("usr/lib/x86_64-linux-gnu", "lib/x86_64-linux-gnu")
-GLIBC = re.compile(rb"\0GLIBC_2\.(\d+)(?:\.\d+)?(?=\0)")
 # What is wanted of the programs, and tried for the library.
 WANTED_GLIBC = 31
 
@@ -53,11 +55,6 @@ def has_musl() -> bool:
     return any((sysroot / "lib/rustlib" / MUSL / "lib").glob("libstd-*.rlib"))
 
 
-def glibc_of(data: bytes) -> int:
-    """The N of the latest glibc 2.N that a shared file asks for."""
-    return max((int(found) for found in GLIBC.findall(data)), default=0)
-
-
 def sysroot_codes(sysroot: Optional[Path]) -> List[str]:
     """Has the linker take the C library of a system that is unpacked in a folder."""
     if sysroot is None:
@@ -84,9 +81,11 @@ def build(package: Path, sysroot: Optional[Path] = None) -> Built:
         raise NotBuilt("there is no cargo")
     made = programs(package)
     words = ["--lib", "--crate-type", "cdylib,staticlib", "--features", "c"]
-    cargo(package, words, "strip=debuginfo", *sysroot_codes(sysroot))
+    named = f"link-arg=-Wl,-soname,{SHARED}"
+    cargo(package, words, "strip=debuginfo", named, *sysroot_codes(sysroot))
     library = (package / RELEASE / "libvdpm.so").read_bytes()
-    archive = (package / RELEASE / "libvdpm.a").read_bytes()
+    with tempfile.TemporaryDirectory(prefix="release-") as room:
+        archive = archive_of([package / RELEASE / "libvdpm.a"], Path(room)).read_bytes()
     linked = "statically with musl" if has_musl() else "statically with glibc"
     return Built(made, library, archive, linked, glibc_of(library))
 

@@ -46,7 +46,7 @@ def lines_of_files(built: Built, module: Optional[str]) -> List[str]:
     """What each file is."""
     lines = [
         f"- ..-x86_64-linux.tar.gz: the programs, linked {built.linked}, so that they ask for no",
-        "  library; and libvdpm with its header. libvdpm.so asks for glibc"
+        "  library; and libvdpm with its header. libvdpm.so.1 asks for glibc"
         f" 2.{built.glibc} or later.",
     ]
     if built.glibc > WANTED_GLIBC:
