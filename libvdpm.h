@@ -11,13 +11,16 @@
  * neither copied nor changed by hand then; that isn't looked at. So it is with a vdpm_made between
  * the making and vdpm_made_close. The library keeps no pointer that it is given: every array is the
  * caller's, and is read or written during the call alone.
- * The arrays of a call don't overlap, and no pointer is NULL.
+ * The arrays of a call don't overlap. One whose length or room is 0 may be NULL, as data() of an
+ * empty std::vector is; no other pointer is.
  *
- * Threads. A viewer, or what was made, stays on the thread that opened or made it. Different ones
- * are independent, each on any thread. No function is called from a signal handler.
+ * Threads. One thread at a time uses a viewer, or what was made. It need not be the one that opened
+ * or made it, if a lock or a join orders their calls. Different ones are independent, each on any
+ * thread. No function is called from a signal handler.
  *
  * Memory comes from malloc and goes back to free. Nothing aborts: want of memory is the answer
- * VDPM_NO_MEMORY.
+ * VDPM_NO_MEMORY. That doesn't hold of the stack: a thread that calls has 128 KB, whatever the size
+ * of the mesh; with less it may end by SIGSEGV.
  *
  * Units. Coordinates are whole numbers from -32,767 to 32,767, in units of 10 to the power of
  * -digits (vdpm_counts). Nodes, faces, leaves and records are counted from 0, as in frames. */

@@ -30,7 +30,7 @@ static void drop_mesh(mesh *it) {
     memset(it, 0, sizeof *it);
 }
 
-/* Room for so many numbers, and for one where there are none, since no pointer may be NULL. */
+/* Room for so many numbers, and for one where there are none: NULL is want of memory then. */
 static void *room_for(size_t count) {
     return malloc((count ? count : 1) * sizeof(uint32_t));
 }

@@ -1,0 +1,91 @@
+/* Calls the library at the edges of what its header allows: arrays of no items that are NULL, rooms
+ * that are too small, and handles that aren't open. Prints each answer that isn't as told. */
+#include "libvdpm.h"
+
+#include <stdio.h>
+#include <stdlib.h>
+#include <string.h>
+
+static int wrong;
+
+static void told(const char *what, uint32_t status, uint32_t wanted) {
+    if (status == wanted) return;
+    printf("%s: %u, and not %u\n", what, (unsigned)status, (unsigned)wanted);
+    wrong = 1;
+}
+
+/* The stream of nothing: a text of comments has no mesh in it. */
+static uint8_t *empty_stream(size_t *length) {
+    static const uint8_t text[] = "# nothing\n";
+    vdpm_made made = VDPM_CLOSED;
+    vdpm_fault fault;
+    size_t notes = 1;
+    uint8_t *bytes;
+    told("vdpm_build", vdpm_build(text, sizeof text - 1, 0, 0, &made, &fault), VDPM_DONE);
+    told("vdpm_made_length", vdpm_made_length(&made, length, &notes), VDPM_DONE);
+    told("no notes", (uint32_t)notes, 0);
+    told("vdpm_made_notes", vdpm_made_notes(&made, NULL, 0), VDPM_DONE);
+    told("vdpm_made_bytes", vdpm_made_bytes(&made, NULL, 0), VDPM_NO_ROOM);
+    bytes = malloc(*length);
+    if (!bytes) abort();
+    told("vdpm_made_bytes", vdpm_made_bytes(&made, bytes, *length), VDPM_DONE);
+    vdpm_made_close(&made);
+    vdpm_made_close(&made);
+    return bytes;
+}
+
+static void texts_of_nothing(void) {
+    vdpm_made made = VDPM_CLOSED;
+    vdpm_fault fault;
+    told("vdpm_prepare", vdpm_prepare(NULL, 0, 0, &made, &fault), VDPM_FAULTY);
+    told("vdpm_simplify", vdpm_simplify(NULL, 0, 0, 0, 0, &made, &fault), VDPM_DONE);
+    vdpm_made_close(&made);
+    told("vdpm_build", vdpm_build(NULL, 0, 0, 0, &made, &fault), VDPM_DONE);
+    told("vdpm_build again", vdpm_build(NULL, 0, 0, 0, &made, &fault), VDPM_NOT_SO);
+    vdpm_made_close(&made);
+    told("vdpm_build", vdpm_build(NULL, 0, 0, 5, &made, &fault), VDPM_OUT_OF_RANGE);
+    told("vdpm_made_bytes", vdpm_made_bytes(&made, NULL, 0), VDPM_NOT_SO);
+}
+
+static void views_of_nothing(vdpm_viewer *viewer) {
+    vdpm_sizes sizes;
+    vdpm_change_sizes changes;
+    size_t length = 1;
+    uint32_t number = 7;
+    memset(&sizes, 7, sizeof sizes);
+    told("vdpm_line", vdpm_line(viewer, NULL, 0), VDPM_BAD_LINE);
+    told("vdpm_reply_length", vdpm_reply_length(viewer, &length), VDPM_DONE);
+    told("no reply", (uint32_t)length, 0);
+    told("vdpm_reply", vdpm_reply(viewer, NULL, 0), VDPM_DONE);
+    told("vdpm_counts", vdpm_counts(viewer, &sizes), VDPM_DONE);
+    told("no nodes", sizes.nodes, 0);
+    told("vdpm_frame", vdpm_frame(viewer, NULL, 0, NULL, 0, NULL, 0, NULL, 0, NULL, 0), VDPM_DONE);
+    told("vdpm_change", vdpm_change(viewer, NULL, 0, NULL, 0, NULL, 0, NULL, 0, NULL, 0, NULL, 0,
+                                    &changes), VDPM_DONE);
+    told("vdpm_means", vdpm_means(viewer, 3, NULL, 0, NULL, 0), VDPM_DONE);
+    told("vdpm_means", vdpm_means(viewer, 0, NULL, 0, NULL, 0), VDPM_DONE);
+    told("vdpm_splitter", vdpm_splitter(viewer, 0, &number), VDPM_NO_SUCH);
+    told("vdpm_maker", vdpm_maker(viewer, VDPM_NONE, &number), VDPM_NO_SUCH);
+    told("vdpm_ancestor", vdpm_ancestor(viewer, 0, &number), VDPM_NO_SUCH);
+    told("vdpm_place", vdpm_place(viewer, 0, NULL, 0), VDPM_NO_SUCH);
+    told("nothing written", number, 7);
+}
+
+int main(void) {
+    vdpm_viewer viewer = VDPM_CLOSED;
+    uint64_t place = 1;
+    size_t length = 0;
+    uint8_t *stream = empty_stream(&length);
+    texts_of_nothing();
+    told("vdpm_open", vdpm_open(NULL, 0, 0, &viewer, &place), 22);
+    told("vdpm_line", vdpm_line(&viewer, NULL, 0), VDPM_NOT_SO);
+    told("vdpm_open", vdpm_open(stream, length, 0, &viewer, &place), VDPM_DONE);
+    told("no place", (uint32_t)place, 0);
+    told("vdpm_open again", vdpm_open(stream, length, 0, &viewer, &place), VDPM_NOT_SO);
+    free(stream);
+    views_of_nothing(&viewer);
+    vdpm_close(&viewer);
+    vdpm_close(&viewer);
+    told("vdpm_reply", vdpm_reply(&viewer, NULL, 0), VDPM_NOT_SO);
+    return wrong;
+}

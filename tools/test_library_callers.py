@@ -1,0 +1,120 @@
+"""Tries programs that call the library: python3 tools/test_library_callers.py
+
+The header is compiled as each C and C++ that it promises, and the programs of
+tools/library_callers and examples/library run under the sanitizers and valgrind, and on threads with
+little stack.
+"""
+import os
+import shutil
+import subprocess
+import tempfile
+import unittest
+from pathlib import Path
+from typing import Iterator, List, Tuple
+
+from tried_library import TOP, compiled, take_library
+
+OCTAHEDRON, TORUS = TOP / "examples/octahedron.obj", TOP / "examples/torus.obj"
+STREAM = TOP / "examples/octahedron.vdpm"
+CALLERS = TOP / "tools/library_callers"
+STRICT = ("-Wall", "-Wextra", "-pedantic", "-Werror", f"-I{TOP}")
+SANITIZERS = ("-g", "-fsanitize=address,undefined", "-fno-sanitize-recover=all")
+STANDARDS = {
+    "c": ("c90", "c99", "c11", "c17"),
+    "c++": ("c++98", "c++11", "c++14", "c++17", "c++20"),
+}
+COMPILERS = {"c": ("gcc", "clang"), "c++": ("g++", "clang++")}
+# As the header tells, and more lines than a flight has.
+STACK, THREADS, LINES = 128 * 1024, 16, 625
+USER = """#include "libvdpm.h"
+static vdpm_viewer viewer = VDPM_CLOSED;
+int is_open(void);
+int is_open(void) { return viewer.open && VDPM_VERSION >= 10000; }
+"""
+folder = tempfile.TemporaryDirectory(prefix="library-")
+
+
+def setUpModule() -> None:
+    take_library()
+    if shutil.which("cc") is None:
+        raise unittest.SkipTest("there is no cc")
+
+
+def tearDownModule() -> None:
+    folder.cleanup()
+
+
+def languages() -> Iterator[Tuple[str, str, str]]:
+    """Each language and standard, with a compiler for it that is here."""
+    for language, standards in STANDARDS.items():
+        for compiler in COMPILERS[language]:
+            if shutil.which(compiler):
+                yield from ((language, standard, compiler) for standard in standards)
+
+
+def caller(name: str, *more: str) -> Path:
+    """A program of tools/library_callers."""
+    archive, made = Path(os.environ["VDPM_LIBRARY"]).with_suffix(".a"), Path(folder.name) / name
+    words = ["cc", "-std=gnu99", *STRICT, *more, str(CALLERS / f"{name}.c"), str(archive), "-o",
+             str(made)]
+    subprocess.run(words, check=True)
+    return made
+
+
+def has_sanitizers() -> bool:
+    words = ["cc", *SANITIZERS, "-x", "c", "-", "-o", str(Path(folder.name) / "none")]
+    done = subprocess.run(words, input=b"int main(void) { return 0; }\n", capture_output=True,
+                          check=False)
+    return done.returncode == 0
+
+
+class Header(unittest.TestCase):
+    def test_it_is_clean_in_each_language(self) -> None:
+        tried = 0
+        for language, standard, compiler in languages():
+            with self.subTest(f"{compiler} -std={standard}"):
+                words = [compiler, f"-std={standard}", *STRICT, "-fsyntax-only", "-x", language,
+                         "-"]
+                done = subprocess.run(words, input=USER, capture_output=True, text=True,
+                                      check=False)
+                self.assertEqual((done.returncode, done.stderr), (0, ""))
+            tried += 1
+        self.assertGreater(tried, 0)
+
+
+class Callers(unittest.TestCase):
+    def assert_clean(self, words: List[str], given: bytes = b"") -> None:
+        done = subprocess.run(words, input=given, capture_output=True, check=False)
+        self.assertEqual((done.returncode, done.stderr), (0, b""), done.stdout)
+
+    def test_no_array_and_no_handle(self) -> None:
+        self.assert_clean([str(caller("edges"))])
+
+    def test_sanitizers_find_nothing(self) -> None:
+        if not has_sanitizers():
+            self.skipTest("cc has no sanitizers")
+        room, torus = Path(folder.name), TORUS.read_bytes()
+        self.assert_clean([str(caller("edges", *SANITIZERS))])
+        made = str(compiled("make", room, *SANITIZERS))
+        self.assert_clean([made, "6"], torus)
+        for name, words, given in (("fly", ["4"], b""), ("script", ["9"], b"s 0\nw\nd\n"),
+                                   ("means", ["1"], b"1 2 3 4 5 6")):
+            made = str(compiled(name, room, *SANITIZERS))
+            self.assert_clean([made, str(STREAM), *words], given)
+
+    @unittest.skipUnless(shutil.which("valgrind"), "there is no valgrind")
+    def test_valgrind_finds_nothing(self) -> None:
+        words = ["valgrind", "-q", "--leak-check=full", "--error-exitcode=9"]
+        self.assert_clean([*words, str(caller("edges"))])
+        self.assert_clean([*words, str(compiled("fly", Path(folder.name))), str(STREAM), "4"])
+
+    def test_threads_have_viewers_of_their_own_or_one_in_turn(self) -> None:
+        made = str(caller("threads", "-pthread"))
+        words = [made, str(THREADS), str(STACK), str(LINES)]
+        self.assert_clean(words, OCTAHEDRON.read_bytes())
+        for model in (TORUS, TOP / "examples/asteroid.obj"):
+            self.assert_clean([made, "2", str(STACK), "20"], model.read_bytes())
+
+
+if __name__ == "__main__":
+    unittest.main()
