@@ -2,13 +2,15 @@
 """Cuts a large mesh into tiles that meet without a crack (docs/WORLDS.md).
 
     world.py cut INPUT WORLD [--faces N] [--unit U] [--spacing S] [--rise H]
+    world.py build WORLD [--faces N] [--jobs J] [--program PATH]
     world.py list WORLD LEVEL            prints the paths of a level's tiles, without ending
     world.py parent WORLD NAME [--faces N] [--program PATH]
     world.py check WORLD [--jobs J] [--program PATH]
 
 INPUT is a height field (an ESRI ASCII grid `.asc`, a binary PGM `.pgm`; a GeoTIFF, an .hgt and the
 like where GDAL is installed) or a mesh (OBJ, PLY, STL); WORLD is a folder, or its world.json.
-`./simplify --keep-border` makes a stream of each tile in between. Needs nothing but Python 3.8.
+`build` makes the streams by `./simplify --keep-border`, and the parents. Both go on where they were
+stopped. Needs nothing but Python 3.8.
 
 Ends with status 1 where an input has a fault or the tiles don't meet, and says which.
 """
@@ -18,10 +20,13 @@ from math import inf
 from pathlib import Path
 from typing import List, Optional
 
+from viewer.main import programs_of
+from worlds.building import Build, build_world
 from worlds.checking import check_world
 from worlds.form import World, WorldFault, read_world
 from worlds.making import Asked, make_world
 from worlds.parents import make_parent
+from worlds.progress import Work
 
 TOP = Path(__file__).resolve().parent.parent
 FACES = 100_000
@@ -38,6 +43,13 @@ def positive(text: str) -> float:
     return number
 
 
+def positive_whole(text: str) -> int:
+    number = int(text)
+    if number < 1:
+        raise argparse.ArgumentTypeError(f"{text} isn't above 0")
+    return number
+
+
 def arguments(words: Optional[List[str]] = None) -> argparse.Namespace:
     parser = argparse.ArgumentParser(prog="world.py", description="Worlds of tiles that meet.")
     verbs = parser.add_subparsers(dest="verb", required=True)
@@ -47,6 +59,8 @@ def arguments(words: Optional[List[str]] = None) -> argparse.Namespace:
     cut.add_argument("--unit", type=positive, default=0.0, help="a unit, in the input's measure")
     cut.add_argument("--spacing", type=positive, default=1.0, help="between the points of a .pgm")
     cut.add_argument("--rise", type=positive, default=1.0, help="of a step of grey of a .pgm")
+    build = verbs.add_parser("build", help="make the streams of all tiles and parents")
+    build.add_argument("world", type=Path)
     listed = verbs.add_parser("list", help="print the paths of a level's tiles")
     listed.add_argument("world", type=Path)
     listed.add_argument("level", type=int)
@@ -55,10 +69,11 @@ def arguments(words: Optional[List[str]] = None) -> argparse.Namespace:
     parent.add_argument("name")
     check = verbs.add_parser("check", help="ask whether all tiles are valid and meet")
     check.add_argument("world", type=Path)
-    check.add_argument("--jobs", type=int, default=1, help="processes side by side")
-    for verb in (cut, parent):
+    for verb in (build, check):
+        verb.add_argument("--jobs", type=positive_whole, default=1, help="processes side by side")
+    for verb in (cut, build, parent):
         verb.add_argument("--faces", type=int, default=FACES, help="at most, a tile or a parent")
-    for verb in (parent, check):
+    for verb in (build, parent, check):
         verb.add_argument("--program", type=Path, default=TOP / "vdpm", help="another vdpm")
     return parser.parse_args(words)
 
@@ -73,6 +88,13 @@ def told(world: World) -> str:
     )
 
 
+def built(asked: argparse.Namespace, world: World) -> int:
+    programs = programs_of(asked.program)
+    with Work(say) as work:
+        jobs = Build(world, programs.simplify, programs.vdpm, asked.faces, asked.jobs, work)
+        return build_world(jobs)
+
+
 def call(asked: argparse.Namespace) -> None:
     if asked.verb == "cut":
         words = Asked(
@@ -84,13 +106,16 @@ def call(asked: argparse.Namespace) -> None:
     if asked.verb == "list":
         for tile in world.level(asked.level):
             print(world.mesh(tile).with_suffix(""))
+    elif asked.verb == "build":
+        made = built(asked, world)
+        print(f"{made} streams made, {len(world.tiles) - made} were there")
     elif asked.verb == "parent":
         if asked.name not in world.tiles:
             raise WorldFault(f"the world has no tile {asked.name}")
         made = make_parent(asked.program, world, world.tiles[asked.name], asked.faces)
         print(f"{asked.name}: {made.faces} faces, error {made.error}")
     else:
-        done = check_world(asked.program, world, asked.jobs)
+        done = check_world(asked.program, world, asked.jobs, say)
         for one in done:
             print(f"{one.name}: {one.counts}, border sides {len(one.sides)}")
         print(f"{len(done)} streams: each valid, each border fixed, each seam equal")
@@ -105,6 +130,9 @@ def main() -> int:
     except OSError as fault:
         say(f"{fault.filename or 'a file'}: {fault.strerror}")
         return 1
+    except KeyboardInterrupt:
+        say("stopped; the same command goes on")
+        return 130
     return 0
 
 

@@ -3,7 +3,8 @@
 #
 # WORLD is the folder. Level by level: parents are made of their children's fronts. A stream has its
 # name only once it is whole, so the script goes on where it was stopped; one that is older than
-# world.json is made anew. Each job is one process that reads one tile.
+# world.json is made anew. Each job is one process that reads one tile. `tools/world.py build` does
+# the same, and tells faults with their cures.
 set -eu
 top=$(cd "$(dirname "$0")/../.." && pwd)
 export WORLD="$1" TOP="$top" SIMPLIFY="${SIMPLIFY:-$top/simplify}" VDPM="${VDPM:-$top/vdpm}"
@@ -18,6 +19,7 @@ while tiles=$("$PYTHON" "$top/tools/world.py" list "$WORLD" $level) && [ -n "$ti
             --faces "$FACES" --program "$VDPM"
         "$SIMPLIFY" --keep-border < "$1.obj" > "$1.vdpm.part"
         mv "$1.vdpm.part" "$1.vdpm"
+        echo "$1.vdpm: level $LEVEL, $(find "$WORLD" -name "*.vdpm" | wc -l) streams"
     ' job TILE
     level=$((level + 1))
 done

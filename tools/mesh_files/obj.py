@@ -1,7 +1,7 @@
 """Reads OBJ texts as `prepare` does: blanks and tabs before and between fields, CR LF, comments, a
 byte order mark, lines that are continued by a backslash, exponents, and polygons."""
 import re
-from typing import BinaryIO, Iterable, Iterator, List, Tuple
+from typing import BinaryIO, Iterable, Iterator, List, Optional, Tuple
 
 from .soup import MeshFault, Soup, finite
 
@@ -9,6 +9,7 @@ BYTE_ORDER_MARK = b"\xef\xbb\xbf"
 _LONGEST = 65_536
 _COMMON = (b"v", b"vt", b"vn", b"f")
 _NOT_LETTERS = re.compile(rb"[^A-Za-z]")
+_SCALED = re.compile(rb"# coordinate = (\S+) / (\d+) \* place \+ \((\S+) (\S+) (\S+)\)")
 _FACE_LINE = re.compile(rb"^[ \t]*f[ \t]", re.MULTILINE)
 _KINDS = {
     "texture places": b"vt",
@@ -20,6 +21,16 @@ _KINDS = {
 _KIND_OF = {word: kind for kind, words in _KINDS.items() for word in words.split()}
 
 Line = Tuple[int, List[bytes]]
+
+
+def scale_of(line: bytes) -> Optional[Tuple[float, Tuple[float, float, float]]]:
+    """What the first line of a text that `prepare` scaled tells: a coordinate is the step times the
+    place plus the middle."""
+    found = _SCALED.match(line)
+    if found is None:
+        return None
+    extent, steps, x, y, z = map(float, found.groups())
+    return extent / steps, (x, y, z)
 
 
 def face_count(text: bytes) -> int:

@@ -58,10 +58,12 @@ def kind_at(path: Path) -> str:
         return kind_of(file.read(_HEAD), path.stat().st_size)
 
 
-def read_soup(path: Path) -> Soup:
-    """The soup of a file; MeshFault where it has a fault or no faces."""
+def read_soup(path: Path, watch: Callable[[BinaryIO], None] = lambda _: None) -> Soup:
+    """The soup of a file; MeshFault where it has a fault or no faces. `watch` is given the open
+    file."""
     reader, size = READERS[kind_at(path)], path.stat().st_size
     with path.open("rb") as file:
+        watch(file)
         soup = reader(file, size)
     if not soup.corners:
         raise MeshFault("it has no faces")

@@ -5,7 +5,6 @@ file an OBJ text is made; any other is taken for one: `vdpm canon` judges it wit
 of decimals that it allows; where that refuses it, `prepare` makes it fit; then `simplify` makes the
 stream. Each step is told on standard error, with the seconds where it takes some.
 """
-import re
 import subprocess
 import sys
 import threading
@@ -14,7 +13,7 @@ from pathlib import Path
 from subprocess import PIPE
 from typing import IO, List, NamedTuple, Optional, Sequence, Set, Tuple
 
-from mesh_files.obj import face_count
+from mesh_files import obj
 from mesh_files.reading import as_obj
 from mesh_files.soup import MeshFault
 
@@ -27,7 +26,6 @@ MOST_DIGITS = 4
 # A fault that another number of decimals may cure: a nonzero digit past the first D.
 TOO_MANY_DECIMALS = "fault 5 "
 _passed_on: Set[str] = set()  # notices, which each run of a program gives again
-_SCALED = re.compile(rb"# coordinate = (\S+) / (\d+) \* place \+ \((\S+) (\S+) (\S+)\)")
 Place = Tuple[float, float, float]
 
 
@@ -170,7 +168,7 @@ def text_at(path: Path) -> bytes:
 
 def _built(name: str, text: bytes, programs: Programs) -> Model:
     mesh, digits, prepared = _fitting(text, programs)
-    faces = face_count(mesh)
+    faces = obj.face_count(mesh)
     if faces == 0:
         raise ProgramEnded(f"{name} has no faces, so there is nothing to look at")
     tell(f"building a hierarchy of {faces:,} faces")
@@ -206,11 +204,8 @@ def _fitting(text: bytes, programs: Programs) -> Tuple[bytes, int, bool]:
 def scale_of(mesh: bytes) -> Optional[Scale]:
     """How a prepared mesh leads back, by its first line; None where its coordinates are the file's
     own."""
-    found = _SCALED.match(mesh)
-    if found is None:
-        return None
-    extent, parts, x, y, z = (float(number) for number in found.groups())
-    return Scale(extent / parts, (x, y, z))
+    found = obj.scale_of(mesh)
+    return Scale(*found) if found else None
 
 
 def _colours(text: bytes, mesh: bytes, prepared: bool, scale: Optional[Scale]) -> Optional[bytes]:

@@ -22,6 +22,7 @@ OWN_FILES = ("tiles.js", "tiling.js", "world.html", "world.js", "world_worker.js
 # `vdpm live` takes 8 bytes more for each node, and there are about as many nodes as faces.
 MEMORY_A_FACE = 300
 _HEAD = "tile "
+NAMED = 5  # of the streams that are missing
 
 
 class WorldShowing:
@@ -116,13 +117,25 @@ def faces_of(world: World, tile: Tile) -> int:
 def usable(world: World) -> Dict[str, Tile]:
     """The tiles that can be shown: all of level 0, which have to be there, and the parents that
     were made."""
-    found: Dict[str, Tile] = {}
-    for tile in world.tiles.values():
-        if world.stream(tile).is_file():
-            found[tile.name] = tile
-        elif tile.level == 0:
-            raise WorldFault(f"{world.stream(tile)} isn't there: build the world's tiles first")
+    found = {tile.name: tile for tile in world.tiles.values() if is_built(world, tile)}
+    missing = [tile for tile in world.tiles.values() if tile.name not in found]
+    if any(tile.level == 0 for tile in missing):
+        raise WorldFault(f"{missing_of(world, missing)} first")
+    if missing:
+        tell(f"{missing_of(world, missing)}; until then far views show more faces, and are slow")
     return found
+
+
+def is_built(world: World, tile: Tile) -> bool:
+    return world.stream(tile).is_file() and (not tile.level or told_path(world, tile).is_file())
+
+
+def missing_of(world: World, missing: List[Tile]) -> str:
+    """How many streams are missing and which, and what makes them."""
+    names = [tile.name for tile in missing[:NAMED]]
+    more = f" and {len(missing) - NAMED} more" if len(missing) > NAMED else ""
+    told = f"{len(missing)} of {len(world.tiles)} streams aren't built, {', '.join(names)}{more}"
+    return f"{told}: `python3 tools/world.py build {world.folder}`"
 
 
 class WorldServer(Address):

@@ -10,6 +10,9 @@ tools/world.py is the command; docs/WORLDS.md tells what a world is and how one 
     parting     moves faces so that no tile touches itself
     mending     makes an oriented manifold of a tile's faces
     making      writes a world
+    journal     what is known of tiles that were cut, so that a cut goes on
+    progress    how far long work is
+    building    makes the streams of a world
     streams     reads of a stream what a world asks of it
     fronts      plays scripts on a stream, and tells the border sides of what is shown
     checking    whether the tiles of a world meet

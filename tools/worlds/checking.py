@@ -16,6 +16,7 @@ from mesh_files.soup import MeshFault
 from .form import Place, Side, Tile, World, WorldFault, moved, outline_of
 from .fronts import needed, run
 from .mending import border_sides, first_broken
+from .progress import Say, Work
 from .streams import Border, border_of, read_stream
 from .union import fault_of_union
 
@@ -159,11 +160,22 @@ def _task(given: Tuple[Path, World, Tile]) -> Union[Checked, str]:
         return str(fault)
 
 
-def _each_checked(tasks: List[Tuple[Path, World, Tile]], jobs: int) -> List[Union[Checked, str]]:
+def _each_checked(
+    tasks: List[Tuple[Path, World, Tile]], jobs: int, work: Work
+) -> List[Union[Checked, str]]:
+    found: List[Union[Checked, str]] = []
+    work.begin(f"checks {len(tasks)} streams", len(tasks))
+
+    def collect(checked: Iterable[Union[Checked, str]]) -> List[Union[Checked, str]]:
+        for one in checked:
+            found.append(one)
+            work.done += 1
+        return found
+
     if jobs == 1:
-        return list(map(_task, tasks))
+        return collect(map(_task, tasks))
     with ProcessPoolExecutor(jobs, mp_context=get_context("spawn")) as pool:
-        return list(pool.map(_task, tasks))
+        return collect(pool.map(_task, tasks))
 
 
 def whole_faults(world: World, done: Dict[str, Checked]) -> List[str]:
@@ -179,12 +191,15 @@ def whole_faults(world: World, done: Dict[str, Checked]) -> List[str]:
     return []
 
 
-def check_world(vdpm: Path, world: World, jobs: int) -> List[Checked]:
+def check_world(
+    vdpm: Path, world: World, jobs: int, say: Say = lambda _: None
+) -> List[Checked]:
     """Checks all tiles, and the parents whose streams are there."""
     tiles = [
         tile for tile in world.tiles.values() if not tile.level or world.stream(tile).is_file()
     ]
-    found = _each_checked([(vdpm, world, tile) for tile in tiles], jobs)
+    with Work(say) as work:
+        found = _each_checked([(vdpm, world, tile) for tile in tiles], jobs, work)
     faults = [one for one in found if isinstance(one, str)]
     done = {one.name: one for one in found if isinstance(one, Checked)}
     faults = faults or whole_faults(world, done)

@@ -5,7 +5,7 @@ A height field is halved along its rows and columns; soups cuts what is none.
 """
 from dataclasses import dataclass
 from math import isnan
-from typing import FrozenSet, Iterator, List, NamedTuple, Optional, Tuple
+from typing import Container, FrozenSet, Iterator, List, NamedTuple, Optional, Tuple
 
 from .form import Corners, Place, WorldFault, box_of, fits
 from .heights import Heights
@@ -23,10 +23,12 @@ class Piece(NamedTuple):
 @dataclass(frozen=True)
 class Half:
     """A node of the tree: its name is the way from the root, a 0 or a 1 a step. The leaves have
-    pieces."""
+    pieces, but for those that are known; `faces` counts those of a leaf at most."""
 
     name: str
     piece: Optional[Piece] = None
+    faces: int = 0
+    is_leaf: bool = False
 
 
 def parts_for(faces: int, most: int) -> int:
@@ -104,7 +106,7 @@ def _piece_of(grid: Grid, one: Range) -> Piece:
     return Piece(places, faces)
 
 
-def cut_grid(grid: Grid, most: int) -> Iterator[Half]:
+def cut_grid(grid: Grid, most: int, known: Container[str]) -> Iterator[Half]:
     """The tree of a height field, each node before what is under it."""
     field = grid.heights
     if field.rows < 2 or field.columns < 2:
@@ -112,9 +114,12 @@ def cut_grid(grid: Grid, most: int) -> Iterator[Half]:
     waiting = [Range("", 0, field.rows - 1, 0, field.columns - 1)]
     while waiting:
         one = waiting.pop()
+        if one.name in known:
+            yield Half(one.name, None, one.faces, True)
+            continue
         piece = _piece_of(grid, one) if one.faces <= max(most, 2) else None
         if piece is not None and _fits(piece):
-            yield Half(one.name, piece)
+            yield Half(one.name, piece, one.faces, True)
         elif one.faces <= 2:
             raise WorldFault("a cell is longer than 65,534 units: take a larger unit")
         else:

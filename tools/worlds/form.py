@@ -135,7 +135,7 @@ def read_world(path: Path) -> World:
         told = json.loads(file.read_text(encoding="ascii"))
         if told["form"] != FORM:
             raise WorldFault(f"{file} has another form than `{FORM}`: cut it again")
-        tiles = [_tile(words) for words in told["tiles"]]
+        tiles = [tile_of(words) for words in told["tiles"]]
         x, y, z = told["origin"]
         world = World(file.parent, told["unit"], (x, y, z), told["outline"])
     except OSError as fault:
@@ -145,6 +145,7 @@ def read_world(path: Path) -> World:
     return replace(world, tiles={tile.name: tile for tile in tiles})
 
 
-def _tile(words: Dict[str, Any]) -> Tile:
+def tile_of(words: Dict[str, Any]) -> Tile:
+    """The tile of what a file has of it."""
     lists = ("offset", "low", "high", "neighbours", "children")
     return Tile(**{key: tuple(value) if key in lists else value for key, value in words.items()})

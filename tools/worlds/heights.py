@@ -11,7 +11,7 @@ from array import array
 from dataclasses import dataclass
 from math import inf, isfinite, isnan, nan
 from pathlib import Path
-from typing import BinaryIO, Dict, Iterator, List, NamedTuple, Tuple
+from typing import BinaryIO, Callable, Dict, Iterator, List, NamedTuple, Tuple
 
 from .form import WorldFault
 
@@ -70,10 +70,14 @@ class Heights:
         return self.part(row, column, column)[0]
 
 
-def read_heights(path: Path, spacing: float, rise: float) -> Heights:
+def read_heights(
+    path: Path, spacing: float, rise: float, watch: Callable[[BinaryIO], None] = lambda _: None
+) -> Heights:
     """A height field of a file whose name ends in .asc or .pgm. `spacing` is how far the points of
-    a PGM file are apart, and `rise` how high a step of its grey is."""
+    a PGM file are apart, and `rise` how high a step of its grey is; `watch` is given the open
+    file."""
     file = path.open("rb")
+    watch(file)
     try:
         if path.suffix.lower() == ".pgm":
             return _read_pgm(file, spacing, rise)

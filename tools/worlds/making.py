@@ -7,25 +7,29 @@ and the border sides that haven't been matched yet, some 400 bytes each.
 """
 import shutil
 from dataclasses import replace
+from functools import partial
 from pathlib import Path
-from typing import Callable, Dict, Iterable, List, NamedTuple, Set, Tuple
+from typing import Callable, Container, Dict, Iterable, List, NamedTuple, Set, Tuple
 
+from mesh_files.obj import scale_of
 from mesh_files.reading import read_soup
 from mesh_files.soup import MeshFault
 
-from .cutting import Grid, Half, cut_grid
+from .cutting import Grid, Half, cut_grid, parts_for
 from .form import (
-    LONGEST_SPAN, MOST_FACES, Place, Side, Tile, World, WorldFault, box_of, fits, middle,
+    FORM, LONGEST_SPAN, MOST_FACES, Place, Side, Tile, World, WorldFault, box_of, fits, middle,
     write_outline, write_world,
 )
 from .heights import FIELDS, Heights, read_heights
+from .journal import Journal, Recorded
 from .mending import Mended, Mesh, mended
+from .progress import Say, Work
 from .rasters import Extent, grid_of, is_raster, refuse_degrees
 from .soups import cut_soup, rounded
 
 RASTER = "raster"  # the folder of a grid that GDAL made, until the world is cut
 _DIGITS = (1.0, 2.0, 5.0, 10.0)
-Say = Callable[[str], None]
+Point = Tuple[float, float, float]
 
 
 class Asked(NamedTuple):
@@ -80,10 +84,14 @@ def border_places(done: Mended) -> List[Side]:
 
 
 def write_mesh(path: Path, mesh: Mesh, offset: Place) -> None:
-    """Writes a file that has its name only once it is whole."""
+    """Writes a file that has its name only once it is whole. One that says the same stays, so that
+    what was made of it needn't be made anew."""
     path.parent.mkdir(parents=True, exist_ok=True)
+    text = obj_text(mesh, offset).encode("ascii")
+    if path.is_file() and path.stat().st_size == len(text) and path.read_bytes() == text:
+        return
     part = path.with_suffix(".part")
-    part.write_text(obj_text(mesh, offset), encoding="ascii")
+    part.write_bytes(text)
     part.replace(path)
 
 
@@ -142,11 +150,13 @@ def _unit(asked: Asked, extent: float) -> float:
 
 
 class Cut(NamedTuple):
-    """An input that is being cut."""
+    """An input that is being cut: how many faces it may have, and the tree of those of which the
+    leaves aren't known. In the input's measure a place p is at unit * p + origin."""
 
     unit: float
-    origin: Tuple[float, float, float]
-    halves: Iterable[Half]
+    origin: Point
+    faces: int
+    halves: Callable[[Container[str]], Iterable[Half]]
 
 
 def _extent_of(field: Heights, rise: float) -> Extent:
@@ -156,11 +166,12 @@ def _extent_of(field: Heights, rise: float) -> Extent:
     return Extent(field.west, field.south, east, north, step, rise)
 
 
-def _cut_heights(asked: Asked, say: Say) -> Cut:
+def _cut_heights(asked: Asked, say: Say, work: Work) -> Cut:
     grid = asked.source
     if is_raster(grid):
         grid = grid_of(grid, asked.folder / RASTER, say)
-    field = read_heights(grid, asked.spacing, asked.rise)
+    watch = work.read(grid.name, grid.stat().st_size)
+    field = read_heights(grid, asked.spacing, asked.rise, watch)
     low, high = field.low, field.high
     if grid.suffix.lower() != ".pgm":
         refuse_degrees(grid, asked.source, _extent_of(field, high - low))
@@ -169,22 +180,100 @@ def _cut_heights(asked: Asked, say: Say) -> Cut:
     if min(field.across, field.along) < unit:
         raise WorldFault(f"points {field.across:g} apart are nearer than a unit of {unit:g}")
     origin = (field.west, field.south, low)
-    return Cut(unit, origin, cut_grid(Grid(field, unit, origin), asked.faces))
+    faces = 2 * (field.rows - 1) * (field.columns - 1)
+    return Cut(unit, origin, faces, partial(cut_grid, Grid(field, unit, origin), asked.faces))
 
 
-def _cut_mesh(asked: Asked, say: Say) -> Cut:
+def _scale_of(path: Path) -> Tuple[float, Point]:
+    """How the coordinates of a file lead to those that it was prepared from; they are its own where
+    `prepare` didn't scale it."""
+    with path.open("rb") as file:
+        found = scale_of(file.readline(1000))
+    return found or (1.0, (0.0, 0.0, 0.0))
+
+
+def _cut_mesh(asked: Asked, say: Say, work: Work) -> Cut:
+    watch = work.read(asked.source.name, asked.source.stat().st_size)
     try:
-        soup = read_soup(asked.source)
+        soup = read_soup(asked.source, watch)
     except MeshFault as fault:
         raise WorldFault(f"{asked.source}: {fault}") from None
     for note in soup.notes():
         say(note)
+    work.begin("parts the faces", 0)
     lows = [min(soup.points[axis::3]) for axis in range(3)]
     highs = [max(soup.points[axis::3]) for axis in range(3)]
-    unit = _unit(asked, max(b - a for a, b in zip(lows, highs)))
+    step, middle = _scale_of(asked.source)
+    unit = _unit(asked, step * max(b - a for a, b in zip(lows, highs))) / step
     # A whole number of units, so that coordinates which are whole numbers of units stay so.
     x, y, z = (unit * round(low / unit) for low in lows)
-    return Cut(unit, (x, y, z), cut_soup(rounded(soup, unit, (x, y, z)), asked.faces, say))
+    origin = (step * x + middle[0], step * y + middle[1], step * z + middle[2])
+    whole = rounded(soup, unit, (x, y, z))
+    halves = partial(cut_soup, whole, asked.faces)
+    return Cut(step * unit, origin, soup.faces, lambda known: halves(known, say))
+
+
+def _leaf(world: World, half: Half) -> Recorded:
+    """Writes the tile of a leaf, where it has faces."""
+    assert half.piece is not None
+    done = mended(*half.piece)
+    tile = _made_tile(world, name_of(half.name), done) if done.mesh.faces else None
+    return Recorded(tile, border_places(done), done.dropped, done.split)
+
+
+class _Leaves:
+    """The tiles of a world that is being cut."""
+
+    def __init__(self) -> None:
+        self.seams = Seams()
+        self.tiles: Dict[str, Tile] = {}
+        self.ways: List[str] = []
+        self.dropped = self.split = 0
+
+    def add(self, found: Recorded) -> None:
+        self.dropped, self.split = self.dropped + found.dropped, self.split + found.split
+        if found.tile:
+            self.seams.add(found.tile.name, found.border)
+            self.tiles[found.tile.name] = found.tile
+
+    def tell(self, say: Say) -> None:
+        if self.dropped:
+            say(f"{self.dropped} faces that became edges or stand twice were left out")
+        if self.split:
+            say(
+                f"{self.split} vertices were split off where the surface touches itself or is no"
+                " manifold"
+            )
+
+
+def _cut_leaves(cut: Cut, world: World, asked: Asked, work: Work) -> _Leaves:
+    """Cuts the tiles that the journal doesn't know from a cut of the same that was stopped."""
+    source = asked.source.resolve()
+    told = source.stat()
+    identity = [FORM, str(source), told.st_size, told.st_mtime_ns, asked.faces, cut.unit, cut.origin]
+    world.folder.mkdir(parents=True, exist_ok=True)
+    journal = Journal(world.folder / "cut.journal", identity)
+    leaves, is_whole = _Leaves(), False
+    about = parts_for(cut.faces, asked.faces)
+    work.begin(f"cuts tile 1 of about {about}", cut.faces)
+    try:
+        for half in cut.halves(journal):
+            if not half.is_leaf:
+                leaves.ways.append(half.name)
+                continue
+            if half.piece is None:
+                found = journal.known(half.name)
+            else:
+                found = _leaf(world, half)
+                journal.add(half.name, found)
+            leaves.add(found)
+            work.done += half.faces
+            number = len(leaves.tiles) + 1
+            work.doing = f"cuts tile {number} of about {max(about, number)}"
+        is_whole = True
+    finally:
+        journal.close(is_whole)
+    return leaves
 
 
 def make_world(asked: Asked, say: Say) -> World:
@@ -192,27 +281,12 @@ def make_world(asked: Asked, say: Say) -> World:
     if not 2 <= asked.faces <= MOST_FACES:
         raise WorldFault(f"a tile has from 2 to {MOST_FACES:,} faces")
     is_field = asked.source.suffix.lower() in FIELDS or is_raster(asked.source)
-    cut = (_cut_heights if is_field else _cut_mesh)(asked, say)
-    world = World(asked.folder, cut.unit, cut.origin, 0)
-    seams = Seams()
-    tiles: Dict[str, Tile] = {}
-    ways: List[str] = []
-    dropped = split = 0
-    for half in cut.halves:
-        if half.piece is None:
-            ways.append(half.name)
-            continue
-        done = mended(*half.piece)
-        dropped, split = dropped + done.dropped, split + done.split
-        if done.mesh.faces:
-            tile = _made_tile(world, name_of(half.name), done)
-            seams.add(tile.name, border_places(done))
-            tiles[tile.name] = tile
-    if dropped:
-        say(f"{dropped} faces that became edges or stand twice were left out")
-    if split:
-        say(f"{split} vertices were split off where the surface touches itself or is no manifold")
-    return _finished(world, tiles, ways, seams)
+    with Work(say) as work:
+        cut = (_cut_heights if is_field else _cut_mesh)(asked, say, work)
+        world = World(asked.folder, cut.unit, cut.origin, 0)
+        leaves = _cut_leaves(cut, world, asked, work)
+    leaves.tell(say)
+    return _finished(world, leaves.tiles, leaves.ways, leaves.seams)
 
 
 def _finished(world: World, tiles: Dict[str, Tile], ways: List[str], seams: Seams) -> World:

@@ -8,11 +8,11 @@ import json
 from pathlib import Path
 from typing import List, NamedTuple, Set, Tuple
 
-from .form import Corners, Place, Tile, World, WorldFault
+from .form import GREATEST_COORDINATE, Corners, Place, Tile, World, WorldFault
 from .fronts import frame_of, needed, places_in_world, splits
 from .making import write_mesh
-from .mending import Mended, mended
-from .streams import Stream, closed, errors_of, face_count, read_stream
+from .mending import Mended, Mesh, mended
+from .streams import Stream, closed, distance_up, errors_of, face_count, read_stream
 
 
 class Child(NamedTuple):
@@ -70,6 +70,22 @@ def together(parts: List[Tuple[List[Place], List[Corners]]]) -> Mended:
     return mended(places, faces)
 
 
+def within_reach(mesh: Mesh, middle: Place) -> Tuple[Mesh, int]:
+    """The mesh with each vertex as near to the parent's middle as its coordinates go, and by how
+    many units one was moved at most. A coarse front bulges out of its box at times; what is on the
+    border stands where the input has it, and never moves."""
+    def moved_in(place: Place) -> Place:
+        a, b, c = (
+            max(m - GREATEST_COORDINATE, min(m + GREATEST_COORDINATE, x))
+            for x, m in zip(place, middle)
+        )
+        return a, b, c
+
+    places = [moved_in(place) for place in mesh.places]
+    beyond = max((distance_up(p, q) for p, q in zip(places, mesh.places)), default=0)
+    return Mesh(places, mesh.faces), beyond
+
+
 def told_path(world: World, tile: Tile) -> Path:
     return world.path(tile, "json")
 
@@ -102,7 +118,8 @@ def make_parent(vdpm: Path, world: World, tile: Tile, most: int) -> Made:
     children = [read_child(world, name) for name in tile.children]
     tolerance = least_tolerance(children, most)
     mesh = together([_shown(vdpm, world, child, tolerance) for child in children]).mesh
-    error = tolerance + max(error_of(world, child.tile) for child in children)
+    mesh, beyond = within_reach(mesh, tile.offset)
+    error = tolerance + beyond + max(error_of(world, child.tile) for child in children)
     made = Made(len(mesh.places), len(mesh.faces), error)
     write_mesh(world.mesh(tile), mesh, tile.offset)
     told_path(world, tile).write_text(json.dumps(made._asdict()) + "\n", encoding="ascii")

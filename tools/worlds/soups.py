@@ -1,7 +1,7 @@
 """Cuts a soup by planes across its longest axis: a face goes to one side by the middle of its
 corners, but for those that are moved so that no tile touches itself (parting)."""
 from array import array
-from typing import Callable, Dict, Iterator, List, NamedTuple, Set, Tuple
+from typing import Callable, Container, Dict, Iterator, List, NamedTuple, Set, Tuple
 
 from mesh_files.ears import triangles_of
 from mesh_files.reading import polygons_of
@@ -136,7 +136,9 @@ def _halved(
     return best
 
 
-def cut_soup(soup: Rounded, most: int, say: Callable[[str], None]) -> Iterator[Half]:
+def cut_soup(
+    soup: Rounded, most: int, known: Container[str], say: Callable[[str], None]
+) -> Iterator[Half]:
     """The tree of a soup, each node before what is under it."""
     whole = array("I", range(len(soup.corners) // 3))
     waiting: List[Tuple[str, "array[int]"]] = [("", whole)]
@@ -146,7 +148,8 @@ def cut_soup(soup: Rounded, most: int, say: Callable[[str], None]) -> Iterator[H
         name, bag = waiting.pop()
         box = _bag_box(soup, bag)
         if len(bag) <= most and fits(*box):
-            yield Half(name, _bag_piece(soup, bag, opened))
+            piece = None if name in known else _bag_piece(soup, bag, opened)
+            yield Half(name, piece, len(bag), True)
             continue
         if len(bag) == 1:
             raise WorldFault("a face is longer than 65,534 units: take a larger unit")

@@ -135,7 +135,7 @@ def border_of(stream: Stream, offset: Place) -> Border:
     return Border(found, chords, at, loose)
 
 
-def _distance_up(p: Place, q: Place) -> int:
+def distance_up(p: Place, q: Place) -> int:
     squared = sum((a - b) ** 2 for a, b in zip(p, q))
     return isqrt(squared - 1) + 1 if squared else 0
 
@@ -147,7 +147,7 @@ def errors_of(stream: Stream) -> List[int]:
     for number in range(len(stream.records) - 1, -1, -1):
         node, t = stream.records[number].node, stream.roots + 2 * number
         errors[node] = max(
-            errors[child] + _distance_up(stream.places[node], stream.places[child])
+            errors[child] + distance_up(stream.places[node], stream.places[child])
             for child in (t, t + 1)
         )
     return errors

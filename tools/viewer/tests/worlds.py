@@ -5,10 +5,11 @@ import random
 import threading
 import unittest
 from typing import Any, Dict, List
+from unittest import mock
 
 from browser import PATIENCE, Line, found
 from frames import read_frames
-from viewer.program import BadScript
+from viewer.program import BadScript, ProgramEnded
 from viewer.world import WORLD_PAGE, WorldHandler, WorldServer, showing_of
 from worlds.form import World
 from worlds.tests.common import (
@@ -92,6 +93,15 @@ class Serving(WithWindow):
             opened.append(showing.open)
         self.assertEqual(opened[-1], [names[0], names[2]])
         self.assertLessEqual(showing.held, showing.memory)
+
+    def test_streams_that_are_not_built_are_named(self) -> None:
+        self.world.stream(self.world.tiles["t"]).unlink()
+        with mock.patch("viewer.world.tell", self.said.append):
+            self.assertNotIn("t", self.served().showing.tiles)
+        self.assertRegex(self.said[0], "1 of .* aren't built, t: .*world.py build .*world`; until")
+        self.world.stream(self.world.tiles["t010"]).unlink()
+        with self.assertRaisesRegex(ProgramEnded, "2 of .* aren't built, t010, t: .* build .* first"):
+            self.served()
 
     def test_a_script_names_its_tile(self) -> None:
         server = self.served()
