@@ -14,6 +14,7 @@ mod theory;
 
 pub use fault::{ScanFail, ScanFault};
 pub use passed::PassedOver;
+pub use polygons::push_polygon;
 pub use scan::{Scan, scan_obj};
 pub use theory::scans_are_sound;
 

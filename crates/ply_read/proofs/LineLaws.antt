@@ -1,6 +1,7 @@
 -- Laws of the lines of a header.
 use Rattle.std.proofs.Common.{◌≡◌, ℕ, suc, ◌+◌, ◌<◌, ◌≤◌, min, inl, inr, refl, sym, ap}
-use Rattle.std.proofs.Common.{◌∙◌, ◌==◌, List, [], ◌∷◌, length, drop, Result, Ok, true, false, arith}
+use Rattle.std.proofs.Common.{◌∙◌, ◌==◌, List, [], ◌∷◌, length, drop, Result, Ok, true, false}
+use Rattle.std.proofs.Common.{arith}
 use Rattle.std.proofs.Common.{Bool, if◌then◌else◌}
 use Rattle.std.specs.Prelude.{codes}
 use Rattle.std.proofs.lemmas.Bool.{cases_Bool, cases_lt}

@@ -3,4 +3,11 @@ pub mod Lines
 pub mod Names
 pub mod Opening
 pub mod Header
+pub mod Steps
+pub mod Words
+pub mod Numbers
+pub mod Items
+pub mod Body
+pub mod Ply
+pub mod Told
 pub mod Meaning

@@ -5,7 +5,9 @@ use Rattle.ply_read.specs.declared.fault.PlyFail.{PlyFail}
 use Rattle.ply_read.specs.declared.fault.PlyFail.TheVariants as fails
 use Rattle.ply_read.specs.declared.fault.Refused.{Refused}
 use Rattle.ply_read.specs.declared.header.HeaderReader.{HeaderReader}
+use Rattle.ply_read.specs.declared.read.Ply.{Ply}
 use Rattle.ply_read.specs.Header.{SoFar, Header}
+use Rattle.ply_read.specs.Ply.{Triangles}
 
 abbrev pub so_far_of : HeaderReader → SoFar
 so_far_of r = record {
@@ -18,6 +20,15 @@ so_far_of r = record {
 
 abbrev pub header_in : PlyHeader → List ℕ → Header
 header_in h body = record { encoding = h.encoding; declared = h.declared.items; body = body }
+
+abbrev pub ply_in : Ply → Triangles
+ply_in p = record {
+  points = p.points.items;
+  faces = p.faces.items;
+  polygons = p.polygons.items;
+  short_faces = p.short_faces;
+  trailing_bytes = p.trailing_bytes;
+}
 
 -- A fault is the one by which the reading ends. Memory may always be wanting.
 abbrev pub Explains : {A : Type 0} → Result A Refused → PlyFail → Type 0

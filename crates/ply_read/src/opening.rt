@@ -41,9 +41,21 @@ fn with_axis(axes: Axes, role: Role, list: bool) -> Option<Axes>
         Role::X if axes.x || list => None,
         Role::Y if axes.y || list => None,
         Role::Z if axes.z || list => None,
-        Role::X => Some(Axes { x: true, ..axes }),
-        Role::Y => Some(Axes { y: true, ..axes }),
-        Role::Z => Some(Axes { z: true, ..axes }),
+        Role::X => Some(Axes {
+            x: true,
+            y: axes.y,
+            z: axes.z,
+        }),
+        Role::Y => Some(Axes {
+            x: axes.x,
+            y: true,
+            z: axes.z,
+        }),
+        Role::Z => Some(Axes {
+            x: axes.x,
+            y: axes.y,
+            z: true,
+        }),
         _ => Some(axes),
     }
 }
