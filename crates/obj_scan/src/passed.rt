@@ -42,8 +42,8 @@ pub struct PassedOver {
 }
 
 impl PassedOver {
-    /// Before the first line.
-    pub(crate) fn new() -> PassedOver
+    /// Nothing, as before the first line.
+    pub fn new() -> PassedOver
         ensures { result ≡ none_passed }
     {
         PassedOver {
