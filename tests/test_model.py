@@ -177,7 +177,7 @@ class Simplifying(unittest.TestCase):
 
     def test_the_least_pairs_of_the_octahedron_by_these_planes(self) -> None:
         log = run_to(octahedron(), 0, (), FINE)
-        pairs = [(0, 2, (50, 50, 0)), (4, 6, (19, 19, 73))]
+        pairs = [(0, 2, (150, 150, 0)), (1, 5, (-155, 63, -113))]
         self.assertEqual([(entry.t, entry.u, entry.place) for entry in log], pairs)
 
 

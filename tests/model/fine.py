@@ -128,4 +128,20 @@ def candidates(planes: List[Plane], t: Point, u: Point) -> List[Point]:
     return [t, u, midpoint(t, u)] + ([] if fourth is None else [fourth])
 
 
-FINE = Policy(brought, taken, candidates)
+def put(faces: Faces, places: Places, a: int, b: int, place: Point) -> Point:
+    """The place moved along the sum of the normals of the faces at either end until the volume
+    between these faces and it is 0, or where it is, if that is farther than twice the pair's
+    length."""
+    triangles = [[places[c] for c in face] for face in faces.values() if a in face or b in face]
+    normals = [normal(*triangle) for triangle in triangles]
+    n = sum(m[0] for m in normals), sum(m[1] for m in normals), sum(m[2] for m in normals)
+    if not any(n):
+        return place
+    volume = sum(dot(m, minus(place, t[0])) for m, t in zip(normals, triangles))
+    moved = minus(place, scaled(n, volume, dot(n, n)))
+    length, way = minus(places[a], places[b]), minus(moved, place)
+    near = farthest(moved) <= GREATEST_COORDINATE and dot(way, way) <= 4 * dot(length, length)
+    return moved if near else place
+
+
+FINE = Policy(brought, taken, candidates, put)

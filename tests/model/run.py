@@ -45,11 +45,13 @@ Places = Dict[int, Point]
 
 class Policy(NamedTuple):
     """What a run goes by: the planes that an input vertex brings, those that a vertex takes of the
-    surface in which it is first there, and the places that a pair may take."""
+    surface in which it is first there, the places that a pair may take, and where the pair with the
+    best of them is put if it is legal there."""
 
     brought: Callable[[Faces, Places, int], List[Plane]]
     taken: Callable[[Faces, Places, int], List[Plane]]
     candidates: Callable[[List[Plane], Point, Point], List[Point]]
+    put: Callable[[Faces, Places, int, int, Point], Point]
 
 
 class Surface(NamedTuple):
@@ -84,6 +86,7 @@ PLAIN = Policy(
     planes_of_faces,
     lambda faces, places, vertex: [],
     lambda planes, p, q: [p, q, midpoint(p, q)],
+    lambda faces, places, a, b, place: place,
 )
 
 
@@ -169,7 +172,7 @@ def pairs_of(faces: Faces) -> List[Tuple[int, int]]:
 
 def least_pair(surface: Surface, kept: Collection[int]) -> Optional[Tuple[int, int, Point]]:
     """Of the legal pairs without a kept vertex the one with the least cost, and of equal costs the
-    least numbers."""
+    least numbers; and where it is put."""
     costs = []
     for a, b in pairs_of(surface.faces):
         if a in kept or b in kept:
@@ -178,7 +181,8 @@ def least_pair(surface: Surface, kept: Collection[int]) -> Optional[Tuple[int, i
         costs.append((cost, a, b, place))
     for _, a, b, place in sorted(costs):
         if is_legal(surface, a, b, place):
-            return a, b, place
+            wanted = surface.policy.put(surface.faces, surface.places, a, b, place)
+            return a, b, wanted if is_legal(surface, a, b, wanted) else place
     return None
 
 

@@ -3,6 +3,7 @@
 use Rattle.std.proofs.Common.{◌≡◌, ℕ, None, slice_index_or, ◌<◌, true, false, Bool, List}
 use Rattle.std.proofs.Common.{inl, inr, refl, sym, ap}
 use Rattle.std.proofs.lemmas.Bool.{false≢true}
+use Rattle.pm_base.specs.Place.{Place}
 use Rattle.pm_base.specs.declared.log.Collapse.{Collapse}
 use Rattle.pm_base.specs.Meshes.{Mesh}
 use Rattle.pm_base.proofs.Search.{Decided, some_from}
@@ -13,7 +14,7 @@ use Rattle.pm_runs.proofs.Living.{joined_live}
 use Rattle.pm_runs.proofs.FacesLeft.{some_within}
 use Rattle.pm_runs.proofs.Logs.{run-sound, run-proper}
 use Rattle.pm_policies.specs.Policies.{Policy, place_by, key_by}
-use Rattle.pm_policies.specs.PolicyRuns.{IsCandidateBy, IsRunBy}
+use Rattle.pm_policies.specs.PolicyRuns.{IsCandidateBy, wanted_by, IsPutBy, IsRunBy}
 use Rattle.pm_policies.specs.Laws.{HasLeastBy}
 use Rattle.pm_policies.proofs.SomeRuns.{some_run_by_a_policy}
 use Rattle.pm_simplify.proofs.Decisions.{four?, less?}
@@ -33,6 +34,16 @@ module _ (p : Policy) (m : Mesh) (start : IsStartOfRun m) where
         | inl (ordered, allowed, first, second) ↦
             inl (record { ordered = ordered; legal = allowed; first = first; second = second })
         | inr n ↦ inr (λ c. n (c.ordered, c.legal, c.first, c.second))
+      ]
+
+  put_somewhere :
+      (log : List Collapse) → IsRun m log → (a b : ℕ) → (place : Place) × IsPutBy p m log a b place
+  put_somewhere log run a b =
+      let once = (run-proper m start log run).once in
+      let wanted = wanted_by p m log a b in
+      elim (legal? (surface_after m log) a b wanted once) [
+        | inl legal ↦ (wanted, inl (legal, refl))
+        | inr n ↦ (place_by p m log a b, inr (n, refl))
       ]
 
   key_names :
@@ -57,10 +68,13 @@ module _ (p : Policy) (m : Mesh) (start : IsStartOfRun m) where
       n in
       elim found [
         | inl x ↦
+            let (place, put) = put_somewhere log run x.a x.b in
             inl (
               x.a,
               x.b,
+              place,
               record { candidate = x.is; least = λ c d is. x.least c d (below c d is) is },
+              put,
             )
         | inr none ↦ inr (λ c d is. none c d (below c d is) is)
       ]

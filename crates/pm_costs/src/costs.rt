@@ -28,6 +28,14 @@ pub trait Costs {
         ensures cost { (p : Policy) (m : Mesh) (log : List Entry) → IsAfter m log shrink.now
             → goes_by self.now p m log → result.1 ≡ (key_by p m log a b).cost };
 
+    /// Where a pair of live vertices with this place is put, if it is legal there.
+    fn put(&self, shrink: &Shrink, a: u32, b: u32, place: Point) -> Point
+        requires known { Follows shrink.now (goes_by self.now) }
+        requires a_live { is_live_in shrink.now.surface a ≡ true }
+        requires b_live { is_live_in shrink.now.surface b ≡ true }
+        ensures { (p : Policy) (m : Mesh) (log : List Entry) → IsAfter m log shrink.now
+            → goes_by self.now p m log → result ≡ p.put shrink.now.surface a b place };
+
     /// Goes on over a collapse. The mesh is the one after it.
     fn merged(&mut self, shrink: &Shrink, entry: &Collapse)
         requires known { (p : Policy) × (m : Mesh) × (log : List Entry)

@@ -117,6 +117,13 @@ impl Costs for QuadricTable {
         best_place(&both, shrink.place(a), shrink.place(b))
     }
 
+    fn put(&self, shrink: &Shrink, a: u32, b: u32, place: Point) -> Point {
+        let _ = shrink;
+        let _ = a;
+        let _ = b;
+        place
+    }
+
     fn merged(&mut self, shrink: &Shrink, entry: &Collapse) {
         let _ = shrink;
         self.merge(entry.t, entry.u, entry.s);

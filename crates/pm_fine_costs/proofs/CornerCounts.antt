@@ -24,7 +24,8 @@ use Rattle.pm_base.specs.Sides.{no_corners}
 use Rattle.pm_runs.specs.Planes.{planes_at, plane_of_face, has_corner}
 use Rattle.pm_runs.specs.Surfaces.{Surface, surface_of, net_of_surface}
 use Rattle.pm_shrink.proofs.AllFaces.{net_there}
-use Rattle.pm_fine_costs.specs.FinePolicy.{corner_planes, corners_round, planes_round}
+use Rattle.pm_fine_costs.specs.Corners.{corners_round}
+use Rattle.pm_fine_costs.specs.FinePolicy.{corner_planes, planes_round}
 use Rattle.pm_fine_costs.proofs.TakenLaws.{corner_few, all_few}
 
 filter_counted : (p : ℕ → Bool) (n : ℕ) → length (filter p (range_with_len 0 n)) ≡ count p n

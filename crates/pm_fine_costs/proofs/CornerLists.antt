@@ -13,7 +13,7 @@ use Rattle.pm_base.specs.Sides.{Net, Stands, side_count, stands}
 use Rattle.pm_links.specs.Lists.{has, IsOnce}
 use Rattle.pm_runs.specs.Surfaces.{Surface, net_of_surface}
 use Rattle.pm_shrink.specs.Shrinking.{AreCornersAt}
-use Rattle.pm_fine_costs.specs.FinePolicy.{corners_round}
+use Rattle.pm_fine_costs.specs.Corners.{corners_round}
 
 range_from : (a n e : ℕ) → has (range_with_len a n) e ≡ true → (a ≤ e) × (e < a + n)
 range_from a zero e h = absurd (false≢true h)

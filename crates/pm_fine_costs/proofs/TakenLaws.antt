@@ -21,7 +21,8 @@ use Rattle.pm_fine.specs.Normals.{border_normal_of}
 use Rattle.pm_fine.specs.declared.fine_quadric.TheConstants.{MOST_FINE_PLANES}
 use Rattle.pm_shrink.specs.Shrinking.{Shrinking, net_at, fan_at, AreCornersAt}
 use Rattle.pm_simplify.specs.Walks.{still}
-use Rattle.pm_fine_costs.specs.FinePolicy.{normal_at, corner_planes, corners_round}
+use Rattle.pm_fine_costs.specs.Corners.{normal_at, corners_round}
+use Rattle.pm_fine_costs.specs.FinePolicy.{corner_planes}
 use Rattle.pm_fine_costs.specs.FinePolicy.{planes_round}
 use Rattle.pm_fine_costs.proofs.PlaneSums.{total, total-cons, same_total, plus-assoc, plus-zero}
 use Rattle.pm_fine_costs.proofs.PlaneSums.{zero-plus}

@@ -1,12 +1,11 @@
 -- The policy of a run for the look of what is left: planes weigh by the area of their faces, planes
 -- that stand on the border hold it, points hold flat ground, and a vertex takes the planes round it
 -- when it is made (after Garland and Heckbert 1998 and Lindstrom and Turk 1998).
-use Rattle.std.specs.Prelude.{ℕ, ◌==◌, Bool, cond, ◌&&◌, List, [], ◌∷◌, ◌++◌, is_some}
-use Rattle.std.specs.List.{filter, flat_map}
-use Rattle.pm_base.specs.Counts.{numbers_below}
-use Rattle.pm_base.specs.Geometry.{Direction, cross_of}
+use Rattle.std.specs.Prelude.{ℕ, Bool, cond, List, [], ◌∷◌, ◌++◌, is_some}
+use Rattle.std.specs.List.{flat_map}
+use Rattle.pm_base.specs.Geometry.{Direction}
 use Rattle.pm_base.specs.Meshes.{Mesh}
-use Rattle.pm_base.specs.Sides.{side_count, stands, to, third, prev, twin_of}
+use Rattle.pm_base.specs.Sides.{to, prev, twin_of}
 use Rattle.pm_quadric.specs.Planes.{Plane, plane_through}
 use Rattle.pm_runs.specs.Surfaces.{Surface, surface_of, place_at, net_of_surface}
 use Rattle.pm_runs.specs.Planes.{point_at}
@@ -14,12 +13,8 @@ use Rattle.pm_fine.specs.Normals.{area_normal_of, border_normal_of, halved, doub
 use Rattle.pm_fine.specs.FinePlanes.{point_planes}
 use Rattle.pm_fine.specs.Fourth.{best_fine_place_of}
 use Rattle.pm_policies.specs.Policies.{Policy}
-
--- The normal of the face of a side.
-abbrev pub normal_at : Surface → ℕ → Direction
-normal_at s e =
-    let m = net_of_surface s in
-    cross_of (place_at s (m.from e)) (place_at s (to m e)) (place_at s (third m e))
+use Rattle.pm_fine_costs.specs.Corners.{normal_at, corners_round}
+use Rattle.pm_fine_costs.specs.Volumes.{volume_place}
 
 -- The plane of the face of a corner, through the corner's vertex.
 abbrev pub face_plane : (Direction → Direction) → Surface → ℕ → Plane
@@ -38,12 +33,6 @@ abbrev pub corner_planes : (Direction → Direction) → Surface → ℕ → ℕ
 corner_planes weigh s v e =
     face_plane weigh s e ∷ border_planes weigh s v e ++ border_planes weigh s v (prev e)
 
--- The corners at a vertex, in faces that are there.
-abbrev pub corners_round : Surface → ℕ → List ℕ
-corners_round s v =
-    let m = net_of_surface s in
-    filter (λ e. stands m e && (m.from e == v)) (numbers_below (side_count m))
-
 -- The planes round a vertex.
 unfoldable pub planes_round : (Direction → Direction) → Surface → ℕ → List Plane
 planes_round weigh s v = flat_map (corner_planes weigh s v) (corners_round s v)
@@ -54,11 +43,13 @@ brought_at m v = planes_round halved (surface_of m) v ++ point_planes (point_at 
 
 -- An input vertex brings these. A vertex takes the planes round it when it is made, with normals of
 -- twice the length, so that they weigh sixteen times as much; so do the input's. The place is the
--- best of both ends, the midpoint and the fourth candidate.
+-- best of both ends, the midpoint and the fourth candidate, and a pair is put where the volume is
+-- kept.
 abbrev pub fine_keeping : (ℕ → Bool) → Policy
 fine_keeping kept = record {
   brought = brought_at;
   taken = λ s v. planes_round doubled s v;
   place = λ planes a b. best_fine_place_of planes a b;
+  put = volume_place;
   kept = kept;
 }

@@ -1,3 +1,5 @@
+pub mod Corners
+pub mod Volumes
 pub mod FinePolicy
 pub mod CornerPlanes
 pub mod FineCosts

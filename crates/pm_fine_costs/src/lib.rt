@@ -4,12 +4,15 @@
 #![tactic(auto)]
 
 mod corner;
+mod face_sum;
 mod first;
+mod moved;
 mod pair;
 mod round;
 mod run;
 mod table;
 mod theory;
+mod volume;
 
 pub use run::simplify_fine;
 pub use table::{FineTable, OutOfMemory};

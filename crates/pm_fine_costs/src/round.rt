@@ -13,8 +13,8 @@ use pm_base::Side;
 use pm_fine::FineQuadric;
 use pm_shrink::Shrink;
 
-// A corner of a face that is there.
-fn corner_of(shrink: &Shrink, side: Side) -> Corner
+/// A corner of a face that is there.
+pub(crate) fn corner_of(shrink: &Shrink, side: Side) -> Corner
     requires { Stands (net_at shrink.now) side.0 }
     ensures { result ≡ corner_of shrink.now.surface side.0 }
 {

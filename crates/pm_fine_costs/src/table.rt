@@ -6,6 +6,7 @@ ghost use Rattle.pm_fine_costs.specs.FineCosts.{GoesByFine};
 use crate::first::first_quadrics;
 use crate::pair::BothQuadrics;
 use crate::round::taken_at;
+use crate::volume::volume_place;
 use pm_base::{Collapse, Point};
 use pm_costs::Costs;
 use pm_fine::best_fine_place;
@@ -56,6 +57,11 @@ impl Costs for FineTable {
         let first = self.vertices.get(a);
         let both = first.all.plus(&self.vertices.get(b).all);
         best_fine_place(&both, shrink.place(a), shrink.place(b))
+    }
+
+    /// In O(d) for d faces round the pair.
+    fn put(&self, shrink: &Shrink, a: u32, b: u32, place: Point) -> Point {
+        volume_place(shrink, a, b, place)
     }
 
     /// In O(d) for d faces round the new vertex.

@@ -3,14 +3,17 @@ use Rattle.std.proofs.Common.{◌≡◌, ◌≢◌, ℕ, zero, suc, true, false,
 use Rattle.std.proofs.lemmas.Grind.{common_steps}
 use Rattle.std.proofs.Common.{refl, sym, ap, ◌∙◌, subst, arith}
 use Rattle.std.proofs.lemmas.Bool.{both_ways}
+use Rattle.pm_base.specs.Place.{Place}
 use Rattle.pm_base.specs.declared.log.Collapse.{Collapse}
 use Rattle.pm_base.specs.Meshes.{Mesh}
 use Rattle.pm_queue.proofs.KeyOrder.{before_asym}
+use Rattle.pm_runs.specs.Pairs.{IsLegalPair}
 use Rattle.pm_runs.specs.Steps.{entry_of}
 use Rattle.pm_runs.specs.Counts.{IsSpared}
 use Rattle.pm_runs.specs.Runs.{surface_after, IsStep, AreSteps, IsRun}
 use Rattle.pm_runs.proofs.Logs.{surface_after-nil, surface_after-more}
-use Rattle.pm_policies.specs.Policies.{Policy, place_by, key_by}
+use Rattle.pm_policies.specs.Policies.{Policy, key_by}
+use Rattle.pm_policies.specs.PolicyRuns.{IsCandidateBy, IsPutBy}
 use Rattle.pm_policies.specs.PolicyRuns.{IsLeastPairBy, IsStepBy, IsEndBy, AreStepsBy, IsRunBy}
 use Rattle.pm_policies.specs.Laws as law
 
@@ -39,14 +42,35 @@ module _ (p : Policy) (m : Mesh) where
             ]
       ]
 
+  -- It is put at one place, and is legal there.
+  one_put :
+      (log : List Collapse) (a b : ℕ) (q r : Place) → IsPutBy p m log a b q →
+      IsPutBy p m log a b r → q ≡ r
+  one_put log a b q r (inl x) (inl y) = x.1 ∙ sym y.1
+  one_put log a b q r (inl x) (inr y) = absurd (y.0 x.0)
+  one_put log a b q r (inr x) (inl y) = absurd (x.0 y.0)
+  one_put log a b q r (inr x) (inr y) = x.1 ∙ sym y.1
+
+  pub put_legal :
+      (log : List Collapse) (a b : ℕ) (q : Place) → IsCandidateBy p m log a b →
+      IsPutBy p m log a b q → IsLegalPair (surface_after m log) a b q
+  put_legal log a b q pair (inl x) =
+      subst (IsLegalPair (surface_after m log) a b) (sym x.1) x.0
+  put_legal log a b q pair (inr x) =
+      subst (IsLegalPair (surface_after m log) a b) (sym x.1) pair.legal
+
   one_entry :
       (target : ℕ) (past : List Collapse) (c d : Collapse) → IsStepBy p m target past c →
       IsStepBy p m target past d → c ≡ d
   one_entry target past c d x y =
       let (t, u) = one_least past c.t c.u d.t d.u x.least y.least in
       let s = surface_after m past in
-      x.entry ∙ ap (λ v. entry_of s v c.u (place_by p m past v c.u)) t
-      ∙ ap (λ v. entry_of s d.t v (place_by p m past d.t v)) u ∙ sym y.entry
+      let there : IsPutBy p m past d.t d.u c.place =
+      subst (λ v. IsPutBy p m past d.t v c.place) u
+      (subst (λ v. IsPutBy p m past v c.u c.place) t x.put) in
+      x.entry ∙ ap (λ v. entry_of s v c.u c.place) t ∙ ap (λ v. entry_of s d.t v c.place) u
+      ∙ ap (entry_of s d.t d.u) (one_put past d.t d.u c.place d.place there y.put)
+      ∙ sym y.entry
 
   no_step_at_end :
       (target : ℕ) (past : List Collapse) (c : Collapse) → IsEndBy p m target past →
@@ -79,7 +103,11 @@ module _ (p : Policy) (m : Mesh) where
   step-by :
       (target : ℕ) (past : List Collapse) (c : Collapse) → IsStepBy p m target past c →
       IsStep (surface_after m past) c
-  step-by target past c step = grind (arith, common_steps)
+  step-by target past c step = record {
+    ordered = step.least.candidate.ordered;
+    legal = put_legal past c.t c.u c.place step.least.candidate step.put;
+    entry = step.entry;
+  }
 
   steps-by :
       (target : ℕ) (past cs : List Collapse) → AreStepsBy p m target past cs →

@@ -5,6 +5,7 @@ use Rattle.std.proofs.Common.{arith}
 use Rattle.std.proofs.lemmas.Grind.{common_steps}
 use Rattle.std.proofs.Common.{◌∙◌, subst}
 use Rattle.std.proofs.lemmas.Bool.{cases_Bool, cond-true, cond-false}
+use Rattle.pm_base.specs.Place.{Place}
 use Rattle.pm_base.specs.declared.log.Collapse.{Collapse}
 use Rattle.pm_base.specs.Meshes.{Mesh}
 use Rattle.pm_quadric.specs.Planes.{Plane}
@@ -20,7 +21,7 @@ use Rattle.pm_keeping.specs.Keeping.{AreStepsKeeping, IsRunKeeping}
 use Rattle.pm_keeping.proofs.KeepingNone.{keeping_none_is_the_run}
 use Rattle.pm_policies.specs.Policies.{Policy, taken_next, taken_from, taken_after, brought_after}
 use Rattle.pm_policies.specs.Policies.{planes_by, pair_planes_by, place_by, key_by, plain_keeping}
-use Rattle.pm_policies.specs.PolicyRuns.{IsCandidateBy, IsLeastPairBy, IsStepBy}
+use Rattle.pm_policies.specs.PolicyRuns.{IsCandidateBy, IsLeastPairBy, IsPutBy, IsStepBy}
 use Rattle.pm_policies.specs.PolicyRuns.{AreStepsBy, IsRunBy}
 use Rattle.pm_policies.specs.Laws as law
 
@@ -105,6 +106,13 @@ module _ (kept : ℕ → Bool) where
       ];
     }
 
+    -- A pair is put at its place.
+    put_same :
+        (log : List Collapse) (a b : ℕ) (q : Place) → IsPutBy policy m log a b q →
+        q ≡ place_of_pair m log a b
+    put_same log a b q (inl x) = x.1 ∙ place_same log a b
+    put_same log a b q (inr x) = x.1 ∙ place_same log a b
+
     module _ (target : ℕ) where
       step_to :
           (past : List Collapse) (c : Collapse) → IsStepBy policy m target past c →
@@ -112,18 +120,25 @@ module _ (kept : ℕ → Bool) where
       step_to past c x = record {
         more = x.more;
         least = least_to past c.t c.u x.least;
-        entry = x.entry ∙ ap (entry_of (surface_after m past) c.t c.u) (place_same past c.t c.u);
+        entry =
+            x.entry
+            ∙ ap (entry_of (surface_after m past) c.t c.u) (put_same past c.t c.u c.place x.put);
       }
 
       step_from :
           (past : List Collapse) (c : Collapse) → IsStepKeeping kept m target past c →
           IsStepBy policy m target past c
       step_from past c x =
-          let place = sym (place_same past c.t c.u) in
+          let place : c.place ≡ place_of_pair m past c.t c.u =
+          ap (λ (e : Collapse). e.place) x.entry in
+          let least = least_from past c.t c.u x.least in
+          let here : c.place ≡ place_by policy m past c.t c.u =
+          place ∙ sym (place_same past c.t c.u) in
           record {
             more = x.more;
-            least = least_from past c.t c.u x.least;
-            entry = x.entry ∙ ap (entry_of (surface_after m past) c.t c.u) place;
+            least = least;
+            put = inl (least.candidate.legal, here);
+            entry = x.entry ∙ ap (entry_of (surface_after m past) c.t c.u) (sym place);
           }
 
       steps_to :

@@ -9,10 +9,11 @@ use Rattle.pm_runs.specs.Steps.{entry_of}
 use Rattle.pm_runs.specs.Runs.{IsStartOfRun, surface_after, IsRun}
 use Rattle.pm_runs.proofs.FacesLeft.{faces-fewer}
 use Rattle.pm_runs.proofs.Logs.{surface_after-more, run-nil, run-more, run-sound, run-proper}
-use Rattle.pm_policies.specs.Policies.{Policy, place_by}
+use Rattle.pm_policies.specs.Policies.{Policy}
 use Rattle.pm_policies.specs.PolicyRuns.{IsRunBy, IsBegunBy}
 use Rattle.pm_policies.specs.Laws as law
 use Rattle.pm_policies.proofs.Building.{runs_by_are_built}
+use Rattle.pm_policies.proofs.OneRun.{put_legal}
 
 module _
     (p : Policy) (m : Mesh) (start : IsStartOfRun m)
@@ -29,19 +30,19 @@ module _
         | inl more ↦
             elim (least? past run) [
               | inr none ↦ (past, next.1 (inr none))
-              | inl (a, b, least) ↦
+              | inl (a, b, place, least, put) ↦
                   let s = surface_after m past in
-                  let place = place_by p m past a b in
                   let c = entry_of s a b place in
                   let pair = least.candidate in
                   let sound = run-sound m start past run in
                   let proper = run-proper m start past run in
-                  let fewer = faces-fewer s sound proper a b place pair.legal.joined in
+                  let legal = put_legal p m past a b place pair put in
+                  let fewer = faces-fewer s sound proper a b place legal.joined in
                   let after = ap face_count_of (surface_after-more m past c) in
                   let run' = run-more m past c run
-                  (record { ordered = pair.ordered; legal = pair.legal; entry = refl }) in
+                  (record { ordered = pair.ordered; legal = legal; entry = refl }) in
                   go target fuel (past ++ c ∷ []) run'
-                  (next.0 c (record { more = more; least = least; entry = refl }))
+                  (next.0 c (record { more = more; least = least; put = put; entry = refl }))
                   (omega (arith, few, fewer, after))
             ]
       ]

@@ -1,6 +1,7 @@
 -- The laws of runs by a policy, each as a statement. `p` is any policy.
 use Rattle.std.specs.Prelude.{◌≡◌, ◌≢◌, ℕ, ◌+◌, ◌-◌, ◌*◌, ◌<◌, ◌≤◌, ◌⊎◌, ◌↔◌, Bool}
 use Rattle.std.specs.Prelude.{true, List, [], ◌∷◌, ◌++◌, length, take}
+use Rattle.pm_base.specs.Place.{Place}
 use Rattle.pm_base.specs.declared.log.Collapse.{Collapse}
 use Rattle.pm_base.specs.Meshes.{Mesh}
 use Rattle.pm_runs.specs.Surfaces.{surface_of, is_live}
@@ -11,7 +12,7 @@ use Rattle.pm_keeping.specs.Keeping.{IsRunKeeping}
 use Rattle.pm_policies.specs.Policies.{Policy, taken_after, brought_after, planes_by}
 use Rattle.pm_policies.specs.Policies.{pair_planes_by, place_by, key_by, plain_keeping, plain}
 use Rattle.pm_policies.specs.PolicyRuns.{IsCandidateBy, IsLeastPairBy, IsStepBy, HasNoCandidateBy}
-use Rattle.pm_policies.specs.PolicyRuns.{IsEndBy, IsRunBy, IsBegunBy}
+use Rattle.pm_policies.specs.PolicyRuns.{IsPutBy, IsEndBy, IsRunBy, IsBegunBy}
 use Rattle.pm_policies.specs.Bounds.{BringsAtMost, most_brought, TakesAtMost, TakesByFaces}
 
 -- What a vertex has at first.
@@ -110,12 +111,14 @@ RunsByAreBuilt =
     ((c : Collapse) → IsStepBy p m target log c → IsBegunBy p m target (log ++ c ∷ [])) ×
     (IsEndBy p m target log → IsRunBy p m target log))
 
--- Some pair is the least, or there is none.
+-- Some pair is the least, and is put somewhere, or there is none.
 abbrev pub HasLeastBy : Policy → Mesh → List Collapse → Type 0
 HasLeastBy p m log =
-    ((a : ℕ) × (b : ℕ) × IsLeastPairBy p m log a b) ⊎ HasNoCandidateBy p m log
+    ((a : ℕ) × (b : ℕ) × (place : Place) × IsLeastPairBy p m log a b
+    × IsPutBy p m log a b place) ⊎ HasNoCandidateBy p m log
 
--- Where it can be said after each run which pair is the least, there is a run to each target.
+-- Where it can be said after each run which pair is the least, and where it is put, there is a run
+-- to each target.
 abbrev pub SomeRunByAPolicy : Type 0
 SomeRunByAPolicy =
     (p : Policy) (m : Mesh) → IsStartOfRun m →

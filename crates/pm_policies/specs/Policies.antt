@@ -1,5 +1,5 @@
--- What a run goes by: which planes a vertex stands for, where a pair is put, and which vertices are
--- kept. From these come the place and the key of a pair.
+-- What a run goes by: which planes a vertex stands for, the place of a pair and where it is put,
+-- and which vertices are kept. From these comes the key of a pair.
 use Rattle.std.specs.Prelude.{ℕ, ◌==◌, Bool, cond, List, [], ◌∷◌, ◌++◌}
 use Rattle.pm_base.specs.Place.{Place}
 use Rattle.pm_base.specs.declared.log.Collapse.{Collapse}
@@ -20,6 +20,8 @@ pub record Policy : Type 0 where
   pub taken : Surface → ℕ → List Plane
   -- The place of a pair, by the planes of both ends and by their places.
   pub place : List Plane → Place → Place → Place
+  -- Where a pair with this place is put, if it is legal there.
+  pub put : Surface → ℕ → ℕ → Place → Place
   -- The vertices that no collapse may take.
   pub kept : ℕ → Bool
 
@@ -64,12 +66,14 @@ key_by p m log a b = record {
 }
 
 -- The policy of the run to a number of faces that keeps these vertices: planes are brought and none
--- is taken, and the place is an end or the midpoint (after Garland and Heckbert 1997).
+-- is taken, the place is an end or the midpoint, and there a pair is put (after Garland and
+-- Heckbert 1997).
 abbrev pub plain_keeping : (ℕ → Bool) → Policy
 plain_keeping kept = record {
   brought = planes_at;
   taken = λ s v. [];
   place = λ planes a b. least_place (squares_of planes) a b;
+  put = λ s a b place. place;
   kept = kept;
 }
 

@@ -5,8 +5,8 @@ ghost use Rattle.pm_base.specs.Meshes.{Mesh};
 ghost use Rattle.pm_base.specs.Sides.{side_count};
 ghost use Rattle.pm_runs.specs.Steps.{entry_of};
 ghost use Rattle.pm_runs.specs.Runs.{surface_after};
-ghost use Rattle.pm_policies.specs.Policies.{Policy, place_by};
-ghost use Rattle.pm_policies.specs.PolicyRuns.{IsCandidateBy};
+ghost use Rattle.pm_policies.specs.Policies.{Policy};
+ghost use Rattle.pm_policies.specs.PolicyRuns.{IsCandidateBy, IsPutBy};
 ghost use Rattle.pm_shrink.specs.Shrinking.{net_at};
 ghost use Rattle.pm_simplify.specs.OnRuns.{IsOnRun};
 ghost use Rattle.pm_simplify.specs.Choices.{IsRight};
@@ -22,9 +22,9 @@ use pm_base::Collapse;
 use pm_costs::Costs;
 use pm_shrink::Shrink;
 
-/// Collapses a pair that may be collapsed, to its place. The pairs that wait for a face at one of
-/// its ends come back to the queue, the edges of the dropped faces leave it, and those at the new
-/// vertex get new keys.
+/// Collapses a pair that may be collapsed, to where it is put. The pairs that wait for a face at
+/// one of its ends come back to the queue, the edges of the dropped faces leave it, and those at
+/// the new vertex get new keys.
 pub(crate) fn collapse<C: Costs>(
     shrink: &mut Shrink,
     costs: &mut C,
@@ -37,7 +37,7 @@ pub(crate) fn collapse<C: Costs>(
         × IsCandidateBy p m log pair.a pair.b }
     requires place { (p : Policy) (m : Mesh) (log : List Entry)
         → IsOnRun shrink.old (C.goes_by costs.old) kept.now p m log
-        → pair.place ≡ place_by p m log pair.a pair.b }
+        → IsPutBy p m log pair.a pair.b pair.place }
     requires room { length edges.old.queue ≡ side_count (net_at shrink.old) }
     requires items { edges.old.waiting.items ≡ side_count (net_at shrink.old) }
     requires heads { 3 * length edges.old.waiting.lists ≡ side_count (net_at shrink.old) }
@@ -51,7 +51,7 @@ pub(crate) fn collapse<C: Costs>(
     ensures noted { AreOnBorder shrink.new.surface edges.new.border }
     ensures entry { (p : Policy) (m : Mesh) (log : List Entry)
         → IsOnRun shrink.old (C.goes_by costs.old) kept.now p m log
-        → result ≡ entry_of (surface_after m log) pair.a pair.b (place_by p m log pair.a pair.b) }
+        → result ≡ entry_of (surface_after m log) pair.a pair.b pair.place }
     ensures goes_on { (p : Policy) (m : Mesh) (log : List Entry)
         → IsOnRun shrink.old (C.goes_by costs.old) kept.now p m log
         → IsOnRun shrink.new (C.goes_by costs.new) kept.now p m (log ++ result ∷ []) }

@@ -74,8 +74,9 @@ loop-shrink-preserved g c =
           (sym pushed) (record {
             on = c.collapse.ensures.goes_on p m log by.on;
             right = c.collapse.ensures.right p m log by.on still;
-            begun = begun_more p m target log s by.on.after by.begun pair.a pair.b least more
-                c.collapse.result entry;
+            begun = begun_more p m target log s by.on.after by.begun pair.a pair.b pair.place least
+                (c.in-Some.ensures.place p m log by.on.after by.on.costs) more c.collapse.result
+                entry;
           });
       room = c.collapse.ensures.room ∙ c.least_pair.ensures.room ∙ i.room ∙ sides;
       items = c.collapse.ensures.items ∙ c.least_pair.ensures.items ∙ i.items ∙ sides;
@@ -131,3 +132,7 @@ collapse-requires-clause-candidate g c =
     let log : List Collapse = c.loop-shrink.log.items in
     let least = c.in-Some.ensures.some p m log by.on.after by.on.costs by.right in
     (p, m, log, by.on, least.candidate)
+
+pub collapse-requires-clause-place : goal.collapse-requires-clause-place
+collapse-requires-clause-place g c =
+    λ p m log on. c.in-Some.ensures.place p m log on.after on.costs

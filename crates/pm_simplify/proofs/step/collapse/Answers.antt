@@ -170,8 +170,8 @@ returns-clause-right g c = λ p m log on right.
     let keys : c.forget-2.new.queue ≡
     forgotten (forgotten c.free_at-2.new.edges.queue entry.left) entry.right =
     c.forget-2.ensures.keys ∙ ap (λ (q : Entries). forgotten q entry.right) c.forget.ensures.keys in
-    right_collapse p m log s c.args.pair.a c.args.pair.b place on.after x.ordered legal
-    (c.requires.place p m log on) entry c.collapse-entry.ensures.entry
+    right_collapse p m log s c.args.pair.a c.args.pair.b place on.after x.ordered legal entry
+    c.collapse-entry.ensures.entry
     c.free_at-2.new.edges.queue c.renew_around.new.queue c.free_at-2.new.edges.waiting freed
     (λ k st from. c.free_at-2.ensures.others (face_of k)
     (c.free_at.ensures.empty k st from))
