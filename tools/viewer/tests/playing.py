@@ -129,7 +129,7 @@ class Films(Page):
         counts = self.play(model("asteroid.obj"), glide)
         self.page.until("film.plays === false")
         self.assertEqual(self.value("film.reel.head.steps"), [[0, 2], [1, 2], [2, 2]])
-        self.assertEqual(self.value("film.reel.nodeCount"), 437)
+        self.assertEqual(self.value("film.reel.nodeCount"), 441)
         self.assertEqual(self.text("frame-said"), "frame 3 of 3, 2/2 of the way")
         self.assertEqual(len(counts), 3)
 
