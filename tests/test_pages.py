@@ -162,9 +162,9 @@ class Pages(unittest.TestCase):
 
     def test_too_many_words_are_told(self) -> None:
         rows = [
-            ({"README.md": 900, "docs/A.md": 44600}, []),
+            ({"README.md": 900, "docs/A.md": 50600}, []),
             ({"README.md": 901}, [("README.md", "901 words are more than 900")]),
-            ({"docs/A.md": 50000, "b.md": 1}, [("all pages", "50001 words are more than 50000")]),
+            ({"docs/A.md": 51500, "b.md": 1}, [("all pages", "51501 words are more than 51500")]),
         ]
         for words, wanted in rows:
             self.assertEqual(list(pages.too_many_words(words)), wanted)
