@@ -6,6 +6,7 @@
     world.py list WORLD LEVEL            prints the paths of a level's tiles, without ending
     world.py parent WORLD NAME [--faces N] [--program PATH]
     world.py check WORLD [--jobs J] [--program PATH]
+    world.py tiles3d WORLD [--out FOLDER] [--levels N] [--program PATH]
 
 INPUT is a height field (an ESRI ASCII grid `.asc`, a binary PGM `.pgm`; a GeoTIFF, an .hgt and the
 like where GDAL is installed) or a mesh (OBJ, PLY, STL); WORLD is a folder, or its world.json.
@@ -27,6 +28,7 @@ from worlds.form import World, WorldFault, read_world
 from worlds.making import Asked, make_world
 from worlds.parents import make_parent
 from worlds.progress import Work
+from worlds.tiles3d import FILE, Export, write_tiles3d
 
 TOP = Path(__file__).resolve().parent.parent
 FACES = 100_000
@@ -69,11 +71,16 @@ def arguments(words: Optional[List[str]] = None) -> argparse.Namespace:
     parent.add_argument("name")
     check = verbs.add_parser("check", help="ask whether all tiles are valid and meet")
     check.add_argument("world", type=Path)
+    exported = verbs.add_parser("tiles3d", help="write OGC 3D Tiles 1.1")
+    exported.add_argument("world", type=Path)
+    exported.add_argument("--out", type=Path, help="else tiles3d in the world's folder")
+    told = "levels of a tile at most, each with half of the faces of the one before"
+    exported.add_argument("--levels", type=positive_whole, default=3, help=told)
     for verb in (build, check):
         verb.add_argument("--jobs", type=positive_whole, default=1, help="processes side by side")
     for verb in (cut, build, parent):
         verb.add_argument("--faces", type=int, default=FACES, help="at most, a tile or a parent")
-    for verb in (build, parent, check):
+    for verb in (build, parent, check, exported):
         verb.add_argument("--program", type=Path, default=TOP / "vdpm", help="another vdpm")
     return parser.parse_args(words)
 
@@ -95,6 +102,14 @@ def built(asked: argparse.Namespace, world: World) -> int:
         return build_world(jobs)
 
 
+def export(asked: argparse.Namespace, world: World) -> str:
+    folder = asked.out or world.folder / "tiles3d"
+    with Work(say) as work:
+        words = Export(world, asked.program.resolve(), folder, asked.levels, work)
+        count = write_tiles3d(words)
+    return f"{folder / FILE}: {count} GLB files, in the input's coordinates, z up"
+
+
 def call(asked: argparse.Namespace) -> None:
     if asked.verb == "cut":
         words = Asked(
@@ -109,6 +124,8 @@ def call(asked: argparse.Namespace) -> None:
     elif asked.verb == "build":
         made = built(asked, world)
         print(f"{made} streams made, {len(world.tiles) - made} were there")
+    elif asked.verb == "tiles3d":
+        print(export(asked, world))
     elif asked.verb == "parent":
         if asked.name not in world.tiles:
             raise WorldFault(f"the world has no tile {asked.name}")

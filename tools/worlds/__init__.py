@@ -5,6 +5,7 @@ tools/world.py is the command; docs/WORLDS.md tells what a world is and how one 
     form        what world.json says, and where a world's files lie
     heights     reads height fields
     rasters     fields that GDAL reads, and fields in degrees
+    inputs      what is cut, in the world's unit
     cutting     which tile each face of a height field belongs to
     soups       which tile each face of a mesh belongs to
     parting     moves faces so that no tile touches itself
@@ -17,5 +18,6 @@ tools/world.py is the command; docs/WORLDS.md tells what a world is and how one 
     fronts      plays scripts on a stream, and tells the border sides of what is shown
     checking    whether the tiles of a world meet
     union       whether tiles are pieces of one manifold
+    tiles3d     writes a world as OGC 3D Tiles
     parents     makes one coarse mesh of several tiles' fronts
 """

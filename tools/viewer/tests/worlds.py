@@ -100,7 +100,7 @@ class Serving(WithWindow):
             self.assertNotIn("t", self.served().showing.tiles)
         self.assertRegex(self.said[0], "1 of .* aren't built, t: .*world.py build .*world`; until")
         self.world.stream(self.world.tiles["t010"]).unlink()
-        with self.assertRaisesRegex(ProgramEnded, "2 of .* aren't built, t010, t: .* build .* first"):
+        with self.assertRaisesRegex(ProgramEnded, "2 of .* aren't built, t010, t: .* first"):
             self.served()
 
     def test_a_script_names_its_tile(self) -> None:

@@ -11,7 +11,8 @@ from mesh_files.reading import read_soup
 
 from ..form import Corners, Place, Tile, World, moved, read_world
 from ..fronts import run
-from ..making import Asked, make_world
+from ..inputs import Asked
+from ..making import make_world
 from ..parents import make_parent
 
 TOP = Path(__file__).resolve().parent.parent.parent.parent

@@ -118,5 +118,5 @@ class Pieces(WithWorld):
                 check_world(VDPM, world, 1)
             world = self.fin(1, False)
             build(world, 10)
-            with self.assertRaisesRegex(WorldFault, "both have the side from .* three faces or more"):
+            with self.assertRaisesRegex(WorldFault, "both have the side .* three faces or more"):
                 check_world(VDPM, world, 1)
