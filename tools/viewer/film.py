@@ -224,7 +224,7 @@ def film_page(path: Path, model: Model, flight: bytes, budget: int) -> str:
     page = (PAGE / "film.html").read_text(encoding="utf-8")
     parts = {
         "/*STYLE*/": (PAGE / "style.css").read_text(encoding="utf-8"),
-        "/*SCRIPT*/": bundled(PAGE, "film"),
+        "/*SCRIPT*/": bundled(PAGE / "film.js"),
         "FRAMES": base64.b64encode(packed(model, reel)).decode("ascii"),
     }
     for mark, text in parts.items():

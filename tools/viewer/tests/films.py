@@ -78,20 +78,32 @@ class Packing(Case):
 
 class Bundling(Case):
     def test_modules_stand_after_those_that_they_need(self) -> None:
-        order = in_order(PAGE, "film")
+        order = [module.stem for module in in_order(PAGE / "film.js")]
         self.assertEqual(order[-1], "film")
         self.assertLess(order.index("matrices"), order.index("camera"))
         self.assertLess(order.index("layout"), order.index("shaders"))
         self.assertEqual(len(order), len(set(order)))
-        self.assertNotIn("\nimport ", bundled(PAGE, "film"))
+        self.assertNotIn("\nimport ", bundled(PAGE / "film.js"))
 
     def test_a_module_gives_what_it_exports(self) -> None:
-        text = 'import { a } from "./one.js";\nimport * as two from "./two.js";\n'
+        text = 'import { a, e as f } from "../o/one.mjs";\nimport * as two from "./two.js";\n'
         text += "export const b = a;\nexport class C {}\nconst d = 1;\n"
+        text += 'export { g, h } from "./four.js";\n'
         self.assertEqual(wrapped("three", text), (
-            "const threeModule = (() => {\nconst { a } = oneModule;\nconst two = twoModule;\n"
-            "const b = a;\nclass C {}\nconst d = 1;\nreturn { b, C };\n})();\n"
+            "const threeModule = (() => {\nconst { a, e: f } = oneModule;\nconst two = twoModule;\n"
+            "const b = a;\nclass C {}\nconst d = 1;\n"
+            "return { b, C, g: fourModule.g, h: fourModule.h };\n})();\n"
         ))
+
+    def test_modules_of_one_name_are_refused(self) -> None:
+        folder = self.folder()
+        (folder / "one.mjs").write_text("export const a = 1;\n", encoding="utf-8")
+        (folder / "inner").mkdir()
+        (folder / "inner/one.js").write_text('import { a } from "../one.mjs";\n', encoding="utf-8")
+        with self.assertRaisesRegex(CantBundle, "the name one"):
+            bundled(folder / "inner/one.js")
+
+    def test_other_forms_are_refused(self) -> None:
         for other in ("export default 1;\n", 'import one from "./one.js";\n', "export { a };\n"):
             with self.assertRaises(CantBundle):
                 wrapped("four", other)
