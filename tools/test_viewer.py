@@ -14,7 +14,7 @@ from browser import NAMES
 TOOLS = Path(__file__).resolve().parent
 SUBJECTS = (
     "programs", "models", "serving", "films", "looking", "controls", "settings", "following",
-    "gliding", "judging", "keeping", "playing", "arrays", "libraries", "worlds",
+    "gliding", "judging", "keeping", "playing", "arrays", "libraries", "worlds", "alone",
 )
 NO_BROWSER = "no Chromium"
 

@@ -14,7 +14,10 @@
     websocket   the server's end of the line over which scripts come
     hierarchy   reads a stream, for films
     film        a page that needs no server
-    bundle      modules of the page as one script, for films
+    alone       the window as a page that needs no server
+    module      the engine as a WebAssembly module, for that page
+    bundle      modules of a page as one script
     page/       what runs in the browser
+    alone_page/ what the page without a server has beside that
     tests/      the tests; tools/test_viewer.py runs them
 """

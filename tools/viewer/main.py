@@ -2,14 +2,18 @@
 
     ./viewer MODEL [--open] [--budget N] [--memory MB] [--program PATH] [--library] [--port P]
     ./viewer --film FLIGHT MODEL [--budget N] [--program PATH] > film.html
+    ./viewer --page [MODEL] [--module FILE] > page.html
 
 MODEL is a stream; or an OBJ file, which `simplify` builds first, after `prepare` where it isn't
 fit; or the world.json of a world of tiles (docs/WORLDS.md). The page's address is printed, and
 --open opens it; Ctrl-C ends all. With --film the script FLIGHT is played, and its frames are
-written as one page that needs no server. Needs Python 3.8 and a browser with WebGL 2, and no
+written as one page that needs no server. With --page the window itself is written as one page
+that needs no server: it shows MODEL, or what is dropped on it, by the engine as a WebAssembly
+module, which FILE has or else is built. Needs Python 3.8 and a browser with WebGL 2, and no
 network.
 
-Ends with status 1 where the model can't be had, or the program can't be started or ends early.
+Ends with status 1 where the model or the module can't be had, or the program can't be started or
+ends early.
 """
 import argparse
 import signal
@@ -20,9 +24,11 @@ from pathlib import Path
 from types import FrameType
 from typing import List, Optional, Union
 
+from .alone import page_of
 from .film import BadFlight, film_page
 from .library import NOT_BUILT, TO_BUILD, built_library
 from .model import Model, Programs, model_of, tell
+from .module import NoModule, module_of
 from .program import ALL_MOVES, ProgramEnded
 from .server import Server, is_budget
 from .showing import Showing
@@ -45,7 +51,7 @@ def arguments(words: Optional[List[str]] = None) -> argparse.Namespace:
         description="Shows a mesh in the browser, refined for where the camera looks.",
     )
     add = parser.add_argument
-    add("model", type=Path, help="a stream, an OBJ file, or a world.json")
+    add("model", type=Path, nargs="?", help="a stream, an OBJ file, or a world.json")
     add("--open", action="store_true", help="open the page in the browser")
     add("--budget", type=budget_of, default=ALL_MOVES, help="splits and collapses a view may make")
     add("--program", type=Path, default=TOP / "vdpm", help="vdpm, if not this repository's")
@@ -53,7 +59,12 @@ def arguments(words: Optional[List[str]] = None) -> argparse.Namespace:
     add("--memory", type=int, default=MEMORY, help="megabytes that a world's open tiles may take")
     add("--port", type=int, default=0, help="a free one is taken where none is given")
     add("--film", type=Path, metavar="FLIGHT", help="write a page that plays this script")
-    return parser.parse_args(words)
+    add("--page", action="store_true", help="write the window as a page that needs no server")
+    add("--module", type=Path, metavar="FILE", help="the page's engine, if not the one built here")
+    asked = parser.parse_args(words)
+    if asked.model is None and not asked.page:
+        parser.error("a model is needed, but for --page")
+    return asked
 
 
 def programs_of(vdpm: Path) -> Programs:
@@ -93,6 +104,20 @@ def write_film(asked: argparse.Namespace) -> None:
         sys.exit(f"viewer: {asked.film}: {fault}")
     sys.stdout.write(page)
     tell(f"{len(page):,} bytes")
+
+
+def write_page(asked: argparse.Namespace) -> None:
+    if asked.model is not None and asked.model.name == WORLD:
+        sys.exit("viewer: a page shows one model, and not a world")
+    if sys.stdout.isatty():
+        sys.exit("viewer: the page goes to standard output: add > page.html")
+    model = loaded(asked) if asked.model else None
+    try:
+        page = page_of(module_of(asked.module), model)
+    except NoModule as why:
+        sys.exit(f"viewer: {why}")
+    sys.stdout.write(page)
+    tell(f"{len(page.encode()):,} bytes")
 
 
 def showing_for(asked: argparse.Namespace) -> Union[Showing, WorldShowing]:
@@ -144,7 +169,9 @@ def serve(server: Union[Server, WorldServer], opened: bool) -> None:
 def main() -> None:
     asked = arguments()
     try:
-        if asked.film:
+        if asked.page:
+            write_page(asked)
+        elif asked.film:
             write_film(asked)
         else:
             serve(served(asked), asked.open)

@@ -26,12 +26,14 @@ from .websocket import WebSocket, accepted
 PAGE = Path(__file__).resolve().parent / "page"
 _KINDS = {".html": "text/html", ".css": "text/css", ".js": "text/javascript"}
 FILES = (
-    "index.html", "style.css", "arrays.js", "boot.js", "camera.js", "cells.js", "connection.js",
-    "controls.js", "faults.js", "folding.js", "follower.js", "front.js", "glides.js",
-    "hierarchy.js", "keeping.js", "late.js", "layout.js", "leaving.js", "main.js", "matrices.js",
-    "mesh.js", "normals.js", "obj.js", "panel.js", "picking.js", "renderer.js", "replies.js",
-    "scene.js", "session.js", "shaders.js", "slots.js", "tasks.js", "textures.js", "views.js",
-    "work.js", "worker.js",
+    "index.html", "style.css", "bar.css", "arrays.js", "bar.js", "bends.js", "boot.js",
+    "camera.js", "cells.js", "connection.js", "controls.js", "coordinate.js", "fault.js",
+    "faults.js", "fitting.js", "folding.js", "follower.js", "front.js", "glides.js", "hands.js",
+    "hierarchy.js", "keeping.js", "late.js", "layout.js", "leaving.js", "link.js", "main.js",
+    "matrices.js", "mesh.js", "normals.js", "panel.js", "picking.js", "renderer.js", "replies.js",
+    "scene.js", "session.js", "shaders.js", "shape.js", "slots.js", "steering.js", "surface.js",
+    "tasks.js", "textures.js", "upright.js", "viewer.js", "views.js", "work.js", "worker.js",
+    "working.js", "writers.js",
 )
 Content = Tuple[str, Callable[[], bytes]]  # its kind, and what gives it
 LONGEST_BODY = 1 << 10
@@ -242,7 +244,6 @@ class Handler(Page):
             "about": (JSON, lambda: json.dumps(showing.about()).encode()),
             "stream": (BYTES, lambda: showing.model.stream),
             "colours": (BYTES, lambda: showing.model.colours or b""),
-            "input": (TEXT, showing.input_frame),
             "flight": (TEXT, showing.flight),
         }
         return contents.get(path)

@@ -6,7 +6,7 @@ from typing import Dict, Optional, Union
 from .arrays import parted
 from .library import LibraryProgram, is_proved
 from .model import Model
-from .program import ALL_MOVES, Answer, Program, ProgramEnded, replies_to
+from .program import ALL_MOVES, Answer, Program, ProgramEnded
 
 
 class Showing:
@@ -21,7 +21,6 @@ class Showing:
         self._program: Optional[Union[Program, LibraryProgram]] = self._started(budget)
         self._flight = bytearray()
         self._started_with = budget
-        self._input: Optional[bytes] = None
 
     def _started(self, budget: int) -> Union[Program, LibraryProgram]:
         if self.library is None:
@@ -69,15 +68,6 @@ class Showing:
         `vdpm live` replies the same; and so does `vdpm view` where it knows all the lines."""
         with self._lock:
             return bytes(self._flight)
-
-    def input_frame(self) -> bytes:
-        """The frame text of the input: the front with every record split, by a program of its
-        own."""
-        if self._input is None:
-            splits = "".join(f"s {record}\n" for record in range(self.model.records))
-            replies = replies_to(self.path, self.model.stream, f"{splits}w\n".encode("ascii"), 0)
-            self._input = replies[replies.index(b"frame "):]
-        return self._input
 
     def start(self, budget: int) -> None:
         """Ends the program and starts it anew, at the base mesh, with an empty flight."""

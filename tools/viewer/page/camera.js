@@ -45,6 +45,24 @@ export class Camera {
     this.target = within(plus(plus(this.target, -x * size, right), y * size, up));
   }
 
+  // Comes nearer to a place, or goes away from it, so that it stays where it is in the picture.
+  scaleAbout(place, factor) {
+    this.target = within(plus(place, factor, plus(this.target, -1, place)));
+    this.distance *= factor;
+  }
+
+  // A camera at a part of the way to another one, the shorter way round.
+  towards(other, part) {
+    const between = (a, b) => a + (b - a) * part, whole = 2 * Math.PI;
+    const round = other.yaw - this.yaw - whole * Math.round((other.yaw - this.yaw) / whole);
+    return new Camera({
+      target: this.target.map((c, axis) => between(c, other.target[axis])),
+      distance: Math.exp(between(Math.log(this.distance), Math.log(other.distance))),
+      yaw: this.yaw + round * part, pitch: between(this.pitch, other.pitch),
+      upright: other.upright,
+    });
+  }
+
   nearer(factor, least, most) {
     this.distance = Math.max(least, Math.min(most, this.distance * factor));
   }
@@ -90,11 +108,16 @@ export function viewLine(camera, picture, { tolerance, outline = tolerance, judg
   return [word, ...eye, ...pixels.slice(0, count), ...sides].join(" ");
 }
 
-// The ray through a pixel, counted from the picture's middle to the right and upwards.
-export function rayThrough(camera, focal, x, y) {
+// The direction from the eye through a pixel, counted from the picture's middle to the right and
+// upwards.
+export function wayThrough(camera, focal, x, y) {
   const { right, up, back } = camera.axes();
+  return unit(plus(plus(scaled(x, right), y, up), -focal, back));
+}
+
+// The ray through a pixel, counted the same way.
+export function rayThrough(camera, focal, x, y) {
   const from = within(whole(camera.eye()));
-  const towards = plus(plus(scaled(x, right), y, up), -focal, back);
-  const way = whole(scaled(LARGEST_NORMAL, unit(towards)));
+  const way = whole(scaled(LARGEST_NORMAL, wayThrough(camera, focal, x, y)));
   return { from, way, line: `p ${from.join(" ")} ${way.join(" ")}` };
 }

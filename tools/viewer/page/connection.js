@@ -1,18 +1,12 @@
 // The line to the server: what comes answers what was sent, in order.
 import { arraysOf } from "./arrays.js";
+import { Fault } from "./fault.js";
 
 const HEAD = 20; // bytes before the replies: two times, two numbers of marked fronts, and a size
 
-export const GONE = "The server doesn't answer any more, so ./viewer has ended. "
+const GONE = "The server doesn't answer any more, so ./viewer has ended. "
   + "Start it again, and open the address that it prints.";
-
-// What ended a view: the reason, and what to do about it where the manual knows.
-export class Fault extends Error {
-  constructor(reason, cure = "") {
-    super(reason);
-    this.cure = cure;
-  }
-}
+const gone = () => new Fault(GONE, "", true);
 
 export class Connection {
   constructor() {
@@ -24,20 +18,30 @@ export class Connection {
     this.socket.onclose = () => this.giveUp();
     this.open = new Promise((resolve, reject) => {
       this.socket.onopen = resolve;
-      this.socket.onerror = () => reject(new Fault(GONE));
+      this.socket.onerror = () => reject(gone());
     });
   }
 
   giveUp() {
-    for (const { reject } of this.waiting.splice(0)) reject(new Fault(GONE));
+    for (const { reject } of this.waiting.splice(0)) reject(gone());
   }
+
+  async about() { return (await fetched("about")).json(); }
+
+  async stream() { return (await fetched("stream")).arrayBuffer(); }
+
+  async colours() { return new Uint8Array(await (await fetched("colours")).arrayBuffer()); }
+
+  async flight() { return (await fetched("flight")).text(); }
+
+  async start(budget) { await fetched("start", { method: "POST", body: String(budget) }); }
 
   // The bytes of the replies, the arrays that came with them or null, how many bytes all had, the
   // milliseconds of each part of the way, and the numbers of the fronts that were marked before the
   // script and after it.
   ask(script) {
     return new Promise((resolve, reject) => {
-      if (this.socket.readyState !== WebSocket.OPEN) throw new Fault(GONE);
+      if (this.socket.readyState !== WebSocket.OPEN) throw gone();
       this.waiting.push({ resolve, reject, begun: performance.now() });
       this.socket.send(script);
     });
@@ -63,8 +67,8 @@ export class Connection {
 }
 
 // What stands at an address of the server.
-export async function fetched(path) {
-  const answer = await fetch(path).catch(() => { throw new Fault(GONE); });
+export async function fetched(path, asked = {}) {
+  const answer = await fetch(path, asked).catch(() => { throw gone(); });
   if (!answer.ok) throw new Fault(await answer.text());
   return answer;
 }

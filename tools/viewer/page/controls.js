@@ -10,21 +10,28 @@ const STILL = 4;          // pixels that a click may move
 const ARROWS = { ArrowLeft: [1, 0], ArrowRight: [-1, 0], ArrowUp: [0, 1], ArrowDown: [0, -1] };
 
 // What hands do. `hands` has `camera()`, `focal()`, `nearest()`, `farthest()`, `moved()`,
-// `picked(x, y)`, and by letter the actions of `keys`.
+// `picked(x, y)`, and by letter the actions of `keys`; it may have `zoomed(factor, x, y)`, which
+// goes nearer to a place of the window, and `centred(x, y)`.
 export class Controls {
   constructor(canvas, hands) {
     Object.assign(this, { canvas, hands, fingers: new Map(), way: 0, button: 0 });
-    const on = (name, act, options) => {
-      canvas.addEventListener(name, (event) => act.call(this, event), options);
+    this.leaving = new AbortController();
+    const { signal } = this.leaving;
+    const on = (name, act, options = {}) => {
+      canvas.addEventListener(name, (event) => act.call(this, event), { ...options, signal });
     };
     on("pointerdown", this.press);
     on("pointermove", this.drag);
     on("pointerup", this.release);
     on("pointercancel", this.release);
     on("contextmenu", (event) => event.preventDefault());
+    on("dblclick", (event) => this.hands.centred?.(event.clientX, event.clientY));
     on("wheel", this.wheel, { passive: false });
-    addEventListener("keydown", (event) => this.key(event));
+    addEventListener("keydown", (event) => this.key(event), { signal });
   }
+
+  // Hands do nothing here any more.
+  leave() { this.leaving.abort(); }
 
   turn(x, y) {
     this.hands.camera().turn(-x, y);
@@ -36,7 +43,12 @@ export class Controls {
     this.hands.moved();
   }
 
-  nearer(factor) {
+  // Nearer to a place of the window; without one, to what is looked at.
+  nearer(factor, at = null) {
+    if (at !== null && this.hands.zoomed) {
+      this.hands.zoomed(factor, at.x, at.y);
+      return;
+    }
     this.hands.camera().nearer(factor, this.hands.nearest(), this.hands.farthest());
     this.hands.moved();
   }
@@ -59,7 +71,7 @@ export class Controls {
     const after = this.spread();
     if (after !== null) {
       this.move(after.x - before.x, after.y - before.y);
-      this.nearer(before.size / after.size);
+      this.nearer(before.size / after.size, after);
     } else if (this.button !== 0 || event.shiftKey) {
       this.move(x, y);
     } else {
@@ -83,7 +95,8 @@ export class Controls {
   wheel(event) {
     event.preventDefault();
     const pixels = event.deltaY * (event.deltaMode === WheelEvent.DOM_DELTA_LINE ? LINE : 1);
-    this.nearer(Math.exp(Math.max(-200, Math.min(200, pixels)) * WHEEL));
+    const factor = Math.exp(Math.max(-200, Math.min(200, pixels)) * WHEEL);
+    this.nearer(factor, { x: event.clientX, y: event.clientY });
   }
 
   key(event) {

@@ -3,7 +3,8 @@ import { focalOf, homeOf } from "./camera.js";
 import { Controls } from "./controls.js";
 import { showFault } from "./faults.js";
 import { cameraOf, lookOf } from "./flight.js";
-import { Reel, unpacked } from "./reel.js";
+import { unpacked } from "./packed.js";
+import { Reel } from "./reel.js";
 import { NO_FACE, Renderer, watchTheme } from "./renderer.js";
 
 const part = (name) => document.getElementById(name);

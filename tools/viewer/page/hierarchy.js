@@ -33,6 +33,9 @@ class Reader {
     this.places = new Int16Array(3 * count);
     this.vertices = new Uint32Array(count); // of the input, from 1; 0 for a node of several leaves
     this.faceInputs = new Uint32Array(base + 2 * records);
+    this.faceLeaves = new Int32Array(3 * (base + 2 * records));
+    this.firstLeaves = new Int32Array(count); // of the leaves below each node
+    this.leafNodes = new Int32Array(leaves);
     this.low = [Infinity, Infinity, Infinity];
     this.high = [-Infinity, -Infinity, -Infinity];
     this.faces = 0;
@@ -48,18 +51,29 @@ class Reader {
   }
 
   readRoots() {
+    let leaf = 0;
     for (let root = 0; root < this.roots; root++) {
       this.place(root);
-      this.words.skip(1);
+      this.beginAt(root, leaf);
+      leaf += this.words.next();
       this.vertices[root] = this.words.next();
     }
   }
 
   // The three corners of a face, and then its number in the input.
   face(more) {
-    this.words.skip(3);
+    for (let at = 3 * this.faces; at < 3 * this.faces + 3; at++) {
+      this.faceLeaves[at] = this.words.next();
+    }
     this.faceInputs[this.faces++] = this.words.next();
     this.words.skip(more);
+  }
+
+  // The leaves below a node begin with this one. Of the nodes that begin with a leaf the last one
+  // is the leaf itself.
+  beginAt(node, leaf) {
+    this.firstLeaves[node] = leaf;
+    this.leafNodes[leaf] = node;
   }
 
   child(node, parent) {
@@ -72,7 +86,9 @@ class Reader {
 
   record(number) {
     const parent = this.words.next(), node = this.roots + 2 * number;
-    this.words.skip(1);
+    const first = this.firstLeaves[parent];
+    this.beginAt(node, first);
+    this.beginAt(node + 1, first + this.words.next());
     this.child(node, parent);
     this.child(node + 1, parent);
     const sides = this.words.next() === 3 ? 2 : 1;
@@ -86,6 +102,14 @@ export function readHierarchy(buffer) {
   for (let face = 0; face < reader.base; face++) reader.face(0);
   for (let record = 0; record < reader.records; record++) reader.record(record);
   return reader;
+}
+
+// The input itself, as a frame has it: each leaf's node, and all faces with these at their corners.
+export function fullFrame({ faces: count, faceLeaves, leafNodes }) {
+  return {
+    nodes: leafNodes.slice().sort(), faces: Int32Array.from({ length: count }, (_, face) => face),
+    corners: faceLeaves.slice(0, 3 * count).map((leaf) => leafNodes[leaf]),
+  };
 }
 
 // Four bytes for each node: the mean colour of the vertices that it stands for. `colours` has three

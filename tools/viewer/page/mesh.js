@@ -9,13 +9,14 @@
 //
 // What a change takes goes up with what it changes, and not with what is drawn: faces that go late
 // are found by the nodes at their corners, and nothing is made anew for a node or a face.
+import { Bends } from "./bends.js";
 import { cellsOf, cornersAt } from "./cells.js";
 import { Front, check } from "./front.js";
 import { NO_PARENT } from "./hierarchy.js";
 import { Late } from "./late.js";
 import { GLIDE } from "./layout.js";
 import { Leaving } from "./leaving.js";
-import { addNormal, putNormal } from "./normals.js";
+import { putNormal } from "./normals.js";
 import { Marked, Row, Slots } from "./slots.js";
 
 const THERE = -GLIDE; // when a glide began that is over
@@ -34,7 +35,6 @@ export class KeptMesh {
     this.colours = colours && new Uint32Array(colours.buffer, colours.byteOffset, count);
     this.corners = new Int32Array(3 * faces);   // the nodes at a drawn face's corners
     this.uses = new Int32Array(count);          // how many drawn faces have a node
-    this.sums = new Float64Array(3 * count);    // of their normals
     this.goals = new Int32Array(count);         // the front's node to which a node glides
     this.starts = new Float32Array(4 * count);  // where its glide began, and when
     this.touched = { nodes: new Marked(count), faces: new Marked(faces) };
@@ -55,8 +55,8 @@ export class KeptMesh {
     this.faces = new Row(faces);
     this.leaving = new Leaving(count);
     this.late = new Late(count, this.corners);
+    this.bends = new Bends(count, this.corners, this.hierarchy.normals ?? null);
     this.uses.fill(0);
-    this.sums.fill(0);
     const { split, landing, coming, near, touched } = this;
     for (const marked of [split, landing, coming, near, touched.nodes, touched.faces]) {
       marked.clear();
@@ -205,14 +205,13 @@ export class KeptMesh {
     this.faces.remove(face);
   }
 
-  // Counts a face for its nodes and adds its normal to their sums, or takes both off.
+  // Counts a face for its nodes and for the normals there, or takes it off.
   shade(face, sign) {
-    const { corners, normal, sums, uses, touched: { nodes }, hierarchy: { places } } = this;
+    const { bends, corners, normal, uses, touched: { nodes }, hierarchy: { places } } = this;
     const at = 3 * face, a = corners[at], b = corners[at + 1], c = corners[at + 2];
     putNormal(places, 3 * a, 3 * b, 3 * c, normal);
-    addNormal(sums, 3 * a, normal, sign);
-    addNormal(sums, 3 * b, normal, sign);
-    addNormal(sums, 3 * c, normal, sign);
+    if (sign > 0) bends.add(face, normal);
+    else bends.remove(face);
     uses[a] += sign; uses[b] += sign; uses[c] += sign;
     nodes.add(a); nodes.add(b); nodes.add(c);
   }
@@ -280,6 +279,7 @@ export class KeptMesh {
     const { nodes, faces, touched, front, leaving } = this;
     const slots = touched.nodes.standing(nodes);
     const cells = cellsOf(this, touched.nodes.numbers, slots);
+    this.bends.markAround(touched.nodes.numbers, faces.of, touched.faces);
     const corners = cornersAt(this, touched.faces.below(faces.size));
     touched.nodes.clear();
     touched.faces.clear();

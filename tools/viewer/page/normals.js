@@ -1,6 +1,5 @@
-// Normals for smooth shading. A node's is the sum of those of its faces, each as long as its face
-// is large. Places are whole numbers, so sums of 64 bits are exact, and what was added can be taken
-// off again.
+// Normals of faces, and for smooth shading of films those of nodes: a node's is the sum of those of
+// its faces, each as long as its face is large.
 const LONGEST = 32767;
 
 // The normal of the face whose corners' places stand at a, b and c.
@@ -13,14 +12,14 @@ export function putNormal(places, a, b, c, normal) {
   normal[2] = px * qy - py * qx;
 }
 
-export function addNormal(sums, at, normal, sign) {
+function addNormal(sums, at, normal, sign) {
   sums[at] += sign * normal[0];
   sums[at + 1] += sign * normal[1];
   sums[at + 2] += sign * normal[2];
 }
 
 // A sum, brought to one length.
-export function putUnit(sums, at, normals, to) {
+function putUnit(sums, at, normals, to) {
   const x = sums[at], y = sums[at + 1], z = sums[at + 2];
   const size = LONGEST / (Math.sqrt(x * x + y * y + z * z) || 1);
   normals[to] = x * size; normals[to + 1] = y * size; normals[to + 2] = z * size;

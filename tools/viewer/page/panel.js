@@ -1,5 +1,5 @@
-// The settings at the right and the counters at the left.
-import { coordinate } from "./obj.js";
+// The settings of the bar and the drawer, and what is told there.
+import { coordinate } from "./coordinate.js";
 
 const part = (name) => document.getElementById(name);
 export const counted = (n) => n.toLocaleString("en");
@@ -24,18 +24,18 @@ export function settings() {
     judged: chosen("judged"),
     budget: told.budget ?? budgetOf(part("budget")),
     colour: chosen("colour"),
-    upright: isOn("upright") ? "y" : "z",
+    upright: chosen("up"),
     smooth: isOn("smooth"), edges: isOn("edges"), glide: isOn("glide"), freeze: isOn("freeze"),
-    round: isOn("round"), beside: isOn("beside"),
+    round: isOn("round"), beside: isOn("beside"), picks: isOn("picks"),
   };
 }
 
 // What a tolerance is a tolerance of.
 const JUDGED_SAID = {
-  deviation: "How far what is shown may look from the planes of the input's faces: flat ground "
-    + "stays coarse.",
-  distance: "How far each vertex of the input may look from the node that stands for it, on flat "
-    + "ground too.",
+  deviation: "How far the surface may look from the full model's triangles: flat ground stays "
+    + "coarse.",
+  distance: "How far each vertex of the full model may look from the one that stands for it, on "
+    + "flat ground too.",
 };
 
 export function saySettings(now) {
@@ -47,10 +47,11 @@ export function saySettings(now) {
 }
 
 // What is known of the model before anything is drawn.
-export function sayModel({ name, proved, prepared, coloured, budget }) {
+export function sayModel({ name, proved, prepared, coloured, budget, engine }, { upright }) {
+  document.querySelector(`input[name=up][value=${upright}]`).checked = true;
   part("name").textContent = name;
   document.title = name;
-  const notices = proved ? [] : ["not proved on this machine"];
+  const notices = engine ? [engine] : proved ? [] : ["not proved on this machine"];
   if (prepared) notices.push("made fit by prepare");
   part("notice").textContent = notices.join(" · ");
   part("notice").hidden = notices.length === 0;
@@ -61,17 +62,19 @@ export function sayModel({ name, proved, prepared, coloured, budget }) {
 }
 
 // Calls `changed` with the name of a setting that was changed by hand.
-export function watchPanel(changed) {
+export function watchPanel(changed, signal) {
   part("panel").addEventListener("input", ({ target }) => {
     if (target.id === "budget") told.budget = null;
     changed(target.id || target.name);
-  });
-  part("panel").addEventListener("submit", (event) => event.preventDefault());
+  }, { signal });
+  part("panel").addEventListener("submit", (event) => event.preventDefault(), { signal });
 }
 
-// What each button does, by its name.
-export function watchButtons(acts) {
-  for (const [name, act] of Object.entries(acts)) part(name).addEventListener("click", act);
+// What each button does, by its name. A page may be without some of them.
+export function watchButtons(acts, signal) {
+  for (const [name, act] of Object.entries(acts)) {
+    part(name)?.addEventListener("click", act, { signal });
+  }
 }
 
 const press = (name) => () => part(name).click();
@@ -83,7 +86,7 @@ const other = (name) => () => {
 // The keys of switches and colours.
 export const KEYS = {
   f: press("freeze"), e: press("edges"), s: press("smooth"), g: press("glide"), o: press("round"),
-  b: press("beside"), y: press("upright"), d: other("judged"),
+  b: press("beside"), y: other("up"), d: other("judged"),
   1: choose("stone"), 2: choose("depth"), 3: choose("own"), 4: choose("wire"),
 };
 
@@ -92,21 +95,21 @@ let said = "";
 export function sayCounters({ shown, all, left, put, draw, pictures, fronts, mark }) {
   const { moves, times, changes: { nodesCome, nodesGone, facesCome, facesGone } } = shown;
   const rows = [
-    ["nodes", counted(shown.nodeCount)],
-    ["moves", left > 0 ? `${counted(moves)}, ${counted(left)} left` : counted(moves)],
-    ["nodes that changed", `+${counted(nodesCome)}  −${counted(nodesGone)}`],
-    ["faces that changed", `+${counted(facesCome)}  −${counted(facesGone)}`],
-    ["view, change", `${milliseconds(times.view)}, ${milliseconds(times.text)} ms`],
+    ["vertices", counted(shown.nodeCount)],
+    ["splits, collapses", left > 0 ? `${counted(moves)}, ${counted(left)} left` : counted(moves)],
+    ["vertices changed", `+${counted(nodesCome)}  −${counted(nodesGone)}`],
+    ["triangles changed", `+${counted(facesCome)}  −${counted(facesGone)}`],
+    ["refine, diff", `${milliseconds(times.view)}, ${milliseconds(times.text)} ms`],
     ["transfer", `${milliseconds(times.transfer)} ms, ${kilobytes(times.bytes)}`],
-    ["read, taken", `${milliseconds(times.read)}, ${milliseconds(times.take)} ms`],
-    ["put, draw", `${milliseconds(put)}, ${milliseconds(draw)} ms`],
-    ["frames a second", pictures > 2 ? `${pictures}, ${fronts} fronts` : "at rest"],
+    ["decode, apply", `${milliseconds(times.read)}, ${milliseconds(times.take)} ms`],
+    ["upload, draw", `${milliseconds(put)}, ${milliseconds(draw)} ms`],
+    ["frames a second", pictures > 2 ? `${pictures}, ${fronts} updates` : "idle"],
   ];
   const now = JSON.stringify([shown.faceCount, rows, mark]);
   if (now === said) return; // so that nothing is laid out and painted again
   said = now;
   part("faces-said").textContent = counted(shown.faceCount);
-  part("all-said").textContent = `of ${counted(all)} faces`;
+  part("all-said").textContent = `of ${counted(all)} triangles`;
   part("rows").replaceChildren(...rows.map(rowOf));
   part("mark").textContent = mark;
   part("mark").hidden = mark === "";
@@ -117,11 +120,11 @@ export function sayLevel([nodes, faces, split, error, deviation], { scale }, { d
   const length = (units) =>
     (scale ? Number((scale.unit * units).toPrecision(6)) : coordinate(units, digits));
   const rows = [
-    ["nodes", counted(nodes)],
-    ["faces", counted(faces)],
-    ["records split", counted(split)],
-    ["greatest error", length(error)],
-    ["greatest deviation", length(deviation)],
+    ["vertices", counted(nodes)],
+    ["triangles", counted(faces)],
+    ["vertex splits", counted(split)],
+    ["max vertex error", length(error)],
+    ["max surface error", length(deviation)],
   ];
   part("level").replaceChildren(...rows.map(rowOf));
 }
@@ -135,7 +138,7 @@ function made(kind, inside) {
 export const rowOf = (cells) => made("tr", cells.map((cell) => made("td", [cell])));
 
 // The captions of the two halves, where there are two.
-const INPUT_SAID = { unasked: "", asked: "the input is on its way", shown: "the input" };
+const INPUT_SAID = { unasked: "", asked: "the full model is on its way", shown: "full model" };
 export function sayHalves(beside, inputState) {
   part("halves").hidden = !beside;
   part("right-half").textContent = INPUT_SAID[inputState];

@@ -19,7 +19,7 @@ function told(place, { scale }, { digits }) {
 }
 
 export function sentence({ face, input, place }, about, hierarchy) {
-  const mesh = about.prepared ? "the prepared mesh" : "the input";
+  const mesh = about.prepared ? "the prepared mesh" : "the file";
   const at = told(place, about, hierarchy).join("  ");
-  return `Face ${input} of ${mesh} (${face} in the stream), at ${at}`;
+  return `Triangle ${input} of ${mesh} (${face} in the stream), at ${at}`;
 }

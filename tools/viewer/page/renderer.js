@@ -1,7 +1,7 @@
 // Draws the frames that the graphics processor has, from any camera, and the pyramid of a frozen
 // one.
 import { rows } from "./layout.js";
-import { clipMatrix, plus, unit } from "./matrices.js";
+import { clipMatrix, plus, scaled, unit } from "./matrices.js";
 import {
   LINES_FRAGMENT, LINES_VERTEX, MESH_FRAGMENT, MESH_VERTEX, SKY_FRAGMENT, SKY_VERTEX,
 } from "./shaders.js";
@@ -14,6 +14,9 @@ export const NO_FACE = 0xffffffff; // no face has this number
 const MARK = [1, 0.71, 0.33], HIT = [1, 0.3, 0.1, 1];
 const EDGES = 0.62; // how dark edges are
 const NOTHING_GLIDES = -1;
+// Where lights are for who looks: how far to the right, up, and behind the eye.
+const KEY_LIGHT = [-0.75, 0.85, 1], FILL_LIGHT = [1.2, -0.35, 0.55];
+const along = ({ right, up, back }, x, y, z) => plus(plus(scaled(x, right), y, up), z, back);
 
 // What the page is drawn on: the sky, and the faces and edges where edges alone are drawn.
 const DARK = {
@@ -26,9 +29,9 @@ const LIGHT = {
 };
 
 // Calls `take` with the theme of the screen, which is dark or light, now and when it changes.
-export function watchTheme(take) {
+export function watchTheme(take, signal) {
   const light = matchMedia("(prefers-color-scheme: light)");
-  light.addEventListener("change", () => take(light.matches ? LIGHT : DARK));
+  light.addEventListener("change", () => take(light.matches ? LIGHT : DARK), { signal });
   take(light.matches ? LIGHT : DARK);
 }
 
@@ -108,7 +111,9 @@ export class Renderer {
     mesh.bind(at);
     gl.uniformMatrix4fv(at.toClip, false, toClip);
     gl.uniform3fv(at.eye, eye);
-    gl.uniform3fv(at.light, unit(plus(plus(axes.back, 0.9, axes.up), -1.3, axes.right)));
+    gl.uniform3fv(at.light, unit(along(axes, ...KEY_LIGHT)));
+    gl.uniform3fv(at.fill, unit(along(axes, ...FILL_LIGHT)));
+    gl.uniform3fv(at.above, axes.up);
     gl.uniform3fv(at.paper, look.theme.paper);
     gl.uniform3fv(at.ink, look.theme.ink);
     gl.uniform1f(at.now, mesh.glides ? look.now : NOTHING_GLIDES);
@@ -116,8 +121,19 @@ export class Renderer {
     gl.uniform1ui(at.picked, look.picked);
     gl.uniform1i(at.colour, COLOURS[look.colour]);
     gl.uniform1i(at.smoothly, look.smooth ? 1 : 0);
+    gl.uniform1i(at.bent, mesh.isBent ? 1 : 0);
     gl.uniform1f(at.edges, look.edges ? EDGES : 0);
-    gl.drawArrays(gl.TRIANGLES, 0, 3 * mesh.faceCount);
+    this.drawFaces(mesh, look.side ?? 0);
+  }
+
+  // Where a mesh is closed nobody sees a face from behind: `side` is what Surface tells of it.
+  drawFaces({ faceCount }, side) {
+    const { gl, mesh: { at } } = this;
+    gl.uniform1f(at.side, side);
+    if (side !== 0) gl.enable(gl.CULL_FACE);
+    gl.cullFace(side < 0 ? gl.FRONT : gl.BACK);
+    gl.drawArrays(gl.TRIANGLES, 0, 3 * faceCount);
+    gl.disable(gl.CULL_FACE);
   }
 
   // The sides of what a frozen camera sees, from its eye on.
@@ -165,12 +181,14 @@ class Mesh {
     this.gl = gl;
     this.faceCount = 0;
     this.glides = false;
+    this.isBent = false; // whether corners have normals of their own
     this.offset = [0, 0, 0];
     const { RGBA_INTEGER: whole, RGBA: parts } = gl;
     this.textures = {
       places: new Texture(gl, Int16Array, gl.RGBA16I, whole, gl.SHORT),
       normals: new Texture(gl, Int16Array, gl.RGBA16I, whole, gl.SHORT),
       corners: new Texture(gl, Uint32Array, gl.RGBA32UI, whole, gl.UNSIGNED_INT),
+      bends: new Texture(gl, Uint32Array, gl.RGBA32UI, whole, gl.UNSIGNED_INT),
       colours: new Texture(gl, Uint8Array, gl.RGBA8, parts, gl.UNSIGNED_BYTE),
       starts: new Texture(gl, Float32Array, gl.RGBA32F, parts, gl.FLOAT),
     };
@@ -191,7 +209,7 @@ class Mesh {
     for (const { slots, ...cells } of [nodes, faces]) {
       for (const [name, values] of Object.entries(cells)) this.textures[name].change(slots, values);
     }
-    Object.assign(this, { faceCount: drawn, offset, glides: true });
+    Object.assign(this, { faceCount: drawn, offset, glides: true, isBent: true });
   }
 
   bind(at) {

@@ -1,6 +1,5 @@
 // What is asked of the program beside views and rays: another budget, the level of detail, and to
 // be started anew.
-import { GONE } from "./connection.js";
 
 export class Session {
   // `told` is called with each level of detail, and `failed` with what went wrong.
@@ -52,11 +51,10 @@ export class Session {
   async start(budget) {
     this.starts = true;
     try {
-      const answer = await fetch("start", { method: "POST", body: String(budget) });
-      if (!answer.ok) throw new Error(await answer.text());
+      await this.work.ask({ task: "start", budget });
       this.began({ budget, startedWith: budget });
     } catch (fault) {
-      this.failed({ reason: fault instanceof TypeError ? GONE : fault.message, cure: "" });
+      this.failed(fault);
     }
     this.starts = false;
   }

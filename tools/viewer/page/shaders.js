@@ -8,7 +8,8 @@ export const MESH_VERTEX = `#version 300 es
   precision highp sampler2D; precision highp isampler2D; precision highp usampler2D;
   uniform isampler2D places, normals;
   uniform sampler2D starts, colours;
-  uniform usampler2D corners;
+  uniform usampler2D corners, bends;
+  uniform bool bent;        // whether corners have normals of their own
   uniform mat4 toClip;
   uniform vec3 eye;
   uniform float now;        // in seconds; below 0 where nothing glides
@@ -21,6 +22,13 @@ export const MESH_VERTEX = `#version 300 es
   out float depth;
   flat out float isPicked;
   ivec2 cell(int i) { return ivec2(i % ${WIDTH}, i / ${WIDTH}); }
+  // A direction, from where it is on the octahedron that is folded out (bends.js).
+  vec3 direction(uint word) {
+    vec2 p = vec2(word >> 16, word & 65535u) / 32767.5 - 1.0;
+    float z = 1.0 - abs(p.x) - abs(p.y), folded = max(-z, 0.0);
+    p += vec2(p.x >= 0.0 ? -folded : folded, p.y >= 0.0 ? -folded : folded);
+    return normalize(vec3(p, z));
+  }
   void main() {
     int face = gl_VertexID / 3, which = gl_VertexID - 3 * face;
     uvec4 found = texelFetch(corners, cell(face), 0);
@@ -33,7 +41,12 @@ export const MESH_VERTEX = `#version 300 es
     }
     seen = place - eye;
     nearness = vec3(which == 0, which == 1, which == 2);
-    normal = vec3(texelFetch(normals, node, 0).xyz);
+    if (bent) {
+      uvec4 three = texelFetch(bends, cell(face), 0);
+      normal = direction(which == 0 ? three.x : which == 1 ? three.y : three.z);
+    } else {
+      normal = vec3(texelFetch(normals, node, 0).xyz);
+    }
     own = texelFetch(colours, node, 0).rgb;
     depth = float(stands.w) / deepest;
     isPicked = found.w == picked ? 1.0 : 0.0;
@@ -42,7 +55,8 @@ export const MESH_VERTEX = `#version 300 es
 
 export const MESH_FRAGMENT = `#version 300 es
   precision highp float;
-  uniform vec3 light, paper, ink;
+  uniform vec3 light, fill, above, paper, ink;
+  uniform float side;       // 1 of a closed mesh, -1 of one inside out, 0 of one that isn't closed
   uniform int colour;       // 0 stone, 1 by depth, 2 edges alone, 3 the input's
   uniform bool smoothly;
   uniform float edges;
@@ -67,24 +81,36 @@ export const MESH_FRAGMENT = `#version 300 es
     float size = max(max(pixel.x, pixel.y), pixel.z);
     return (1.0 - min(min(away.x, away.y), away.z)) * (1.0 - smoothstep(0.05, 0.8, size));
   }
-  vec3 stone(float tone) {
-    return gl_FrontFacing
-      ? between(vec3(.20, .21, .27), vec3(.66, .59, .50), vec3(1.0, .97, .91), tone)
-      : between(vec3(.16, .10, .12), vec3(.55, .29, .26), vec3(.87, .63, .55), tone);
+  // A colour by the key light, a weaker one from the other side, and what sky and ground reflect.
+  vec3 lit(vec3 base, vec3 n, vec3 v) {
+    vec3 around = mix(vec3(.085, .08, .08), vec3(.20, .22, .25), 0.5 + 0.5 * dot(n, above));
+    vec3 falls = max(0.0, dot(n, light)) * vec3(1.02, .98, .92)
+      + max(0.0, dot(n, fill)) * vec3(.13, .17, .22) + around;
+    float shine = 0.07 * pow(max(0.0, dot(n, normalize(light + v))), 40.0);
+    float rim = 0.10 * pow(1.0 - max(0.0, dot(n, v)), 4.0);
+    return base * (falls + rim) + shine;
+  }
+  // How much a fragment is seen from behind, where the mesh isn't closed. At outlines a smooth
+  // normal turns away before the surface does, so there it counts only from some way on.
+  float behind(float facing) {
+    if (side != 0.0 || gl_FrontFacing) return 0.0;
+    return smoothly ? smoothstep(-0.1, -0.4, facing) : 1.0;
   }
   void main() {
-    vec3 up = smoothly ? normalize(normal) : normalize(cross(dFdx(seen), dFdy(seen)));
-    if (smoothly && !gl_FrontFacing) up = -up;
-    float lit = dot(up, light);
-    float tone = lit > 0.0 ? 0.25 + 0.66 * lit : 0.25 + 0.25 * lit;
+    vec3 v = normalize(-seen), plain = normalize(cross(dFdx(seen), dFdy(seen)));
+    vec3 n = smoothly ? normalize(normal) * (side < 0.0 ? -1.0 : 1.0) : plain;
+    float facing = dot(n, v), back = behind(facing);
+    // A normal that turns away from the eye is taken to lie across the way there.
+    vec3 across = facing < 0.0 ? normalize(n - facing * v) : n;
+    n = normalize(mix(across, smoothly ? -n : n, back));
     float line = edge();
-    vec3 base = colour == 1 ? ramp(depth) : own;
+    vec3 base = colour == 0 ? vec3(.60, .57, .53) : pow(colour == 1 ? ramp(depth) : own, vec3(2.2));
     if (colour == 2) {
-      vec3 drawn = gl_FrontFacing ? ink : mix(ink, vec3(.8, .3, .25), 0.7);
-      shown = vec4(mix(paper * (0.85 + 0.3 * tone), drawn, line * 0.9), 1.0);
+      shown = vec4(mix(paper * (0.85 + 0.2 * dot(n, light)), ink, line * 0.9), 1.0);
     } else {
-      vec3 face = colour == 0 ? stone(tone) : base * (0.35 + 0.75 * tone);
-      shown = vec4(mix(face, face * 0.22, line * edges), 1.0);
+      vec3 dull = mix(vec3(1.0), vec3(.72, .68, .67), back);
+      vec3 face = pow(lit(base * dull, n, v), vec3(1.0 / 2.2));
+      shown = vec4(mix(face, face * 0.25, line * edges), 1.0);
     }
     shown.rgb = mix(shown.rgb, vec3(1.0, .42, .12), 0.75 * isPicked);
   }`;

@@ -22,7 +22,8 @@ export function answerBy(tasks) {
       const answer = await tasks[task](asked);
       postMessage({ number, answer }, handedOver(answer.patch));
     } catch (fault) {
-      postMessage({ number, fault: { reason: fault.message, cure: fault.cure ?? "" } });
+      const { message: reason, cure = "", isLost = false } = fault;
+      postMessage({ number, fault: { reason, cure, isLost } });
     }
   };
 }

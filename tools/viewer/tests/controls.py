@@ -3,10 +3,11 @@ from typing import Callable, Dict
 
 from .pages import HEIGHT, WIDTH, Page
 
-CONTROLS = """[...document.querySelectorAll("#panel input, #panel button, #panel summary, #unhide")]
+CONTROLS = """[...document.querySelectorAll("#panel input, #panel button, #panel summary")]
   .map((it) => it.id || (it.name ? `${it.name}=${it.value}` : it.localName))"""
 DRAWING = "(viewer.draw(performance.now()), viewer.scene.canvas.toDataURL())"
 SOON = 20  # seconds
+IN_MENU = ("save-picture", "save-obj", "save-ply", "save-glb", "copy-link")
 MIDDLE = (WIDTH // 2 - 100, HEIGHT // 2)
 
 
@@ -29,12 +30,15 @@ class Controls(Page):
             "budget": "viewer.session.budget", "judged=distance": asked,
             "judged=deviation": asked, "freeze": "viewer.frozen === null", "colour=depth": drawn,
             "colour=wire": drawn, "colour=stone": drawn, "colour=own": "0", "edges": drawn,
-            "smooth": drawn, "glide": "viewer.set.glide", "beside": drawn, "upright": drawn,
-            "save-flight": "told.textContent", "save-picture": "saved", "save-mesh": "saved",
-            "copy-view": "told.textContent", "home": "0", "round": "0", "hide": "0",
-            "unhide": "0", "summary": "document.querySelector('details').open",
+            "smooth": drawn, "glide": "viewer.set.glide", "beside": drawn, "up=z": drawn,
+            "up=y": drawn, "picks": "viewer.set.picks", "save-flight": "told.textContent",
+            "summary": "saves.open", "save-picture": "saved", "save-obj": "saved",
+            "save-ply": "saved", "save-glb": "saved", "copy-link": "told.textContent",
+            "copy-view": "told.textContent", "home": "0", "round": "0", "unhide": "0",
+            "open-file": "0", "save-page": "0",
         }
         self.assertEqual(sorted(self.value(CONTROLS)), sorted(shown))
+        self.press("#unhide")
         self.value(
             "globalThis.saved = 0; const { click } = HTMLAnchorElement.prototype;"
             " HTMLAnchorElement.prototype.click = () => { saved++; }; 0"
@@ -43,7 +47,7 @@ class Controls(Page):
             if what != "0":
                 with self.subTest(name):
                     self.changes(lambda: self.press_control(name), what)
-        self.page.until("saved === 3", SOON)
+        self.page.until("saved === 5", SOON)
         self.assertTrue(self.value("document.querySelector('[value=own]').disabled"))
 
     def press_control(self, name: str) -> None:
@@ -54,9 +58,11 @@ class Controls(Page):
             x, y = self.place_of(f"#{name}")
             self.page.click(x + 30, y)
         else:
+            if name in IN_MENU and not self.value("saves.open"):
+                self.press("summary")
             self.press(name if name == "summary" else f"#{name}")
 
-    def test_reset_circle_hide_and_settings_by_mouse(self) -> None:
+    def test_fit_turntable_and_drawer_by_mouse(self) -> None:
         self.page.drag(MIDDLE, (MIDDLE[0] + 80, MIDDLE[1]))
         self.settle()
         self.changes(lambda: self.press("#home"), "viewer.camera.yaw")
@@ -65,17 +71,17 @@ class Controls(Page):
         self.page.until("viewer.camera.yaw > 0.55")
         self.press("#round")
         self.settle()
-        self.changes(lambda: self.press("#hide"), "panel.hidden")
-        self.changes(lambda: self.press("#unhide"), "panel.hidden")
+        self.changes(lambda: self.press("#unhide"), "drawer.hidden")
+        self.changes(lambda: self.press("#unhide"), "drawer.hidden")
 
     def test_each_key_that_the_panel_lists(self) -> None:
         listed = "[...document.querySelectorAll('dt')].map((it) => it.textContent).join('; ')"
         self.assertEqual(
             self.value(listed),
-            "drag, arrows; right or Shift drag, Shift arrows; wheel, two fingers, + and -; click; "
-            "F; D; 1 2 3 4; E S G O B Y; R, P, H",
+            "drag, arrows; right or Shift drag, Shift arrows; wheel, two fingers, + and −; "
+            "double click; E, S, O; 1 2 3 4, D; Y, R, P; B, G, F, H",
         )
-        yaw, pitch, target = ("viewer.camera.yaw", "viewer.camera.pitch", "viewer.camera.target[2]")
+        yaw, pitch, target = ("viewer.camera.yaw", "viewer.camera.pitch", "viewer.camera.target[1]")
         for key, what in (
             ("ArrowLeft", yaw), ("ArrowRight", yaw), ("ArrowUp", pitch), ("ArrowDown", pitch),
             ("+", "viewer.camera.distance"), ("-", "viewer.camera.distance"),
@@ -83,7 +89,7 @@ class Controls(Page):
             ("2", "viewer.set.colour"), ("4", "viewer.set.colour"), ("1", "viewer.set.colour"),
             ("e", "viewer.set.edges"), ("s", "viewer.set.smooth"), ("g", "viewer.set.glide"),
             ("b", "viewer.set.beside"), ("y", "viewer.set.upright"), ("r", yaw),
-            ("h", "panel.hidden"), ("h", "panel.hidden"),
+            ("h", "drawer.hidden"), ("h", "drawer.hidden"),
         ):
             with self.subTest(key):
                 if key == "r":
@@ -92,7 +98,7 @@ class Controls(Page):
         self.page.key("3")  # there are no colours
         self.assertEqual(self.value("viewer.set.colour"), "stone")
         self.page.key("p")
-        self.assertEqual(self.page.downloaded("picture.png")[:4], b"\x89PNG")
+        self.assertEqual(self.page.downloaded("asteroid.png")[:4], b"\x89PNG")
         moves = lambda: self.page.key("ArrowUp", shift=True)  # noqa: E731
         self.changes(moves, target)
 
@@ -101,7 +107,7 @@ class Controls(Page):
         drag = lambda: self.page.drag(  # noqa: E731
             MIDDLE, (MIDDLE[0], MIDDLE[1] - 60), shift=True
         )
-        self.changes(drag, "viewer.camera.target[2]")
+        self.changes(drag, "viewer.camera.target[1]")
         self.assertEqual(self.value("viewer.camera.yaw"), yaw)
 
     def test_two_fingers_move(self) -> None:
@@ -130,10 +136,10 @@ class Controls(Page):
     def test_while_moving_the_counters_tell_frames_and_fronts(self) -> None:
         self.page.key("o")
         rows = "document.getElementById('rows').textContent"
-        self.page.until(f"/frames a second\\d+, \\d+ fronts/.test({rows})")
+        self.page.until(f"/frames a second\\d+, \\d+ updates/.test({rows})")
         self.page.key("o")
         self.settle()
-        self.page.until(f"{rows}.includes('at rest')")
-        for word in ("nodes", "moves", "nodes that changed", "faces that changed", "view, change",
-                     "transfer", "read, taken", "put, draw"):
+        self.page.until(f"{rows}.includes('idle')")
+        for word in ("vertices", "splits, collapses", "vertices changed", "triangles changed",
+                     "refine, diff", "transfer", "decode, apply", "upload, draw"):
             self.assertIn(word, self.value(rows))

@@ -10,15 +10,15 @@ from .common import model, program
 from .pages import Page
 from .telling import without_first
 
-# The faces of the textures by number: the places of their corners, and their nodes' normals.
+# The faces of the textures by number: the places of their corners, and the normals there.
 DRAWN = """(() => {
-  const { textures: { places, normals, corners }, faceCount } =
+  const { textures: { places, bends, corners }, faceCount } =
     viewer.scene.renderer.meshes.get("front");
   const faces = [];
   for (let i = 0; i < 4 * faceCount; i += 4) {
     const nodes = [...corners.data.subarray(i, i + 3)];
     const numbers = ({ data }) => nodes.flatMap((n) => [...data.subarray(4 * n, 4 * n + 3)]);
-    faces.push([corners.data[i + 3], numbers(places), numbers(normals)]);
+    faces.push([corners.data[i + 3], numbers(places), [...bends.data.subarray(i, i + 3)]]);
   }
   return faces;
 })()"""
@@ -32,23 +32,29 @@ FLY = """(async (steps, milliseconds) => {
     await new Promise((done) => setTimeout(done, milliseconds));
   }
 })"""
-LONGEST = 32767
+# The normals of a frame's faces, found anew.
+ANEW = """(async (nodes, faces, corners) => {
+  const [{ KeptMesh }, { readHierarchy }, { shapeOf }] = await Promise.all(
+    ["mesh", "hierarchy", "shape"].map((name) => import(`./${name}.js`)));
+  const hierarchy = readHierarchy(await (await fetch("stream")).arrayBuffer());
+  Object.assign(hierarchy, shapeOf(hierarchy));
+  const mesh = new KeptMesh(hierarchy, null);
+  const change = mesh.front.changeTo({ nodes, faces: Int32Array.from(faces), corners });
+  const { faces: patch } = mesh.take(change, null);
+  return [...patch.slots].map((_, i) =>
+    [patch.corners[4 * i + 3], [...patch.bends.subarray(4 * i, 4 * i + 3)]]);
+})"""
+ALIKE = 0.9999  # the cosine of two normals that count as one
 
 
-def normals_of(frame: Frame) -> "Dict[int, Tuple[float, ...]]":
-    """The sums of the normals of the faces at each place in the frame's list, at one length."""
-    sums = {place: [0, 0, 0] for place in range(len(frame.points))}
-    for face in frame.faces:
-        a, b, c = (frame.points[corner] for corner in face)
-        p, q = ([y - x for x, y in zip(a, end)] for end in (b, c))
-        normal = [p[i - 2] * q[i - 1] - p[i - 1] * q[i - 2] for i in range(3)]
-        for corner in face:
-            sums[corner] = [s + n for s, n in zip(sums[corner], normal)]
-    units = {}
-    for place, total in sums.items():
-        size = sum(part * part for part in total) ** 0.5 or 1
-        units[place] = tuple(LONGEST * part / size for part in total)
-    return units
+def direction(word: int) -> Tuple[float, ...]:
+    """The normal that a number of the textures tells (bends.js)."""
+    x, y = ((part / 32767.5) - 1 for part in (word >> 16, word & 65535))
+    z = 1 - abs(x) - abs(y)
+    folded = max(-z, 0.0)
+    x, y = (c - folded if c >= 0 else c + folded for c in (x, y))
+    size = (x * x + y * y + z * z) ** 0.5
+    return x / size, y / size, z / size
 
 
 def remove(lines: List[bytes], place: int) -> List[bytes]:
@@ -67,7 +73,6 @@ class Followed(Page):
         self.assertLessEqual(count, max(wholes, most))
         frame = self.whole()
         del self.answers[-1]
-        normals = normals_of(frame)
         wanted = {
             number: [c for corner in face for c in frame.points[corner]]
             for number, face in zip(frame.numbers, frame.faces)
@@ -75,12 +80,18 @@ class Followed(Page):
         drawn = self.value(DRAWN)
         self.assertEqual({number: places for number, places, _ in drawn}, wanted)
         self.assertEqual(len(drawn), len(wanted))
-        faces = dict(zip(frame.numbers, frame.faces))
-        for number, _, shaded in drawn:
-            units = [part for corner in faces[number] for part in normals[corner]]
-            for ours, theirs in zip(shaded, units):
-                self.assertLessEqual(abs(ours - theirs), 1)
+        self.check_normals(frame, {number: bends for number, _, bends in drawn})
         return count
+
+    def check_normals(self, frame: Frame, drawn: Dict[int, List[int]]) -> None:
+        """The normals that changes kept are those that are found of the frame alone."""
+        corners = [frame.nodes[place] for face in frame.faces for place in face]
+        anew = self.value(f"{ANEW}({frame.nodes}, {frame.numbers}, Int32Array.from({corners}))")
+        self.assertEqual(len(anew), len(drawn))
+        for number, words in anew:
+            for ours, theirs in zip(drawn[number], words):
+                cosine = sum(a * b for a, b in zip(direction(ours), direction(theirs)))
+                self.assertGreater(cosine, ALIKE, number)
 
     def fly(self, steps: int = 12, milliseconds: int = 30) -> None:
         self.value(f"{FLY}({steps}, {milliseconds})")

@@ -66,7 +66,7 @@ class Judging(Page):
             apart, covered = self.value(f"{APART}(20)")
             self.assertLessEqual(apart, 4 + 2)
             self.assertGreater(covered, 0.02)
-        self.value("viewer.home(), 0")
+        self.value("viewer.steering.goHome().then(() => 0)")
         self.choose("distance")
         self.settle()
         self.assertLessEqual(by_deviation, few * self.faces())

@@ -1,9 +1,13 @@
 """What is under a click, and what is kept: flights, pictures, lines and meshes."""
+import json
+import struct
 import subprocess
 from typing import Dict, List
 
 from frames import read_frames
 from frames_to_obj import obj_lines
+from lods.shown import Grid, Level
+from lods.written import WRITERS
 from viewer.program import replies_to
 
 from .common import model, program
@@ -12,6 +16,7 @@ from .pages import Page
 
 class Keeping(Page):
     def test_a_click_tells_the_face_of_the_p_line(self) -> None:
+        self.tick("picks")
         self.page.click(390, 250)
         self.page.until("!document.getElementById('picked').hidden")
         lines = self.value("fetch('flight').then((a) => a.text())").splitlines()
@@ -22,7 +27,7 @@ class Keeping(Page):
         replies = replies_to(program(), looked_at.stream, script).decode()
         _, face, s, q = replies.split("\n", 1)[0].split()
         said = self.text("picked")
-        self.assertRegex(said, rf"^Face \d+ of the input \({face} in the stream\), at ")
+        self.assertRegex(said, rf"^Triangle \d+ of the file \({face} in the stream\), at ")
         [full] = read_frames(replies.splitlines())
         shown = full.faces[full.numbers.index(int(face))]
         self.assertEqual(
@@ -61,37 +66,72 @@ class Keeping(Page):
         self.assertEqual(by_view, by_live)
 
     def test_the_picture_is_a_png(self) -> None:
-        self.value("document.getElementById('save-picture').click()")
-        self.assertEqual(self.page.downloaded("picture.png")[:8], b"\x89PNG\r\n\x1a\n")
+        self.tick("save-picture")
+        self.assertEqual(self.page.downloaded("asteroid.png")[:8], b"\x89PNG\r\n\x1a\n")
 
     def test_the_mesh_is_the_obj_of_the_frame(self) -> None:
-        self.value("document.getElementById('save-mesh').click()")
-        text = self.page.downloaded("mesh.obj").decode()
+        self.tick("save-obj")
+        text = self.page.downloaded(f"asteroid-{self.faces()}.obj").decode()
         lines = list(obj_lines(self.whole(), digits=1))
         self.assertEqual(text.splitlines(), lines)
         canon = [str(program()), "canon", "--digits", "1"]
         done = subprocess.run(canon, input=text.encode(), capture_output=True, check=False)
         self.assertEqual(done.stdout.decode(), text)
 
-    def test_the_line_of_the_view_is_copied(self) -> None:
+    def test_meshes_are_those_of_lod(self) -> None:
+        self.look_at(model("ring_scan.obj"))
+        scale = model("ring_scan.obj").scale
+        assert scale is not None
+        frame = self.whole()
+        grid = Grid(scale.unit, scale.middle)
+        level = Level(frame.points, grid, frame.faces, 0, 0)
+        for name in ("obj", "ply"):
+            self.tick(f"save-{name}")
+            data = self.page.downloaded(f"ring_scan-{self.faces()}.{name}")
+            self.assertEqual(data, WRITERS[name](level), name)
+        self.tick("save-glb")
+        data = self.page.downloaded(f"ring_scan-{self.faces()}.glb")
+        size, told = struct.unpack_from("<II", data, 8)
+        head = json.loads(data[20:20 + told])
+        self.assertEqual((data[:4], size), (b"glTF", len(data)))
+        place, count = head["accessors"][1], len(frame.points)
+        self.assertEqual((place["count"], head["accessors"][0]["count"]), (count, 3 * self.faces()))
+        self.assertEqual(head["buffers"][0]["byteLength"], len(data) - 28 - told)
+        for high, middle in zip(place["max"], scale.middle):
+            self.assertLess(abs(high - middle), 0.61)  # the ring is 1.2 metres wide
+
+    def test_a_link_brings_the_view_back(self) -> None:
+        self.note_copies()
+        self.page.drag((400, 300), (500, 340))
+        self.page.key("e")
+        self.settle()
+        asked = self.asked()
+        self.tick("copy-link")
+        self.page.until("copied.length === 1")
+        link = str(self.value("copied[0]"))
+        self.page.key("e")
+        self.moves(lambda: self.page.key("r"))
+        self.value(f"location.hash = {link.partition('#')[2]!r}, 0")
+        self.page.until(f"viewer.views.asked === {asked!r}")
+        self.assertTrue(self.value("viewer.set.edges"))
+        self.page.go("about:blank")
+        self.page.go(link)
+        self.page.until(f"{self.settled} && viewer.views.asked === {asked!r}")
+
+    def note_copies(self) -> None:
         self.value(
             "globalThis.copied = [];"
             " navigator.clipboard.writeText = async (text) => { copied.push(text); }; 0"
         )
+
+    def test_the_line_of_the_view_is_copied(self) -> None:
+        self.note_copies()
         self.value("document.getElementById('copy-view').click()")
         self.page.until("copied.length === 1")
         self.assertEqual(self.value("copied[0]"), f"{self.asked()}\n")
         view = f"{self.asked()}\nm\n".encode()
         told = replies_to(program(), model("asteroid.obj").stream, view, command="live").decode()
         self.assertEqual(int(told.split()[4 + 1]), self.faces())
-
-    def test_the_settings_can_be_hidden(self) -> None:
-        hidden = "[panel, unhide].map((name) => name.hidden)"
-        self.assertEqual(self.value(hidden), [False, True])
-        self.page.key("h")
-        self.assertEqual(self.value(hidden), [True, False])
-        self.value("unhide.click()")
-        self.assertEqual(self.value(hidden), [False, True])
 
 
 def turned(corners: "List[tuple[int, ...]]") -> "List[tuple[int, ...]]":

@@ -3,8 +3,11 @@ import argparse
 from typing import Callable, List
 
 from flight import planes
+from frames import read_frames
+from viewer.program import replies_to
 
-from .pages import HEIGHT, WIDTH, Page
+from .common import model, program
+from .pages import WIDTH, Page
 
 # How much of a picture isn't the sky: its tones are blue, and those of stone aren't.
 WARM = """((left, width) => {
@@ -27,16 +30,16 @@ class Drawing(Page):
         self.assertEqual(self.faces(), len(frame.faces))
         said = "document.getElementById('faces-said').textContent"
         self.page.until(f"{said} === '{len(frame.faces):,}'")
-        self.assertEqual(self.text("all-said"), "of 6,480 faces")
-        self.assertIn(f"nodes{len(frame.nodes):,}moves{len(frame.nodes) - 4:,}", self.text("rows"))
+        self.assertEqual(self.text("all-said"), "of 6,480 triangles")
+        self.assertIn(f"vertices{len(frame.nodes):,}splits, collapses", self.text("rows"))
         self.assertEqual(self.page.errors(), [])
 
     def test_a_view_has_the_planes_that_flight_has(self) -> None:
         word, *fields = self.asked().split()
         numbers = [int(field) for field in fields]
-        focal = self.value("viewer.picture().focal")
-        target = self.value("viewer.camera.target")
-        asked = argparse.Namespace(at=target, up=(0, 0, 1), focal=focal, width=WIDTH, height=HEIGHT)
+        picture, target = self.value("[viewer.picture(), viewer.camera.target]")
+        focal = picture["focal"]
+        asked = argparse.Namespace(at=target, up=(0, 1, 0), **picture)
         self.assertEqual((word, len(numbers), numbers[3] / numbers[4]), ("vd", 21, focal / 8))
         for place, (a, b, c, _) in enumerate(planes(numbers[:3], asked)):
             normal = numbers[5 + 4 * place:8 + 4 * place]
@@ -64,7 +67,20 @@ class Drawing(Page):
         self.assertGreater(self.value(f"{WARM}({half}, {half})"), 0.1)
         self.assertEqual(self.value("viewer.scene.renderer.meshes.get('input').faceCount"), 6480)
         self.assertEqual(self.value("viewer.picture().width"), WIDTH / 2)
-        self.page.until("document.getElementById('right-half').textContent === 'the input'")
+        self.page.until("document.getElementById('right-half').textContent === 'full model'")
+
+    def test_the_input_of_the_stream_is_the_front_with_all_records_split(self) -> None:
+        looked_at = model("asteroid.obj")
+        nodes, faces, corners = self.value(
+            "Promise.all([import('./hierarchy.js'), fetch('stream').then((a) => a.arrayBuffer())])"
+            ".then(([{ fullFrame, readHierarchy }, stream]) =>"
+            " Object.values(fullFrame(readHierarchy(stream))).map((numbers) => [...numbers]))"
+        )
+        splits = "".join(f"s {record}\n" for record in range(looked_at.records))
+        told = replies_to(program(), looked_at.stream, f"{splits}w\n".encode()).decode()
+        [full] = read_frames(told.splitlines())
+        self.assertEqual((nodes, faces), (full.nodes, full.numbers))
+        self.assertEqual(corners, [full.nodes[place] for face in full.faces for place in face])
 
     def test_missing_graphics_are_told(self) -> None:
         none = "HTMLCanvasElement.prototype.getContext = () => null"
@@ -88,10 +104,7 @@ class Moving(Page):
             lambda: page.key("y"),
         ]
         for act in acts:
-            before = self.asked()
-            act()
-            self.settle()
-            self.assertNotEqual(self.asked(), before)
+            self.moves(act)
         self.assertEqual(self.faces(), len(self.whole().faces))
 
     def test_fingers_turn_and_spread(self) -> None:
@@ -106,8 +119,8 @@ class Moving(Page):
         self.page.touch("touchStart", (300, 300), (400, 300))
         self.page.touch("touchMove", (250, 300), (450, 300))
         self.page.touch("touchEnd")
+        self.page.until(f"{distance} < 0.6 * {near}")
         self.settle()
-        self.assertLess(self.value(distance), 0.6 * near)
 
     def test_the_slow_circle_goes_on_and_requests_do_not_pile_up(self) -> None:
         self.page.key("o")

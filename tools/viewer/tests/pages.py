@@ -2,7 +2,7 @@
 import atexit
 import unittest
 from functools import lru_cache
-from typing import Any, List, Tuple
+from typing import Any, Callable, List, Tuple
 
 from browser import Browser, found
 from frames import Frame, read_frames
@@ -12,6 +12,7 @@ from viewer.program import ALL_MOVES, Answer
 from .common import Case, model
 
 WIDTH, HEIGHT = 760, 480
+COARSE = 12  # of the slider of tolerances
 
 
 @lru_cache(maxsize=None)
@@ -34,8 +35,8 @@ class Page(Case):
         self.look_at(model("asteroid.obj"))
 
     def look_at(self, looked_at: Model, budget: int = ALL_MOVES, drawn: float = 0.2) -> None:
-        """Loads the page of a model; so many pixels are drawn for each, as it is done by software
-        here."""
+        """Loads the page of a model, and lets it be off by 8 pixels; so many are drawn for each, as
+        it is done by software here."""
         self.server = self.served(looked_at, budget)
         self.answers: List[Answer] = []
         ask = self.server.showing.ask
@@ -47,6 +48,8 @@ class Page(Case):
         setattr(self.server.showing, "ask", noted)
         self.page.told.clear()
         self.page.go(f"{self.server.address}?sharpness={drawn}")
+        self.page.until(self.settled)
+        self.slide("tolerance", COARSE)
         self.page.until(self.settled)
 
     def value(self, text: str) -> Any:
@@ -78,6 +81,17 @@ class Page(Case):
             " return [r.left + r.width / 2, r.top + r.height / 2]; })()"
         )
         return float(x), float(y)
+
+    def tick(self, name: str) -> None:
+        """Clicks on an element by its name, whether it is seen or not."""
+        self.value(f"document.getElementById('{name}').click()")
+
+    def moves(self, act: Callable[[], None]) -> None:
+        """After the act another view is asked for, and shown."""
+        before = self.asked()
+        act()
+        self.page.until(f"viewer.views.asked !== {before!r}")
+        self.settle()
 
     def press(self, chosen: str) -> None:
         """Clicks with the mouse on what is seen of an element."""

@@ -14,14 +14,14 @@ from pathlib import Path
 from typing import Any, Dict, List, Optional, Tuple
 
 from browser import PATIENCE, Line
-from viewer.program import ALL_MOVES, Answer, replies_to
+from viewer.program import ALL_MOVES, Answer
 from viewer.server import FILES, PAGE, Server
 
 from .common import STREAM, TOP, Case, model, program
 
 HEAD = 20  # bytes of numbers before the replies
 # What plays a film is in the same folder, and isn't served.
-OF_FILMS = {"film.html", "film.js", "flight.js", "reel.js"}
+OF_FILMS = {"film.html", "film.js", "flight.js", "packed.js", "reel.js"}
 
 
 class Serving(Case):
@@ -136,10 +136,8 @@ class Serving(Case):
             time.sleep(0.1)
         self.assertEqual(said.getvalue(), "")
 
-    def test_the_stream_and_the_input_are_there(self) -> None:
+    def test_the_stream_and_what_is_told_of_it_are_there(self) -> None:
         self.assertEqual(self.asked(f"{self.root}stream"), (200, STREAM.read_bytes()))
-        told = replies_to(program(), STREAM.read_bytes(), b"s 0\ns 1\nw\n")
-        self.assertEqual(self.asked(f"{self.root}input"), (200, told[told.index(b"frame"):]))
         about = json.loads(self.asked(f"{self.root}about")[1])
         self.assertEqual((about["name"], about["coloured"]), ("octahedron.vdpm", False))
 

@@ -1,11 +1,14 @@
 """What the settings of the page do, and what is told where something fails."""
 import os
 import signal
+import subprocess
+import sys
+from subprocess import DEVNULL, PIPE
 
 from frames import read_frames
 from viewer.program import replies_to
 
-from .common import model, program
+from .common import STREAM, TOP, model, program
 from .pages import HEIGHT, WIDTH, Page
 
 
@@ -70,8 +73,8 @@ class Detail(Page):
             self.settle()
             words = self.server.showing.ask("l\n").text.decode().split()
             nodes, faces, split, error, deviation = (int(word) for word in words[1:])
-            said = f"nodes{nodes:,}faces{faces:,}records split{split:,}"
-            said += f"greatest error{error / 10:.1f}greatest deviation{deviation / 10:.1f}"
+            said = f"vertices{nodes:,}triangles{faces:,}vertex splits{split:,}"
+            said += f"max vertex error{error / 10:.1f}max surface error{deviation / 10:.1f}"
             self.assertEqual(self.text("level"), said)
             self.assertEqual(faces, self.faces())
 
@@ -117,23 +120,27 @@ class Detail(Page):
 
 
 class Folding(Page):
-    hidden = "[panel, unhide].map((name) => name.hidden)"
+    hidden = "[drawer.hidden, getComputedStyle(tools).display === 'none']"
 
-    def resize(self, width: int, height: int) -> None:
-        self.page.resize(width, height)
-        self.page.until(f"innerWidth === {width} && {self.settled}")
+    def test_the_drawer_is_shut_until_its_button_or_key_is_pressed(self) -> None:
+        self.assertEqual(self.value(self.hidden), [True, False])
+        for act in (lambda: self.page.key("h"), lambda: self.press("#unhide")):
+            for shown in (True, False):
+                act()
+                self.assertEqual(self.value(self.hidden), [not shown, False])
+                self.assertEqual(self.value("unhide.ariaExpanded"), str(shown).lower())
 
-    def test_in_a_narrow_window_settings_are_folded_until_their_button_is_pressed(self) -> None:
+    def test_in_a_narrow_window_the_tools_come_with_the_drawer(self) -> None:
         self.addCleanup(self.page.resize, WIDTH, HEIGHT)
-        for width, height in ((390, 844), (700, 480), (720, 900)):
+        for width, height in ((390, 844), (720, 900)):
             self.page.resize(width, height)
             self.look_at(model("asteroid.obj"))
-            self.assertEqual(self.value(self.hidden), [True, False])
+            self.assertEqual(self.value(self.hidden), [True, True])
+            self.assertLessEqual(self.value("bar.scrollWidth"), width)
             self.press("#unhide")
             self.assertEqual(self.value(self.hidden), [False, False])
-            self.assertEqual(self.text("unhide"), "Close")
             top, bottom = self.value(
-                "(({ top, bottom }) => [top, bottom])(panel.getBoundingClientRect())"
+                "(({ top, bottom }) => [top, bottom])(drawer.getBoundingClientRect())"
             )
             self.assertGreater(top, height / 2)
             self.assertLessEqual(bottom, height)
@@ -141,13 +148,15 @@ class Folding(Page):
             self.settle()
             self.assertTrue(self.asked().startswith("v "))
             self.press("#unhide")
-            self.assertEqual(self.value(self.hidden), [True, False])
+            self.assertEqual(self.value(self.hidden), [True, True])
 
-    def test_settings_fold_as_a_window_becomes_narrow(self) -> None:
+    def test_a_model_that_is_seen_whole_stays_so(self) -> None:
         self.addCleanup(self.page.resize, WIDTH, HEIGHT)
-        for width, hidden in ((721, [False, True]), (720, [True, False]), (900, [False, True])):
-            self.resize(width, HEIGHT)
-            self.assertEqual(self.value(self.hidden), hidden)
+        before = self.value("viewer.camera.distance")
+        self.page.resize(WIDTH // 2, HEIGHT)
+        self.page.until(f"viewer.camera.distance > 1.2 * {before} && {self.settled}")
+        self.page.resize(WIDTH, HEIGHT)
+        self.page.until(f"viewer.camera.distance === {before} && {self.settled}")
 
 
 class Failing(Page):
@@ -170,7 +179,12 @@ class Failing(Page):
         self.assertIn("one space between fields", self.text("fault-cure"))
 
     def test_a_server_that_is_gone_is_told(self) -> None:
-        self.value("globalThis.fetch = () => Promise.reject(new TypeError()); 0")
+        words = [sys.executable, str(TOP / "viewer"), str(STREAM), "--program", str(program())]
+        with subprocess.Popen(words, stdout=PIPE, stderr=DEVNULL, text=True) as window:
+            assert window.stdout is not None
+            self.page.go(window.stdout.readline().split()[1])
+            self.page.until(self.settled)
+            window.kill()
         self.value("viewer.restart(), 0")
         self.page.until("!document.getElementById('fault').hidden")
         self.assertIn("./viewer has ended", self.text("fault-reason"))

@@ -34,7 +34,7 @@ class WorldViewer {
   constructor(canvas) {
     this.canvas = canvas;
     this.renderer = new Renderer(canvas);
-    this.work = new Work("world_worker.js");
+    this.work = new Work(new Worker("world_worker.js", { type: "module" }));
     const failed = (fault) => this.fail(fault);
     this.glides = new Glides({ land: (name) => this.land(name), failed });
     Object.assign(this, { set: settings(), saidAt: 0, dirty: true, ended: false });

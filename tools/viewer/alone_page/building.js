@@ -1,0 +1,87 @@
+// From an OBJ text to a stream, by the engine in this worker, as tools/viewer/model.py goes from a
+// file to one: the text as it stands with the least number of decimals that it allows; where it
+// isn't fit, what `prepare` makes of it. A file that is a stream already is taken as it is.
+import { Fault } from "../page/fault.js";
+import { Fault as TextFault } from "../../wasm/faults.mjs";
+import { colouredVertices, packed, packedByPlace } from "./colours.js";
+import { MAGIC, otherKind } from "./kinds.js";
+
+const MOST_DIGITS = 4, TOO_MANY_DECIMALS = 5, TOO_MUCH = 9, NO_FACE = 12;
+const FIRST_LINE = 256; // bytes that have the first line of a prepared text
+
+// What a fault of a text says, and what to do about it, by the manual's words for its number.
+function toldOf({ number, place }, words) {
+  if (number === NO_FACE) {
+    return new Fault("This file has no triangles that could be shown.",
+      "What to do: see whether it is an OBJ file with faces, and no point cloud.");
+  }
+  if (number === TOO_MUCH) {
+    return new Fault("This file has more than 1,048,576 triangles or vertices, or more than 1 GB.",
+      "What to do: simplify it before, or cut it into tiles, as docs/WORLDS.md tells.");
+  }
+  const [what, cure] = words[number] ?? [`has fault ${number}`, ""];
+  const where = place === null ? "The file" : `Line ${place.toLocaleString("en")}`;
+  return new Fault(`${where} ${what}.`, cure && `What to do: ${cure}.`);
+}
+
+// What a file's stream is, and what is known of it: { stream, colours, known }.
+export function built(engine, bytes, { step, words }) {
+  if (MAGIC.every((byte, at) => bytes[at] === byte)) {
+    return { stream: bytes, colours: null, known: { prepared: false, scale: null, notes: [] } };
+  }
+  const kind = otherKind(bytes);
+  if (kind !== null) {
+    throw new Fault(`This is ${kind}, and OBJ files are what is read here.`,
+      "What to do: open it in a program as Blender, MeshLab or assimp, and export it as OBJ.");
+  }
+  const vertices = colouredVertices(bytes);
+  try {
+    step("simplify");
+    return asItStands(engine, bytes, vertices) ?? prepared(engine, bytes, vertices, step);
+  } catch (fault) {
+    throw fault instanceof TextFault ? toldOf(fault, words) : fault;
+  }
+}
+
+// Whether a stream has no face: after its version, and its digits if that is 2, and the numbers of
+// leaves and roots come those of base faces and records.
+function isEmpty({ buffer, byteOffset }) {
+  const view = new DataView(buffer, byteOffset), counts = view.getUint32(4, true) === 2 ? 12 : 8;
+  return view.getUint32(counts + 8, true) + view.getUint32(counts + 12, true) === 0;
+}
+
+// What is built of a text as it stands; null where it isn't fit for that.
+function asItStands(engine, bytes, vertices) {
+  for (let digits = 0; digits <= MOST_DIGITS; digits++) {
+    try {
+      const stream = engine.simplify(bytes, { digits });
+      if (isEmpty(stream)) break;
+      const known = { prepared: false, scale: null, notes: [] };
+      return { stream, colours: vertices && packed(vertices), known };
+    } catch (fault) {
+      if (!(fault instanceof TextFault)) throw fault;
+      if (fault.number !== TOO_MANY_DECIMALS) break;
+    }
+  }
+  return null;
+}
+
+function prepared(engine, bytes, vertices, step) {
+  step("prepare");
+  const { text, notes } = engine.prepare(bytes);
+  const scale = scaleOf(new TextDecoder().decode(text.subarray(0, FIRST_LINE)));
+  const colours = vertices && packedByPlace(vertices, text, scale);
+  step("simplify");
+  return { stream: engine.simplify(text), colours, known: { prepared: true, scale, notes } };
+}
+
+const SCALED = /^# coordinate = (\S+) \/ (\d+) \* place \+ \((\S+) (\S+) (\S+)\)/;
+
+// How places of a prepared mesh lead back to the file's own, by its first line; null where they
+// are these.
+function scaleOf(text) {
+  const found = SCALED.exec(text);
+  if (found === null) return null;
+  const [extent, parts, ...middle] = found.slice(1).map(Number);
+  return { unit: extent / parts, middle };
+}

@@ -1,0 +1,36 @@
+// The page with the model in it, as one file.
+import { download } from "../page/keeping.js";
+import { toldOf } from "../page/link.js";
+import { tell } from "../page/panel.js";
+
+const PIECE = 1 << 16; // bytes that are packed at once
+
+// The page as it was written, before anything of it was changed.
+export const ownPage = () => document.documentElement.cloneNode(true);
+
+async function packed(parts) {
+  const stream = new Blob(parts).stream().pipeThrough(new CompressionStream("deflate"));
+  const bytes = new Uint8Array(await new Response(stream).arrayBuffer()), letters = [];
+  for (let at = 0; at < bytes.length; at += PIECE) {
+    letters.push(String.fromCharCode(...bytes.subarray(at, at + PIECE)));
+  }
+  return btoa(letters.join(""));
+}
+
+// The model as model.js reads it, with the view that is seen now.
+async function carriedBy({ about, camera, work }) {
+  const { stream, colours } = await work.ask({ task: "model" });
+  const { name, prepared, scale, notes } = about, coloured = colours !== null;
+  const known = { name, prepared, scale, notes, view: toldOf(camera) };
+  const told = JSON.stringify({ ...known, length: stream.length, coloured });
+  const head = new TextEncoder().encode(told);
+  return packed([Uint32Array.of(head.length), head, stream, ...(coloured ? [colours] : [])]);
+}
+
+export async function savePage(own, viewer) {
+  const page = own.cloneNode(true), model = page.querySelector("#model");
+  model.textContent = await carriedBy(viewer);
+  const name = `${viewer.about.name.replace(/\.[^.]*$/, "")}.html`;
+  download(name, new Blob([`<!doctype html>\n${page.outerHTML}\n`], { type: "text/html" }));
+  tell(`Saved ${name}`);
+}

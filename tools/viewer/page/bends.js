@@ -1,0 +1,93 @@
+// Normals for smooth shading that keeps sharp edges: each corner of a drawn face has its own. It is
+// the one of the corner's node, which stands for the full mesh; where a node has none, or the face
+// lies across it, it is the sum of those of the drawn faces around the node that lie about along
+// the face.
+import { Lists } from "./slots.js";
+
+const AGAINST = 0.1; // the least cosine of a face and a node's normal that it can have
+const CREASE = Math.cos((40 * Math.PI) / 180); // of two faces between which no edge is seen
+const MOST = 65535;  // of a number of 16 bits
+
+export class Bends {
+  // `corners` has the nodes at the corners of all drawn faces; `normals` three numbers for each
+  // node, or is null.
+  constructor(nodes, corners, normals) {
+    Object.assign(this, { corners, normals, around: new Lists(nodes, corners.length) });
+    this.units = new Float32Array(corners.length);
+    this.sizes = new Float32Array(corners.length / 3);
+    this.sum = new Float64Array(3);
+  }
+
+  // A face is drawn, whose normal is as long as it is large.
+  add(face, normal) {
+    const { around, corners, units } = this, first = 3 * face, [x, y, z] = normal;
+    const size = Math.sqrt(x * x + y * y + z * z), scale = size > 0 ? 1 / size : 0;
+    this.sizes[face] = size;
+    units[first] = scale * x; units[first + 1] = scale * y; units[first + 2] = scale * z;
+    for (let at = first; at < first + 3; at++) around.add(corners[at], at);
+  }
+
+  remove(face) {
+    for (let at = 3 * face; at < 3 * face + 3; at++) this.around.remove(this.corners[at], at);
+  }
+
+  // Marks where the drawn faces around some nodes stand.
+  markAround(nodes, slots, marked) {
+    for (let i = 0; i < nodes.length; i++) this.markAt(nodes[i], slots, marked);
+  }
+
+  markAt(node, slots, marked) {
+    const { first, next } = this.around;
+    for (let at = first[node]; at >= 0; at = next[at]) marked.add(slots[(at / 3) | 0]);
+  }
+
+  // The normals of the faces that stand in some slots, four numbers each.
+  of(faces, slots) {
+    const bends = new Uint32Array(4 * slots.length);
+    for (let i = 0, to = 0; i < slots.length; i++, to += 4) {
+      const from = 3 * faces.at[slots[i]];
+      bends[to] = this.packed(from);
+      bends[to + 1] = this.packed(from + 1);
+      bends[to + 2] = this.packed(from + 2);
+    }
+    return bends;
+  }
+
+  // The normal of a corner, as one number.
+  packed(at) {
+    const { corners, normals, units } = this, own = 3 * ((at / 3) | 0);
+    const x = units[own], y = units[own + 1], z = units[own + 2];
+    if (normals !== null) {
+      const from = 3 * corners[at];
+      const a = normals[from], b = normals[from + 1], c = normals[from + 2];
+      if (a * x + b * y + c * z > AGAINST) return octahedral(a, b, c);
+    }
+    return this.packedAround(corners[at], x, y, z);
+  }
+
+  // The sum of the faces around a node that lie about along a normal.
+  packedAround(node, x, y, z) {
+    const { around: { first, next }, sizes, sum, units } = this;
+    sum[0] = sum[1] = sum[2] = 0;
+    for (let other = first[node]; other >= 0; other = next[other]) {
+      const face = (other / 3) | 0, from = 3 * face, size = sizes[face];
+      const a = units[from], b = units[from + 1], c = units[from + 2];
+      if (a * x + b * y + c * z < CREASE) continue;
+      sum[0] += size * a; sum[1] += size * b; sum[2] += size * c;
+    }
+    return octahedral(sum[0], sum[1], sum[2]);
+  }
+}
+
+// A direction as a place on an octahedron that is folded out to a square: two numbers in one.
+function octahedral(x, y, z) {
+  const size = Math.abs(x) + Math.abs(y) + Math.abs(z) || 1;
+  let u = x / size, v = y / size;
+  if (z < 0) {
+    const folded = (1 - Math.abs(v)) * (u < 0 ? -1 : 1);
+    v = (1 - Math.abs(u)) * (v < 0 ? -1 : 1);
+    u = folded;
+  }
+  const number = (c) => Math.round((c * 0.5 + 0.5) * MOST);
+  return ((number(u) << 16) | number(v)) >>> 0;
+}

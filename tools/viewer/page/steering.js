@@ -1,0 +1,114 @@
+// Where the camera goes by itself: to where the whole mesh is seen, nearer to what is under the
+// pointer, and to a place that becomes the middle.
+import { homeOf, wayThrough } from "./camera.js";
+import { plus } from "./matrices.js";
+import { met } from "./picking.js";
+
+const ROOM = 1.08;    // of the mesh in a picture that shows the whole
+const FLIGHT = 350;   // milliseconds of a way, where it may be seen
+const CLOSEST = 150;  // parts of the radius that the eye stays away from the surface
+const FARTHEST = 30;  // times the radius
+const CENTRED = 0.6;  // of the distance from which a place that becomes the middle is seen
+const HOLDS = 250;    // milliseconds for which what is under the pointer counts as known
+const STRAYS = 12;    // pixels that the pointer may move meanwhile
+const isStill = matchMedia("(prefers-reduced-motion: reduce)");
+
+const length = (p) => Math.hypot(...p);
+
+export class Steering {
+  // `viewer` has the camera.
+  constructor(viewer) {
+    Object.assign(this, { viewer, flight: null, gripped: null, waiting: null, home: null });
+  }
+
+  get isFlying() { return this.flight !== null; }
+
+  // Whether the camera still is where the whole was seen from.
+  get isAtHome() { return this.home !== null && this.home === JSON.stringify(this.viewer.camera); }
+
+  // A camera that sees the whole mesh, in the middle of the picture and as large as it can be; and
+  // the mesh's radius.
+  async whole() {
+    const { hierarchy, set, work } = this.viewer, picture = this.viewer.picture();
+    const { camera, radius } = homeOf(hierarchy, set.upright, picture);
+    const axes = camera.axes(), { target } = camera;
+    const found = await work.ask({ task: "fit", axes, target, picture });
+    Object.assign(camera, { target: found.target, distance: ROOM * found.distance });
+    this.home = JSON.stringify(camera);
+    return { camera, radius };
+  }
+
+  async goHome() { this.fly((await this.whole()).camera); }
+
+  // The picture has another size: what was seen whole is so again.
+  async resized() {
+    if (!this.isAtHome) return;
+    this.viewer.camera = (await this.whole()).camera;
+    this.viewer.moved();
+  }
+
+  fly(to) {
+    const isQuick = isStill.matches || to.upright !== this.viewer.camera.upright;
+    const begun = performance.now() - (isQuick ? FLIGHT : 0);
+    this.flight = { from: this.viewer.camera.copy(), to, begun };
+    this.viewer.moved();
+  }
+
+  flyOn(now) {
+    const { from, to, begun } = this.flight, part = Math.min(1, Math.max(0, now - begun) / FLIGHT);
+    this.viewer.camera = part < 1 ? from.towards(to, part * part * (3 - 2 * part)) : to.copy();
+    if (part === 1) this.flight = null;
+    this.viewer.moved();
+  }
+
+  stop() { this.flight = null; }
+
+  // What is under the pointer: a place of the mesh, or one as far away as what is looked at.
+  async grip(x, y) {
+    const now = performance.now(), last = this.gripped;
+    const isKnown = last !== null && now - last.at < HOLDS
+      && Math.hypot(x - last.x, y - last.y) < STRAYS;
+    if (!isKnown) this.gripped = { x, y, ...await this.under(x, y) };
+    this.gripped.at = performance.now();
+    return this.gripped;
+  }
+
+  async under(x, y) {
+    const { viewer, viewer: { scene, set, session, work } } = this, camera = viewer.camera.copy();
+    const { focal } = viewer.picture(), at = scene.placeAt(x, y, set.beside);
+    const away = plus(camera.eye(), camera.distance, wayThrough(camera, focal, ...at));
+    if (!session.isRunning) return { place: away, isHit: false };
+    const hit = await met(work, camera, focal, ...at).catch(() => null);
+    return { place: hit?.place ?? away, isHit: hit !== null };
+  }
+
+  // Nearer to what is under the pointer, and never through it. What comes while the engine is asked
+  // is done together.
+  async zoom(factor, x, y) {
+    const isFirst = this.waiting === null;
+    this.waiting = (this.waiting ?? 1) * factor;
+    if (!isFirst) return;
+    const { place } = await this.grip(x, y), all = this.waiting;
+    this.waiting = null;
+    this.stop();
+    const { viewer, viewer: { camera, radius } } = this;
+    const away = Math.max(1, length(plus(camera.eye(), -1, place)));
+    const least = Math.min(1, Math.max(2, radius / CLOSEST) / away);
+    const most = (FARTHEST * radius) / camera.distance;
+    camera.scaleAbout(place, Math.min(most, Math.max(least, all)));
+    viewer.moved();
+  }
+
+  // Makes what is under the pointer the middle; shows the whole where nothing is.
+  async centre(x, y) {
+    this.gripped = null;
+    const { place, isHit } = await this.grip(x, y), to = this.viewer.camera.copy();
+    if (!isHit) {
+      await this.goHome();
+      return;
+    }
+    to.distance = CENTRED * length(plus(to.eye(), -1, place));
+    to.target = place;
+    this.fly(to);
+  }
+}

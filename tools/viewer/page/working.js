@@ -1,0 +1,110 @@
+// What a page's worker does, over a connection: to a server (connection.js), or to the engine that
+// the page has in it (../alone_page/built_in.js). A connection has
+//   open            a promise that fails where nothing can be looked at
+//   about()         what is told of the model
+//   stream()        its bytes, as a buffer
+//   colours()       three bytes for each vertex of the input
+//   ask(script)     the bytes of the replies; arrays beside them, or null; how many bytes both
+//                   have; the milliseconds of each part of the way; and the numbers of the fronts
+//                   that were marked before and after
+//   flight()        the text of all lines since the beginning
+//   start(budget)   begins anew at the base mesh
+import { ARRAYS } from "./arrays.js";
+import { Follower } from "./follower.js";
+import { fitted } from "./fitting.js";
+import { fullFrame, meanColours, readHierarchy } from "./hierarchy.js";
+import { KeptMesh } from "./mesh.js";
+import { readReplies } from "./replies.js";
+import { shapeOf } from "./shape.js";
+import { clock, startClock } from "./tasks.js";
+import { WRITERS, levelOf } from "./writers.js";
+
+class Working {
+  // `connect` gives a connection for what the page asks to open.
+  constructor(connect) { this.connect = connect; }
+
+  // The model: what is told of it, and what of the hierarchy the page needs.
+  async open({ pageOrigin, ...asked }) {
+    startClock(pageOrigin);
+    const connection = this.connect(asked);
+    await connection.open;
+    const begun = performance.now(), about = await connection.about();
+    const hierarchy = readHierarchy(await connection.stream());
+    Object.assign(hierarchy, shapeOf(hierarchy));
+    const colours = about.coloured ? meanColours(hierarchy, await connection.colours()) : null;
+    const talk = (script) => this.talk(`${ARRAYS}${script}`);
+    const follower = new Follower(new KeptMesh(hierarchy, colours), talk);
+    Object.assign(this, { connection, about, hierarchy, colours, follower });
+    const { digits, faces, deepest, low, high, side, upright } = hierarchy;
+    const times = { ...connection.times, read: performance.now() - begun };
+    return { about, times, hierarchy: { digits, faces, deepest, low, high, side, upright } };
+  }
+
+  // The answer to a script, and where the time went, in milliseconds.
+  async talk(script) {
+    const { times, replies, arrays, bytes, ...answer } = await this.connection.ask(script);
+    const cameAt = performance.now(), found = readReplies(replies, arrays);
+    const read = performance.now() - cameAt;
+    return { ...answer, ...found, cameAt, times: { ...times, read, bytes } };
+  }
+
+  // The reply to a view, and what becomes another of what is shown.
+  async view({ line, glides }) {
+    const now = () => (glides ? clock() : null);
+    const { replies, patch, times, cameAt } = await this.follower.view(line, now);
+    return { replies, patch, times: { ...times, take: performance.now() - cameAt - times.read } };
+  }
+
+  // From where the whole mesh is seen, by a camera's axes.
+  async fit({ axes, target, picture }) { return fitted(this.hierarchy, axes, target, picture); }
+
+  // What becomes another where glides are over.
+  async settle() { return { patch: this.follower.mesh.settle(clock()) }; }
+
+  // The replies to a script that leaves the front as it is.
+  async ask({ script }) {
+    const { replies } = await this.talk(script);
+    return { replies: replies.map((words) => this.withInput(words)) };
+  }
+
+  // The reply to a ray, with the face's number in the input put behind.
+  withInput(words) {
+    return words[0] === "hit" ? [...words, this.hierarchy.faceInputs[Number(words[1])]] : words;
+  }
+
+  // The input itself, to be drawn beside the front.
+  async input() {
+    const mesh = new KeptMesh(this.hierarchy, this.colours);
+    return { patch: mesh.take(mesh.front.changeTo(fullFrame(this.hierarchy)), null) };
+  }
+
+  async flight() { return { text: await this.connection.flight() }; }
+
+  async start({ budget }) {
+    await this.connection.start(budget);
+    return {};
+  }
+
+  // The mesh shown, as a file of another program, in the coordinates of the file that was opened.
+  async mesh({ format }) {
+    const grid = this.about.scale ?? { unit: 10 ** -this.hierarchy.digits, middle: [0, 0, 0] };
+    const level = levelOf(this.follower.mesh.front.frame(), this.colours, grid);
+    return { bytes: WRITERS[format](level) };
+  }
+
+  // The model itself, to be put into a page.
+  async model() {
+    const { about, connection } = this, stream = new Uint8Array(await connection.stream());
+    return { stream, colours: about.coloured ? await connection.colours() : null };
+  }
+}
+
+const TASKS = [
+  "open", "view", "fit", "settle", "ask", "input", "flight", "start", "mesh", "model",
+];
+
+// The tasks by their names.
+export function tasksOver(connect) {
+  const working = new Working(connect);
+  return Object.fromEntries(TASKS.map((name) => [name, (asked) => working[name](asked)]));
+}

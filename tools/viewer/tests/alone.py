@@ -1,0 +1,199 @@
+"""The page that needs no server, opened from a file: what is dropped on it, what it has in it, and
+what it refuses."""
+import os
+import subprocess
+import sys
+import unittest
+from functools import lru_cache
+from pathlib import Path
+from typing import Any, List, Optional
+
+from browser import found
+from viewer.alone import page_of
+from viewer.model import Model
+from viewer.module import NoModule, module_of
+from viewer.program import replies_to
+
+from .common import EXAMPLES, STREAM, TOP, Case, model, program
+from .pages import browser
+
+SHOWN = "alone.times && alone.coming === null && globalThis.viewer?.isSettled"
+FAULTY = "!document.getElementById('fault').hidden"
+SQUARE = b"v 0 0 0 1 0 0\nv 9.123456789 0 0 0 1 0\nv 9 9.5 0 0 0 1\nf 1 2 3\n"
+
+
+@lru_cache(maxsize=None)
+def module() -> bytes:
+    """The engine of the pages: that of VDPM_WASM, or else the one of these sources."""
+    given = os.environ.get("VDPM_WASM")
+    try:
+        return module_of(Path(given) if given else None)
+    except NoModule as why:
+        raise unittest.SkipTest(str(why)) from why
+
+
+@unittest.skipUnless(found(), "no Chromium")
+class Page(Case):
+    def setUp(self) -> None:
+        self.page = browser()
+        self.page.scheme("dark")
+
+    def open(self, shown: Optional[Model] = None) -> None:
+        path = self.written("page.html", page_of(module(), shown).encode())
+        self.page.told.clear()
+        self.page.go(f"{path.as_uri()}?sharpness=0.2")
+        self.page.until("globalThis.alone !== undefined")
+
+    def value(self, text: str) -> Any:
+        return self.page.run(text)
+
+    def text(self, name: str) -> str:
+        return str(self.value(f"document.getElementById('{name}').textContent"))
+
+    def drop(self, path: Path) -> None:
+        data = {"items": [], "files": [str(path)], "dragOperationsMask": 1}
+        for kind in ("dragEnter", "dragOver", "drop"):
+            self.page.call("Input.dispatchDragEvent", type=kind, x=300, y=200, data=data)
+
+    def choose(self, path: Path) -> None:
+        root = self.page.call("DOM.getDocument")["root"]["nodeId"]
+        file = self.page.call("DOM.querySelector", nodeId=root, selector="#file")["nodeId"]
+        self.page.call("DOM.setFileInputFiles", nodeId=file, files=[str(path)])
+
+    def shows(self, name: str) -> None:
+        """The model is shown, as fine as the program shows it, and nothing was complained of."""
+        self.page.until(f"({SHOWN}) || {FAULTY}")
+        self.assertTrue(self.value("document.getElementById('fault').hidden"), self.text("fault"))
+        self.assertEqual(self.text("name"), name)
+        self.assertTrue(self.value("document.getElementById('welcome').hidden"))
+        self.assertEqual(self.page.errors(), [])
+
+    def refuses(self, reason: str, cure: str = "What to do") -> None:
+        self.page.until(FAULTY)
+        self.assertIn(reason, self.text("fault-reason"))
+        self.assertIn(cure, self.text("fault-cure"))
+        self.value("document.getElementById('again').click()")
+
+
+class Showing(Page):
+    def test_an_obj_that_is_dropped_is_shown_as_the_program_shows_it(self) -> None:
+        self.open()
+        self.assertFalse(self.value("document.getElementById('ask').hidden"))
+        self.drop(EXAMPLES / "asteroid.obj")
+        self.shows("asteroid.obj")
+        line = self.value("viewer.views.asked")
+        stream = model("asteroid.obj").stream
+        told = replies_to(program(), stream, f"{line}\nm\n".encode(), command="live")
+        self.assertEqual(int(told.split()[5]), self.value("viewer.shown.faceCount"))
+        self.assertIn("compiled without their proofs", self.text("notice"))
+        views = [f"vd {100 * n - 5000} -{9000 - 50 * n} 3000 1000 {1 + n % 9}" for n in range(100)]
+        script = "".join(f"{view}\nm\n" for view in views)
+        ours = self.value(f"viewer.work.ask({{ task: 'ask', script: {script!r} }})")["replies"]
+        first = f"{line}\n{script}".encode()
+        theirs = replies_to(program(), stream, first, command="live").decode().splitlines()[1:]
+        self.assertEqual([" ".join(words) for words in ours], theirs)
+
+    def test_one_model_makes_way_for_another(self) -> None:
+        self.open()
+        self.choose(EXAMPLES / "octahedron.obj")
+        self.shows("octahedron.obj")
+        self.drop(self.written("square.obj", SQUARE))
+        self.page.until("document.title === 'square.obj'")
+        self.shows("square.obj")
+        self.assertEqual(self.value("viewer.set.colour"), "own")
+        self.assertIn("made fit by prepare", self.text("notice"))
+
+    def test_a_stream_that_is_dropped_is_shown(self) -> None:
+        self.open()
+        self.drop(STREAM)
+        self.shows("octahedron.vdpm")
+
+    def test_the_sample_is_built(self) -> None:
+        self.open()
+        self.value("document.getElementById('sample').click()")
+        self.page.until("!document.getElementById('doing').hidden")
+        self.value("document.getElementById('cancel').click()")
+        self.assertFalse(self.value("document.getElementById('ask').hidden"))
+
+    def test_a_model_that_the_page_has_in_it(self) -> None:
+        looked_at = model("ring_scan.obj")
+        self.open(looked_at)
+        self.shows("ring_scan.obj")
+        self.assertEqual(self.value("viewer.hierarchy.faces"), looked_at.faces)
+        assert looked_at.scale is not None
+        self.assertEqual(self.value("viewer.about.scale.unit"), looked_at.scale.unit)
+
+    def test_a_page_that_the_page_saves_shows_the_same(self) -> None:
+        self.open()
+        self.drop(EXAMPLES / "ring_scan.obj")
+        self.shows("ring_scan.obj")
+        self.page.key("ArrowLeft")
+        self.page.until(SHOWN)
+        asked = self.value("viewer.views.asked")
+        self.value("document.getElementById('save-page').click()")
+        saved = self.written("saved.html", self.page.downloaded("ring_scan.html"))
+        self.page.go("about:blank")
+        self.page.go(f"{saved.as_uri()}?sharpness=0.2")
+        self.page.until("globalThis.alone !== undefined")
+        self.shows("ring_scan.obj")
+        self.assertEqual(self.value("viewer.views.asked"), asked)
+        self.assertIn("made fit by prepare", self.text("notice"))
+
+    def test_it_asks_for_nothing_and_the_browser_refuses_what_would(self) -> None:
+        self.open()
+        refused = self.value(
+            "Promise.all([fetch('http://127.0.0.1:1/').catch(() => 1),"
+            " new Promise((told) => addEventListener('securitypolicyviolation', told))])"
+            ".then(([, { effectiveDirective }]) => effectiveDirective)"
+        )
+        self.assertEqual(refused, "connect-src")
+        self.assertEqual(self.value("performance.getEntriesByType('resource').length"), 0)
+
+
+class Refusing(Page):
+    def test_files_that_are_not_shown_are_told_with_a_way_out(self) -> None:
+        self.open()
+        cases = [
+            ("bad.obj", b"v 0 0 0\nv 1 0 0\nv 0 x 0\nf 1 2 3\n", "Line 3 has a field", ""),
+            ("far.obj", b"v 0 0 0\nf 1 2 3\n", "Line 2 names vertex 0, or one that isn't", ""),
+            ("none.obj", b"v 0 0 0\n", "no triangles", "no point cloud"),
+            ("scan.ply", b"ply\nformat ascii 1.0\n", "This is a PLY file", "export it as OBJ"),
+            ("scan.stl", b" " * 80 + b"\1\0\0\0" + bytes(50), "an STL file", "export it as OBJ"),
+            ("noise", b"\0\1\2\3", "This is no text", "export it as OBJ"),
+            ("cut.vdpm", STREAM.read_bytes()[:100], "fault 22", ""),
+        ]
+        for name, data, reason, cure in cases:
+            with self.subTest(name):
+                self.drop(self.written(name, data))
+                self.refuses(reason, cure)
+        self.drop(STREAM)
+        self.shows("octahedron.vdpm")
+        self.drop(self.written("bad.obj", b"f 1 2\n"))
+        self.refuses("fewer than three fields", "")
+        self.assertEqual(self.text("name"), "octahedron.vdpm")  # which still is shown
+
+
+class Writing(Case):
+    def written_by(self, words: List[str]) -> "subprocess.CompletedProcess[str]":
+        viewer = [sys.executable, str(TOP / "viewer"), "--program", str(program())]
+        return subprocess.run([*viewer, *words], capture_output=True, text=True, check=False)
+
+    def test_the_command_writes_one_file(self) -> None:
+        file = self.written("engine.wasm", module())
+        done = self.written_by(["--page", "--module", str(file)])
+        self.assertEqual(done.returncode, 0, done.stderr)
+        self.assertTrue(done.stdout.startswith("<!doctype html>"))
+        self.assertIn("default-src 'none'", done.stdout)
+        self.assertEqual(done.stdout, page_of(module()))
+        for word in (' src="', "<link rel=\"stylesheet", "@import", "not proved"):
+            self.assertNotIn(word, done.stdout.replace('"not proved on this machine"', ""))
+
+    def test_what_is_no_module_is_told(self) -> None:
+        for words, said in (
+            (["--page", "--module", str(STREAM)], "is no WebAssembly module"),
+            (["--page", "--module", "nowhere.wasm"], "can't be read: No such file"),
+            ([], "a model is needed"),
+        ):
+            done = self.written_by(words)
+            self.assertNotEqual(done.returncode, 0)
+            self.assertIn(said, done.stderr)
