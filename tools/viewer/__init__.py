@@ -4,6 +4,7 @@
 
     main        the words of the command line
     model       from a file, stream or OBJ, to a stream that is ready to be looked at
+    kept        streams that were built before
     colours     the colours of an OBJ file's vertices
     manual      the cures that docs/COMMANDS.md has for faults
     program     the child `vdpm live` over pipes

@@ -9,13 +9,13 @@ docs/COMMANDS.md.
 import base64
 import json
 import re
-import struct
 import zlib
 from pathlib import Path
 from typing import Dict, List, Optional
 
 from . import manual
 from .bundle import bundled
+from .kept import packed as model_packed
 from .model import Model
 
 HERE = Path(__file__).resolve().parent
@@ -49,16 +49,6 @@ def packed(data: bytes) -> str:
     return base64.b64encode(zlib.compress(data, 9)).decode("ascii")
 
 
-def carried(model: Model) -> bytes:
-    """A model as the page has it in it."""
-    scale = {"unit": model.scale.unit, "middle": model.scale.middle} if model.scale else None
-    head = json.dumps({
-        "name": model.name, "prepared": model.prepared, "scale": scale, "notes": [],
-        "length": len(model.stream), "coloured": model.colours is not None,
-    }).encode("ascii")
-    return struct.pack("<I", len(head)) + head + model.stream + (model.colours or b"")
-
-
 def _script(kind: str, name: str, text: str) -> str:
     """A script of the page; it can't end or begin another one inside."""
     harmless = text.replace("</script", "<\\/script").replace("<!--", "<\\!--")
@@ -71,7 +61,7 @@ def page_of(module: bytes, model: Optional[Model] = None) -> str:
     head = f'<meta http-equiv="Content-Security-Policy" content="{policy}">\n'
     scripts = (
         ("text/plain", "engine", packed(module)),
-        ("text/plain", "model", packed(carried(model)) if model else ""),
+        ("text/plain", "model", packed(model_packed(model)) if model else ""),
         ("application/json", "words", json.dumps(fault_words())),
         ("text/plain", "worker", bundled(ALONE_PAGE / "alone_worker.js")),
         ("text/javascript", "page", bundled(ALONE_PAGE / "alone.js")),

@@ -1,6 +1,7 @@
 """Shows a mesh in a window of the browser: what is refined follows the camera.
 
-    ./viewer MODEL [--open] [--budget N] [--memory MB] [--program PATH] [--library] [--port P]
+    ./viewer MODEL [--open] [--fresh] [--budget N] [--memory MB] [--program PATH] [--library]
+        [--port P]
     ./viewer --film FLIGHT MODEL [--budget N] [--program PATH] > film.html
     ./viewer --page [MODEL] [--module FILE] > page.html
 
@@ -24,10 +25,11 @@ from pathlib import Path
 from types import FrameType
 from typing import List, Optional, Union
 
+from . import kept
 from .alone import page_of
 from .film import BadFlight, film_page
 from .library import NOT_BUILT, TO_BUILD, built_library
-from .model import Model, Programs, model_of, tell
+from .model import MAGIC, Model, Programs, model_of, tell
 from .module import NoModule, module_of
 from .program import ALL_MOVES, ProgramEnded
 from .server import Server, is_budget
@@ -61,6 +63,7 @@ def arguments(words: Optional[List[str]] = None) -> argparse.Namespace:
     add("--film", type=Path, metavar="FLIGHT", help="write a page that plays this script")
     add("--page", action="store_true", help="write the window as a page that needs no server")
     add("--module", type=Path, metavar="FILE", help="the page's engine, if not the one built here")
+    add("--fresh", action="store_true", help="build a model anew that was built before")
     asked = parser.parse_args(words)
     if asked.model is None and not asked.page:
         parser.error("a model is needed, but for --page")
@@ -79,12 +82,28 @@ def programs_of(vdpm: Path) -> Programs:
 
 def loaded(asked: argparse.Namespace) -> Model:
     try:
-        model = model_of(asked.model, programs_of(asked.program))
+        model = model_kept(asked.model, programs_of(asked.program), asked.fresh)
     except OSError as fault:
         sys.exit(f"viewer: {asked.model} can't be read: {fault.strerror}")
     except ProgramEnded as fault:
         sys.exit(f"viewer: {asked.model}: {fault}")
     tell(f"{asked.model}: {model.counts}")
+    return model
+
+
+def model_kept(path: Path, programs: Programs, fresh: bool) -> Model:
+    """The model of a file. What was built of a text once is taken again, unless it shall be built
+    afresh."""
+    text = path.read_bytes()
+    key = None if text.startswith(MAGIC) else kept.name_for(text, programs)
+    found = None if fresh or key is None else kept.found(key, path.name)
+    if found is not None:
+        tell(f"it was built before, and kept in {kept.folder()}: --fresh builds it anew")
+        return found
+    model = model_of(path, programs)
+    key = None if text.startswith(MAGIC) else kept.name_for(text, programs)
+    if key is not None:  # (programs that are built by their first run are known after it)
+        kept.keep(key, model)
     return model
 
 

@@ -54,6 +54,7 @@ class Model(NamedTuple):
     prepared: bool = False
     scale: Optional[Scale] = None
     colours: Optional[bytes] = None  # of the built mesh's vertices, three bytes each
+    notes: Tuple[str, ...] = ()  # what `prepare` said of it
 
     @property
     def records(self) -> int:
@@ -62,6 +63,16 @@ class Model(NamedTuple):
     @property
     def faces(self) -> int:
         return int(self.counts.split()[9])
+
+
+class Fitting(NamedTuple):
+    """A text that `simplify` takes, with how many decimals; whether it had to be prepared, and what
+    was said of that."""
+
+    text: bytes
+    digits: int
+    prepared: bool = False
+    notes: Tuple[str, ...] = ()
 
 
 class Done(NamedTuple):
@@ -167,7 +178,7 @@ def text_at(path: Path) -> bytes:
 
 
 def _built(name: str, text: bytes, programs: Programs) -> Model:
-    mesh, digits, prepared = _fitting(text, programs)
+    mesh, digits, prepared, notes = _fitting(text, programs)
     faces = obj.face_count(mesh)
     if faces == 0:
         raise ProgramEnded(f"{name} has no faces, so there is nothing to look at")
@@ -180,16 +191,15 @@ def _built(name: str, text: bytes, programs: Programs) -> Model:
     counts = checked.out.decode("ascii").strip()
     scale = scale_of(mesh) if prepared else None
     found = _colours(text, mesh, prepared, scale)
-    return Model(name, stream, counts, checked.proved, prepared, scale, found)
+    return Model(name, stream, counts, checked.proved, prepared, scale, found, notes)
 
 
-def _fitting(text: bytes, programs: Programs) -> Tuple[bytes, int, bool]:
-    """A text that `simplify` takes, with how many decimals, and whether it had to be prepared."""
+def _fitting(text: bytes, programs: Programs) -> Fitting:
     for digits in range(MOST_DIGITS + 1):
         words = ["canon"] + (["--digits", str(digits)] if digits else [])
         done = run(programs.vdpm, words, text, "reading")
         if done.status == 0:
-            return text, digits, False
+            return Fitting(text, digits)
         if not is_refusal(done) or TOO_MANY_DECIMALS not in done.said[-1]:
             break
     if not is_refusal(done):
@@ -198,7 +208,7 @@ def _fitting(text: bytes, programs: Programs) -> Tuple[bytes, int, bool]:
     ready = needed(run(programs.prepare, [], text, "preparing"), manual.PREPARE)
     for line in ready.said:
         print(line, file=sys.stderr)
-    return ready.out, 0, True
+    return Fitting(ready.out, 0, True, tuple(ready.said))
 
 
 def scale_of(mesh: bytes) -> Optional[Scale]:

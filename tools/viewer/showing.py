@@ -39,6 +39,7 @@ class Showing:
             "proved": model.proved and (self.library is None or is_proved(self.library)),
             "prepared": model.prepared,
             "scale": scale,
+            "notes": model.notes,
             "coloured": model.colours is not None,
             "opening": program.opening if program else None,
         }

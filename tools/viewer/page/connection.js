@@ -9,7 +9,9 @@ const GONE = "The server doesn't answer any more, so ./viewer has ended. "
 const gone = () => new Fault(GONE, "", true);
 
 export class Connection {
-  constructor() {
+  // `lost` is called where the server goes away, whether something was asked or not.
+  constructor(lost = () => {}) {
+    this.lost = lost;
     this.waiting = [];
     this.cameAt = 0;
     this.socket = new WebSocket(new URL("talk", location.href.replace(/^http/, "ws")));
@@ -23,7 +25,9 @@ export class Connection {
   }
 
   giveUp() {
-    for (const { reject } of this.waiting.splice(0)) reject(gone());
+    const fault = gone();
+    for (const { reject } of this.waiting.splice(0)) reject(fault);
+    this.lost({ reason: fault.message, isLost: true });
   }
 
   async about() { return (await fetched("about")).json(); }

@@ -6,5 +6,6 @@ import { Viewer } from "./viewer.js";
 import { Work } from "./work.js";
 
 watchMenu();
-const work = new Work(new Worker("worker.js", { type: "module" }));
+const told = ({ fault }) => globalThis.viewer?.fail(fault);
+const work = new Work(new Worker("worker.js", { type: "module" }), told);
 boot((canvas) => new Viewer(new Scene(canvas), work, { toggled: toggle }));

@@ -46,13 +46,22 @@ export function saySettings(now) {
   part("budget-said").textContent = now.budget === ALL_MOVES ? "all" : counted(now.budget);
 }
 
+// What of a file isn't shown, by what `prepare` says that it passed over.
+const DROPPED = [[/texture places/, "textures"], [/materials/, "materials"]];
+function droppedOf(notes) {
+  const said = notes.filter((note) => note.includes("passed over")).join();
+  return DROPPED.filter(([looks]) => looks.test(said)).map(([, name]) => name);
+}
+
 // What is known of the model before anything is drawn.
-export function sayModel({ name, proved, prepared, coloured, budget, engine }, { upright }) {
+export function sayModel({ notes = [], ...about }, { upright }) {
+  const { name, proved, prepared, coloured, budget, engine } = about, dropped = droppedOf(notes);
   document.querySelector(`input[name=up][value=${upright}]`).checked = true;
   part("name").textContent = name;
   document.title = name;
   const notices = engine ? [engine] : proved ? [] : ["not proved on this machine"];
   if (prepared) notices.push("made fit by prepare");
+  if (dropped.length > 0) notices.push(`not shown: ${dropped.join(", ")}`);
   part("notice").textContent = notices.join(" · ");
   part("notice").hidden = notices.length === 0;
   document.querySelector("input[value=own]").disabled = !coloured;

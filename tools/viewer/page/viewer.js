@@ -232,13 +232,17 @@ export class Viewer {
     this.work.end();
   }
 
-  fail({ reason, cure, isLost = false }) {
+  // Where the engine is lost what was drawn last can still be looked at.
+  fail({ reason, cure = "", isLost = false }) {
     this.session.ended = true;
     if (this.failedOver !== null) {
       this.failedOver({ reason, cure });
       return;
     }
-    const again = () => (isLost || this.about === undefined ? location.reload() : this.restart());
+    const again = () => {
+      if (this.about === undefined) location.reload();
+      else if (!isLost) this.restart();
+    };
     showFault({ title: "The view has ended", reason, cure, again });
   }
 

@@ -4,4 +4,6 @@ import { Connection } from "./connection.js";
 import { answerBy } from "./tasks.js";
 import { tasksOver } from "./working.js";
 
-answerBy(tasksOver(() => new Connection()));
+const lost = (fault) => postMessage({ news: { fault } });
+
+answerBy(tasksOver(() => new Connection(lost)));

@@ -1,11 +1,14 @@
 """From a file to a model: streams, OBJ files, those that have to be prepared, and colours."""
+import os
 import subprocess
 import sys
+import unittest.mock
 from pathlib import Path
 
+from viewer import kept
 from viewer.colours import PLAIN, coloured_vertices, packed
 from viewer.hierarchy import mean_colours, nodes_of
-from viewer.main import programs_of
+from viewer.main import model_kept, programs_of
 from viewer.model import Model, Programs, model_of, scale_of
 from viewer.program import UNPROVED, ProgramEnded, is_notice, said_last
 
@@ -94,6 +97,52 @@ class Files(Case):
         done = subprocess.run(words, capture_output=True, text=True, check=False)
         self.assertEqual((done.returncode, done.stdout), (1, ""))
         self.assertIn("viewer: nowhere.obj can't be read: No such file", done.stderr)
+
+
+class Keeping(Case):
+    """What was built once is taken again."""
+
+    def setUp(self) -> None:
+        place = self.folder()
+        with_place = unittest.mock.patch.dict(os.environ, {"XDG_CACHE_HOME": str(place)})
+        with_place.start()
+        self.addCleanup(with_place.stop)
+        self.programs = programs_of(program())
+
+    def had(self, path: Path, fresh: bool = False) -> Model:
+        return model_kept(path, self.programs, fresh)
+
+    def test_a_second_look_is_at_the_same_model(self) -> None:
+        path = self.written("square.obj", SQUARE.replace(b"90", b"9.123456789"))
+        built = self.had(path)
+        none = unittest.mock.patch("viewer.main.model_of", side_effect=AssertionError)
+        with none:
+            self.assertEqual(self.had(path), built)
+            with self.assertRaises(AssertionError):
+                self.had(path, fresh=True)
+            path.write_bytes(SQUARE)
+            with self.assertRaises(AssertionError):
+                self.had(path)
+        [file] = kept.folder().iterdir()
+        file.write_bytes(file.read_bytes()[:9])
+        path.write_bytes(SQUARE.replace(b"90", b"9.123456789"))
+        self.assertEqual(self.had(path), built)
+
+    def test_other_programs_build_anew_and_streams_are_not_kept(self) -> None:
+        text = SQUARE
+        others = self.programs._replace(simplify=self.written("simplify", b"other", runs=True))
+        mine, theirs = kept.name_for(text, self.programs), kept.name_for(text, others)
+        self.assertNotEqual(mine, theirs)
+        self.had(STREAM)
+        self.assertFalse(kept.folder().exists())
+
+    def test_what_was_looked_at_longest_ago_goes(self) -> None:
+        one = Model("one", b"-" * 400, "counts", True)
+        with unittest.mock.patch.object(kept, "MOST_BYTES", 1500):
+            for number, key in enumerate("abcd"):
+                self.assertTrue(kept.keep(key, one))
+                os.utime(kept.folder() / key, (number, number))
+        self.assertEqual(sorted(path.name for path in kept.folder().iterdir()), ["c", "d"])
 
 
 class Colours(Case):
