@@ -20,6 +20,7 @@ from viewer.showing import Showing  # noqa: E402
 SETTLED = "globalThis.viewer && viewer.isSettled"
 # Near the great crater, and then frozen and seen from the side.
 LOOK = """(() => {
+  viewer.steering.stop();
   const { camera } = viewer;
   camera.target = [900, -1100, 250];
   Object.assign(camera, { distance: 2900, yaw: 0.1, pitch: 0.4 });
@@ -39,8 +40,8 @@ ASIDE = """(() => {
 
 def take(page: Browser, name: str) -> None:
     page.until(SETTLED)
-    # The counters say `at rest` a second after the last change.
-    page.until("document.getElementById('rows').textContent.includes('at rest')")
+    # The statistics say `idle` a second after the last change.
+    page.until("document.getElementById('rows').textContent.includes('idle')")
     path = TOP / "docs" / "pictures" / name
     page.picture(path)
     subprocess.run(["pngquant", "--force", "--output", path, "96", path], check=True)
@@ -57,6 +58,8 @@ def main() -> None:
         page.go(server.address)
         page.until(SETTLED)
         page.run("globalThis.depth = document.querySelector('input[value=depth]'); 0")
+        page.run("document.querySelector('input[name=up][value=z]').click(), edges.click()")
+        page.until(SETTLED)
         page.run(LOOK)
         take(page, "window-near.png")
         page.run(ASIDE)

@@ -58,8 +58,8 @@ def packed(model: Model) -> bytes:
     scale = {"unit": model.scale.unit, "middle": model.scale.middle} if model.scale else None
     head = json.dumps({
         "name": model.name, "counts": model.counts, "proved": model.proved,
-        "prepared": model.prepared, "scale": scale, "notes": model.notes, "length": len(model.stream),
-        "coloured": model.colours is not None,
+        "prepared": model.prepared, "scale": scale, "notes": model.notes,
+        "length": len(model.stream), "coloured": model.colours is not None,
     }).encode("ascii")
     return struct.pack("<I", len(head)) + head + model.stream + (model.colours or b"")
 

@@ -134,7 +134,8 @@ function boot() {
   const own = ownPage();
   watchMenu();
   try {
-    globalThis.alone = new Alone(new Scene(canvas), own); // there for tests and the browser's console
+    // There for tests and the browser's console.
+    globalThis.alone = new Alone(new Scene(canvas), own);
   } catch (fault) {
     part("welcome").hidden = true;
     const title = fault instanceof NoGraphics ? "Nothing can be drawn" : "The page can't begin";

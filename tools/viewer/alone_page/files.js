@@ -14,7 +14,9 @@ export function watchFiles(take) {
     event.preventDefault();
     over(true);
   });
-  addEventListener("dragleave", ({ relatedTarget }) => { if (relatedTarget === null) over(false); });
+  addEventListener("dragleave", ({ relatedTarget }) => {
+    if (relatedTarget === null) over(false);
+  });
   addEventListener("drop", (event) => {
     event.preventDefault();
     over(false);

@@ -40,7 +40,8 @@ function middle(all, axis, distance, aside) {
 export function fitted(hierarchy, axes, target, { width, height, focal }) {
   if (hierarchy.leaves === 0) return { distance: 1, target };
   const all = seenFrom(axes, target, hierarchy);
-  const across = between(all, 0, (2 * focal) / width), along = between(all, 1, (2 * focal) / height);
+  const across = between(all, 0, (2 * focal) / width);
+  const along = between(all, 1, (2 * focal) / height);
   const distance = Math.max(1, across.distance, along.distance);
   const asides = [across.aside, along.aside];
   // On the axis that would let the eye come nearer, both planes lie beyond the outermost vertices.

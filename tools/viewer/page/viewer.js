@@ -243,7 +243,8 @@ export class Viewer {
       if (this.about === undefined) location.reload();
       else if (!isLost) this.restart();
     };
-    showFault({ title: "The view has ended", reason, cure, again });
+    const label = isLost ? "OK" : "Start it again";
+    showFault({ title: "The view has ended", reason, cure, again, label });
   }
 
   // Another budget is a line of the script, and the front is kept.
