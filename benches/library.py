@@ -26,7 +26,7 @@ sys.path[:0] = [str(TOP / "python"), str(TOP / "benches")]
 
 import vdpm  # noqa: E402
 from live import ALL_MOVES, orbit  # noqa: E402
-from vdpm.session import numpy  # noqa: E402
+from vdpm.rooms import numpy  # noqa: E402
 
 # The most that a line may tell, so that steps of the tolerance are fine.
 FOCAL = MOST_TOLERANCE = 65535

@@ -1,8 +1,8 @@
 """Tries programs that call the library: python3 tools/test_library_callers.py
 
 The header is compiled as each C and C++ that it promises, and the programs of
-tools/library_callers and examples/library run under the sanitizers and valgrind, and on threads with
-little stack.
+tools/library_callers and examples/library run under the sanitizers and valgrind, and on threads
+with little stack.
 """
 import os
 import shutil

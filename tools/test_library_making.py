@@ -31,7 +31,7 @@ def tearDownModule() -> None:
 
 def asked_for(words: List[str]) -> Dict[str, Any]:
     """What the words of `build` and `simplify` ask for, which are understood."""
-    told: Dict[str, Any] = {}
+    told: Dict[str, Any] = {"allow_empty": True}
     left = iter(words)
     for word in left:
         if word == "--digits":
@@ -55,7 +55,7 @@ class Made(unittest.TestCase):
         if asked.fault is None:
             self.is_made(asked, function(asked.given, **told))
             return
-        with self.assertRaises(vdpm.Fault) as raised:
+        with self.assertRaises(vdpm.TextFault) as raised:
             function(asked.given, **told)
         self.assertEqual((raised.exception.number, raised.exception.place), asked.fault)
         self.assertTrue(raised.exception.cure)

@@ -4,21 +4,34 @@
 
     fit = vdpm.prepare(open("model.obj", "rb").read())
     stream = vdpm.simplify(fit.text)
+    look = vdpm.camera(1280, 720, 45, eye=(0, -60000, 40000), target=(0, 0, 0))
     with vdpm.Session(stream) as session:
-        session.view(eye=(0, -30000, 20000), focal=1000, tolerance=20)
+        session.view(**look._asdict(), tolerance=1)
         frame = session.frame()
         print(len(frame.nodes), "vertices,", len(frame.faces), "faces")
 
-A session stays on the thread that opened it. Coordinates are whole numbers of units of 10 to the
-power of minus `session.sizes().digits`. The library is found by the variable VDPM_LIBRARY, which is
-a path, or else as libvdpm.so in this package, as wheels have it, or as proved/libvdpm.so or
-unproved/libvdpm.so beside its folder; `version` tells which one that is, and whether it was
-proved.
+Making: `prepare` makes any OBJ text fit, `simplify` and `build` make the stream of one.
+Showing: a `Session` shows a stream, `Session.view` adapts it to a view, and `Session.frame` and
+`Session.change` answer arrays: numpy's where numpy is there, else flat `array.array`s.
+
+Units: coordinates are whole numbers of units of 10 to the power of minus `Session.sizes().digits`;
+`Prepared.scale` leads back from what `prepare` made. Pixels are those of the picture that the focal
+length is told in. Nodes, faces, leaves and records are counted from 0.
+
+Faults: each is a `Fault`: `StreamFault`, `LineFault`, `TextFault` or `NotMesh`. Other refusals are
+`ValueError`, `TypeError`, `IndexError`, `NotOpen` and `MemoryError`.
+
+The library is found by the variable VDPM_LIBRARY, which is a path, or else as libvdpm.so in this
+package, as wheels have it, or in proved/ or unproved/ beside its folder; `version` tells which one
+that is, and whether it was proved.
 """
-from .faults import Fault, NotOpen
+from .camera import Camera, camera
+from .faults import Fault, LineFault, NotMesh, NotOpen, StreamFault, TextFault
 from .library import Version, version
 from .making import Prepared, build, prepare, simplify
-from .session import Change, Frame, Hit, Moved, Session, Sizes, Strips
+from .session import Session
+from .shapes import Bounds, Change, Frame, Hit, Level, Moved, Shape, Sizes, Strips
 
-__all__ = ["Change", "Fault", "Frame", "Hit", "Moved", "NotOpen", "Prepared", "Session", "Sizes",
-           "Strips", "Version", "build", "prepare", "simplify", "version"]
+__all__ = ["Bounds", "Camera", "Change", "Fault", "Frame", "Hit", "Level", "LineFault", "Moved",
+           "NotMesh", "NotOpen", "Prepared", "Session", "Shape", "Sizes", "StreamFault", "Strips",
+           "TextFault", "Version", "build", "camera", "prepare", "simplify", "version"]

@@ -77,9 +77,15 @@ OF_ANY_TEXT: Table = {
 class Fault(ValueError):
     """Bytes that are no stream, a line that can't be done, or a text of which nothing is made.
 
-    `number` and `place` are as the programs tell them, `word` is what the place counts, and `cure`
-    what to do. A line of a text, or a face or vertex of its mesh, is counted from 1.
+    number, place: as the programs tell them (docs/COMMANDS.md); place is None where there is none.
+    word: what the place counts. cure: what to do. A line of a text, or a face or vertex of its
+    mesh, is counted from 1.
     """
+
+    number: int
+    place: Optional[int]
+    word: str
+    cure: str
 
     def __init__(self, number: int, place: Optional[int] = None, table: Table = OF_STREAM) -> None:
         self.number = number
@@ -88,6 +94,26 @@ class Fault(ValueError):
         where = f" {self.word} {place}" if self.place is not None else ""
         cure = f" ({self.cure})" if self.cure else ""
         super().__init__(f"fault {number}{where}: {meaning}{cure}")
+
+
+class StreamFault(Fault):
+    """The bytes are no stream."""
+
+
+class LineFault(Fault):
+    """The script line is none of the forms, or names no record."""
+
+
+class TextFault(Fault):
+    """The text has a fault, so that nothing is made of it."""
+
+
+class NotMesh(TextFault):
+    """What was given is no OBJ text with a face in it; the message tells what it is."""
+
+    def __init__(self, told: str, number: int = 14, place: Optional[int] = None) -> None:
+        cure = "give it the bytes of an OBJ file"
+        super().__init__(number, place, {number: (told, "line", cure)})
 
 
 class NotOpen(ValueError):

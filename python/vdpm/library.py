@@ -2,11 +2,15 @@
 import ctypes
 import hashlib
 import os
+from fractions import Fraction
 from pathlib import Path
-from typing import Dict, NamedTuple, Optional, Union
+from typing import Any, Dict, NamedTuple, Optional, Union
 
-from .faults import OF_STREAM, Fault, NotOpen, Table
+from .faults import LineFault, NotOpen, StreamFault, Table, TextFault
+from .fields import exact
 
+# What is taken for a text or a line.
+Text = Union[str, bytes, bytearray, memoryview]
 FAULTY, OUT_OF_RANGE = 1, 2
 DONE, NO_MEMORY, NOT_SO, NO_ROOM, NO_SUCH, QUIT = 0, 5, 6, 7, 8, 9
 BAD_LINE, NO_RECORD = 30, 31
@@ -129,23 +133,29 @@ def check(status: int, place: Optional[int] = None) -> None:
         raise ValueError("an array has too little room")
     if status == OUT_OF_RANGE:
         raise ValueError("a number is out of its range")
-    raise Fault(status, place)
+    raise (LineFault if status in (BAD_LINE, NO_RECORD) else StreamFault)(status, place)
 
 
 def check_made(status: int, told: Told, table: Table) -> None:
     """Raises what a status says of a text."""
     if status == FAULTY:
-        raise Fault(told.number, told.place or None, table)
+        raise TextFault(told.number, told.place or None, table)
     check(status)
 
 
-def number_to(most: int, number: int, name: str) -> int:
-    """A number from 0 to `most`: ctypes would cut off what doesn't fit."""
-    if not 0 <= number <= most:
-        raise ValueError(f"{name} is {number}, and not from 0 to {most}")
-    return number
+def number_to(most: int, number: Any, name: str) -> int:
+    """A whole number from 0 to `most`: ctypes would cut off what doesn't fit."""
+    it = Fraction(0) if type(number) is int else exact(number, name)
+    if it.denominator != 1 or not 0 <= number <= most:
+        raise ValueError(f"{name} is {number}, and not a whole number from 0 to {most:,}")
+    return int(number)
 
 
-def bytes_of(text: Union[str, bytes]) -> bytes:
-    """A text as bytes."""
-    return text.encode() if isinstance(text, str) else bytes(text)
+def bytes_of(given: Any, what: str = "a text") -> bytes:
+    """What was given as bytes. A str is a text, and never the bytes of something."""
+    if isinstance(given, str) and what == "a text":
+        return given.encode()
+    if isinstance(given, (bytes, bytearray, memoryview)):
+        return bytes(given)
+    raise TypeError(f"{what} is asked for as bytes, and {given!r:.80} is of type "
+                    f"{type(given).__name__}: a file's bytes are open(path, 'rb').read()")

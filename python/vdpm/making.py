@@ -1,19 +1,81 @@
 """Making a text fit, and making a stream of it."""
 import ctypes
-from typing import Any, NamedTuple, Optional, Tuple, Union
+import os
+import re
+from fractions import Fraction
+from typing import Any, NamedTuple, Optional, Tuple
 
-from .faults import OF_ANY_TEXT, OF_TEXT, Table
-from .library import (MOST_NUMBER, Handle, Told, bytes_of, check, check_made, load, number_to)
+from .faults import OF_ANY_TEXT, OF_TEXT, NotMesh, Table, TextFault
+from .library import (MOST_NUMBER, Handle, Text, Told, bytes_of, check, check_made, load,
+                      number_to)
 
 MOST_DIGITS, MOST_SIZE = 4, 32767
-Text = Union[str, bytes]
+PLACED = re.compile(r"coordinate = (\S+) / (\d+) \* place \+ \((\S+) (\S+) (\S+)\)")
+FACE = re.compile(rb"^[ \t]*f[ \t]", re.MULTILINE)
+SUFFIX = re.compile(r"\.[A-Za-z]\w{0,7}\Z")
+# How files of other kinds begin.
+KINDS = (
+    (rb"ply\r?\n", "a PLY"), (rb"glTF", "a GLB"), (rb"VDPM", "a stream, which is made already"),
+    (rb"solid\b[^\n]*\n\s*(?:facet|endsolid)\b", "an STL"), (rb"OFF\s", "an OFF"),
+    (rb"PK\x03\x04", "a zip"), (rb"\x1f\x8b", "a gzip"), (rb"Kaydara FBX", "an FBX"),
+    (rb"\s*[{\[]", "JSON"), (rb"\s*<", "XML"),
+)  # fmt: skip
 
 
 class Prepared(NamedTuple):
-    """An OBJ text that is fit for `build` and `simplify`, and what was done, a line each."""
+    """An OBJ text that is fit for `build` and `simplify`, and what was done.
+
+    text: the text, whose places are whole numbers but where coordinates stood as they stood.
+    notes: a line each of what was done (docs/COMMANDS.md).
+    """
 
     text: bytes
     notes: Tuple[str, ...]
+
+    def __repr__(self) -> str:
+        return f"Prepared({len(self.text)} bytes, {len(self.notes)} notes)"
+
+    @property
+    def scale(self) -> Fraction:
+        """By what a number of the text is multiplied, before `middle` is added, to be the
+        coordinate that it was; 1 where coordinates stand as they stood."""
+        found = self._placed()
+        return Fraction(found[1]) / int(found[2]) if found else Fraction(1)
+
+    @property
+    def middle(self) -> Tuple[Fraction, Fraction, Fraction]:
+        """What is added to x, y and z after that: coordinate = scale * number + middle."""
+        found = self._placed()
+        x, y, z = (Fraction(found[at]) if found else Fraction(0) for at in (3, 4, 5))
+        return x, y, z
+
+    def _placed(self) -> Optional["re.Match[str]"]:
+        return next(filter(None, map(PLACED.search, self.notes)), None)
+
+
+def _is_binary_stl(data: bytes) -> bool:
+    return len(data) >= 84 and len(data) == 84 + 50 * int.from_bytes(data[80:84], "little")
+
+
+def _what_it_is(data: bytes) -> Optional[str]:
+    """What is told of bytes that are known to be no OBJ text."""
+    kinds = [kind for begins, kind in KINDS if re.match(begins, data)]
+    if kinds or _is_binary_stl(data):
+        return f"it is {(kinds or ['an STL'])[0]}"
+    name = data.decode(errors="replace")
+    if len(data) < 4096 and "\n" not in name and (SUFFIX.search(name) or _is_file(name)):
+        return f"it is {name!r}, the path of a text: open(path, 'rb').read() is one"
+    return None
+
+
+def _is_file(name: str) -> bool:
+    return bool(name) and "\0" not in name and os.path.exists(name)
+
+
+def _text_of(given: Text) -> bytes:
+    if isinstance(given, os.PathLike):
+        raise TypeError(f"{given!r} is a path, and not a text: open(path, 'rb').read() is")
+    return bytes_of(given)
 
 
 def _made(library: ctypes.CDLL, table: Table, function: Any, *asked: Any) -> Tuple[bytes, bytes]:
@@ -31,44 +93,67 @@ def _made(library: ctypes.CDLL, table: Table, function: Any, *asked: Any) -> Tup
         library.vdpm_made_close(made)
 
 
-def build(text: Text, faces: int = 0, digits: int = 0, library: Optional[str] = None) -> bytes:
+def _of_text(library: ctypes.CDLL, table: Table, function: Any, allow_empty: bool, data: bytes,
+             *asked: int) -> Tuple[bytes, bytes]:
+    """The same of a text, and what it is where it is known to be none."""
+    try:
+        made = _made(library, table, function, data, len(data), *asked)
+    except TextFault as fault:
+        told = _what_it_is(data)
+        if told is None:
+            raise
+        raise NotMesh(told, fault.number, fault.place) from fault
+    if not allow_empty and not FACE.search(data):
+        told = (f"no line begins with f in its {len(data)} bytes, which begin with {data[:32]!r}; "
+                "allow_empty=True makes a stream of it")
+        raise NotMesh(_what_it_is(data) or told)
+    return made
+
+
+def build(text: Text, faces: int = 0, digits: int = 0, library: Optional[str] = None, *,
+          allow_empty: bool = False) -> bytes:
     """Makes the stream of an OBJ text, as `vdpm build FACES --digits DIGITS` does.
 
-    Its mesh is simplified to so many faces, or as far as that goes, and its coordinates have so
-    many decimals, from 0 to 4.
+    text: the text itself, not its path, as bytes or str.
+    faces: how many faces the base mesh is simplified to; 0: as far as that goes.
+    digits: decimals of a coordinate, from 0 to 4. A unit is 10 to the power of -digits.
+    allow_empty: makes the stream of a text without a face too.
 
-    Raises Fault where the program refuses the text, with the line, or the face or vertex of its
-    mesh, as its place; ValueError where a number is out of its range; and MemoryError.
+    Raises TextFault where the program refuses the text, with the line, or the face or vertex of its
+    mesh, as its place; NotMesh, which is one, where it is no OBJ text with a face; ValueError where
+    a number is out of its range; and MemoryError.
     """
-    data, loaded = bytes_of(text), load(library)
-    number_to(MOST_NUMBER, faces, "faces")
-    number_to(MOST_DIGITS, digits, "digits")
-    return _made(loaded, OF_TEXT, loaded.vdpm_build, data, len(data), faces, digits)[0]
+    data, loaded = _text_of(text), load(library)
+    faces = number_to(MOST_NUMBER, faces, "faces")
+    digits = number_to(MOST_DIGITS, digits, "digits")
+    return _of_text(loaded, OF_TEXT, loaded.vdpm_build, allow_empty, data, faces, digits)[0]
 
 
 def simplify(text: Text, faces: int = 0, digits: int = 0, keep_border: bool = False,
-             library: Optional[str] = None) -> bytes:
+             library: Optional[str] = None, *, allow_empty: bool = False) -> bytes:
     """Makes the stream of an OBJ text, as `simplify FACES --digits DIGITS` does: by finer costs.
 
-    With `keep_border` each frame of the stream shows the border of the mesh. Else it is as `build`.
+    keep_border: each frame of the stream shows the border of the mesh. Else it is as `build`.
     """
-    data, loaded = bytes_of(text), load(library)
-    number_to(MOST_NUMBER, faces, "faces")
-    number_to(MOST_DIGITS, digits, "digits")
-    return _made(loaded, OF_TEXT, loaded.vdpm_simplify, data, len(data), faces, digits,
-                 bool(keep_border))[0]
+    data, loaded = _text_of(text), load(library)
+    faces = number_to(MOST_NUMBER, faces, "faces")
+    digits = number_to(MOST_DIGITS, digits, "digits")
+    return _of_text(loaded, OF_TEXT, loaded.vdpm_simplify, allow_empty, data, faces, digits,
+                    bool(keep_border))[0]
 
 
 def prepare(text: Text, size: Optional[int] = None, library: Optional[str] = None) -> Prepared:
     """Makes any OBJ text fit for `build` and `simplify`, as the program `prepare` does.
 
-    Without a size, points that fit the grid stand as they are; with one, from 1 to 32,767, the
-    longest axis of the box goes from -size to size.
+    text: the text itself, not its path, as bytes or str.
+    size: None, and places that fit the grid stand as they are; or from 1 to 32,767: the longest
+    axis of the box goes from -size to size.
 
-    Raises Fault, with the line, where the program refuses the text; ValueError; and MemoryError.
+    Raises TextFault, with the line, where the program refuses the text; NotMesh, which is one,
+    where it is no OBJ text; ValueError; and MemoryError.
     """
-    data, loaded = bytes_of(text), load(library)
-    if size is not None and not 1 <= size <= MOST_SIZE:
-        raise ValueError(f"size is {size}, and not from 1 to {MOST_SIZE}")
-    made, notes = _made(loaded, OF_ANY_TEXT, loaded.vdpm_prepare, data, len(data), size or 0)
+    data, loaded = _text_of(text), load(library)
+    if size is not None and number_to(MOST_SIZE, size, "size") == 0:
+        raise ValueError(f"size is {size}, and not from 1 to {MOST_SIZE:,}")
+    made, notes = _of_text(loaded, OF_ANY_TEXT, loaded.vdpm_prepare, True, data, size or 0)
     return Prepared(made, tuple(notes.decode().splitlines()))

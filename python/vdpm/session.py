@@ -1,132 +1,41 @@
 """A hierarchy that is being shown."""
-import array
 import ctypes
-from typing import Any, List, NamedTuple, Optional, Sequence, Tuple, Union
+import threading
+from typing import TYPE_CHECKING, Any, List, Optional, Sequence
 
-try:
-    import numpy
-except ImportError:
-    numpy = None
+from .fields import MOST_OF_EYE, MOST_WAY, Number, pixels, planes_of, whole
+from .library import (MOST_NUMBER, NO_ROOM, NONE, Handle, Text, bytes_of, check, load, number_to)
+from .rooms import copied, in_rows, in_threes, room_for, rooms_for_change, values_in_room
+from .shapes import Bounds, Change, Frame, Hit, Level, Moved, Place, Shape, Sizes, Strips
 
-from .library import (MOST_NUMBER, NO_ROOM, NONE, NUMBERS, SHORT, SIGNED, Handle, bytes_of, check,
-                      load, number_to)
-
-MOST_VALUE = 65535
-
-
-class Sizes(NamedTuple):
-    """How large the mesh shown and the hierarchy are, and how many decimals a coordinate has."""
-
-    shown_nodes: int
-    shown_faces: int
-    nodes: int
-    leaves: int
-    records: int
-    digits: int
-
-
-class Frame(NamedTuple):
-    """The mesh that is shown, in the order of the frame text, as numpy arrays or as `array.array`s.
-
-    nodes: the active nodes, ascending. places: three coordinates for each (a row each in numpy).
-    faces: the kept faces, ascending. corners: three positions in `nodes` for each face (a row each
-    in numpy). corner_nodes: the same corners as node numbers.
-    """
-
-    nodes: Any
-    places: Any
-    faces: Any
-    corners: Any
-    corner_nodes: Any
-
-
-class Change(NamedTuple):
-    """What changed since the marked front, each list ascending, as numpy arrays or `array.array`s.
-
-    gone_faces, gone_nodes: what is no longer shown. new_nodes: the nodes that weren't shown.
-    new_places: three coordinates for each (a row each in numpy). put_faces: the faces that weren't
-    shown, or were with another corner. put_corners: the three nodes of each (a row each in numpy).
-    """
-
-    gone_faces: Any
-    gone_nodes: Any
-    new_nodes: Any
-    new_places: Any
-    put_faces: Any
-    put_corners: Any
-
-
-class Moved(NamedTuple):
-    """How many splits and collapses a view made, and how many are left to its target."""
-
-    moves: int
-    left: int
-
-
-class Hit(NamedTuple):
-    """The face that a ray meets first, at its origin plus `s / q` of its way."""
-
-    face: int
-    s: int
-    q: int
-
-
-Strips = Tuple[Tuple[int, ...], ...]
-
-
-# By kind: what points at such numbers, their name in numpy, and their bytes.
-KINDS = {"I": (NUMBERS, "uint32", 4), "i": (SIGNED, "int32", 4), "H": (SHORT, "uint16", 2)}
-
-
-def _room(kind: str, count: int) -> Tuple[Any, Any]:
-    """Room for so many numbers, and a pointer to it."""
-    pointed, name, size = KINDS[kind]
-    if numpy is not None:
-        room = numpy.empty(max(count, 1), dtype=name)
-        return room[:count], room.ctypes.data_as(pointed)
-    room = array.array(kind, bytes(size * count))
-    held = array.array(kind, [0]) if count == 0 else room
-    return room, ctypes.cast((ctypes.c_uint8 * (size * max(count, 1))).from_buffer(held), pointed)
-
-
-def _values(given: Any) -> Tuple[int, Any]:
-    """How many numbers there are, each from 0 to 65,535, and a pointer to them in a row."""
-    numbers = list(given) if numpy is None else numpy.asarray(given).ravel()
-    if len(numbers) > 0:
-        if numpy is not None and numbers.dtype.kind not in "ui":
-            raise TypeError("values aren't whole numbers")
-        ends = (min(numbers), max(numbers)) if numpy is None else (numbers.min(), numbers.max())
-        for end in ends:
-            number_to(MOST_VALUE, end, "a value")
-    room, at = _room("H", len(numbers))
-    room[:] = numbers if numpy is not None else array.array("H", numbers)
-    return len(room), at
-
-
-def _change_rooms(sizes: Sequence[int]) -> List[Tuple[Any, Any]]:
-    """Room for a change with lists of these lengths."""
-    gone_faces, gone_nodes, new_nodes, put_faces = sizes
-    kinds = (("I", gone_faces), ("I", gone_nodes), ("I", new_nodes), ("i", 3 * new_nodes),
-             ("I", put_faces), ("I", 3 * put_faces))
-    return [_room(kind, count) for kind, count in kinds]
+if TYPE_CHECKING:
+    from .shapes import Short
 
 
 class Session:
-    """A hierarchy that is being shown. It is a context manager, which closes it at its end."""
+    """A hierarchy that is being shown, as a context manager, which closes it at its end.
+
+    Any thread may call it; a call waits until that of another thread is done. What a call answers
+    is the caller's own. Coordinates are whole numbers of units.
+    """
 
     def __init__(self, stream: bytes, budget: int = MOST_NUMBER,
                  library: Optional[str] = None) -> None:
-        """Opens the bytes that `vdpm build` wrote. A view makes at most `budget` moves.
+        """Opens a stream, the bytes that `build` and `simplify` make, and shows its base mesh.
 
-        Raises Fault where `vdpm check` refuses the bytes, and MemoryError.
+        budget: how many moves, which are splits and collapses, a view makes at most.
+
+        Raises StreamFault where `vdpm check` refuses the bytes, and MemoryError.
         """
-        number_to(MOST_NUMBER, budget, "budget")
+        self._lock = threading.RLock()
         self._viewer = Handle(None, 0)
+        data = bytes_of(stream, "a stream")
+        budget = number_to(MOST_NUMBER, budget, "budget")
         self._library = load(library)
         # (a change is written into these, which grow where one has more)
-        self._rooms = _change_rooms((256, 256, 256, 256))
+        self._rooms = rooms_for_change((256, 256, 256, 256))
+        self._bounds: Optional[Bounds] = None
         place = ctypes.c_uint64()
-        data = bytes(stream)
         status = self._library.vdpm_open(data, len(data), budget, self._viewer, place)
         check(status, place.value)
 
@@ -141,18 +50,30 @@ class Session:
         if hasattr(self, "_library"):
             self.close()
 
+    def __repr__(self) -> str:
+        with self._lock:
+            if not self._viewer.open:
+                return "<vdpm.Session, closed>"
+            it = self.sizes()
+        return (f"<vdpm.Session, showing {it.shown_nodes} of {it.leaves} vertices, "
+                f"{it.shown_faces} faces>")
+
     def close(self) -> None:
-        """Gives the memory back. A closed session stays so."""
-        self._library.vdpm_close(self._viewer)
+        """Gives the memory back. A closed session stays so, and its methods raise NotOpen."""
+        with self._lock:
+            self._library.vdpm_close(self._viewer)
 
-    def line(self, text: Union[str, bytes]) -> bytes:
-        """Does one script line of `vdpm live`, given without its LF, and answers its reply.
+    def line(self, text: Text) -> bytes:
+        """Does one script line of `vdpm live` (docs/FORMATS.md), given without its LF, and answers
+        its reply.
 
-        Raises Fault 30 where it is none of the forms and 31 where it names no record.
+        Raises LineFault with number 30 where it is none of the forms, and 31 where it names no
+        record.
         """
         data = bytes_of(text)
-        check(self._library.vdpm_line(self._viewer, data, len(data)))
-        return self._reply()
+        with self._lock:
+            check(self._library.vdpm_line(self._viewer, data, len(data)))
+            return self._reply()
 
     def _reply(self) -> bytes:
         length = ctypes.c_size_t()
@@ -161,41 +82,64 @@ class Session:
         check(self._library.vdpm_reply(self._viewer, out, length.value))
         return bytes(out)[: length.value]
 
-    def view(self, eye: Sequence[int], focal: int, tolerance: int,
-             planes: Sequence[Sequence[int]] = (), outline: Optional[int] = None,
+    def _words(self, word: str, numbers: Sequence[int] = ()) -> List[bytes]:
+        """The words of the reply to a line with these numbers."""
+        return self.line(" ".join([word, *map(str, numbers)])).split()
+
+    def view(self, eye: Sequence[Number], focal: Number, tolerance: Number,
+             planes: Sequence[Sequence[Number]] = (), outline: Optional[Number] = None,
              by_deviation: bool = False) -> Moved:
         """Adapts the mesh shown to a view.
 
-        `eye`: the place that is looked from. `focal`: the focal length, in pixels. `tolerance`: how
-        large an error may look, in pixels. `planes`: up to six groups a, b, c, o; what has
-        a x + b y + c z + o below 0 isn't refined. `outline`: a tolerance for outlines, at most the
-        other. `by_deviation`: judge nodes by how far their faces are, and not their vertices.
+        eye: the place that is looked from, in whole units.
+        focal: the focal length, in pixels.
+        tolerance: how far off a surface may look (its screen-space error), in pixels.
+        planes: up to six groups a, b, c, o; what has a x + b y + c z + o below 0 isn't refined.
+        outline: a tolerance for outlines, in pixels, at most the other.
+        by_deviation: judges nodes by how far their faces are from the surface, and not vertices.
+
+        Fractions are told exactly: a float is the decimal that it prints as, and a view asks for
+        the proportion of focal length and tolerances. Raises ValueError where that takes numbers
+        above 65,535, where the eye isn't on whole units, and where a number is out of its range.
+        `camera` gives eye, focal length and planes of a picture.
         """
         word = "v" + ("d" if by_deviation else "") + ("" if outline is None else "s")
-        numbers = [*eye, focal, tolerance, *(() if outline is None else (outline,))]
-        fields = [int(n) for n in numbers] + [int(n) for plane in planes for n in plane]
-        words = self.line(" ".join([word, *map(str, fields)])).split()
+        numbers = [*whole(eye, 3, MOST_OF_EYE, "eye"), *pixels(focal, tolerance, outline)]
+        words = self._words(word, numbers + planes_of(planes))
         return Moved(int(words[1]), int(words[2]) if words[0] == b"spent" else 0)
 
     def split(self, record: int) -> str:
         """Splits a record: "ok", or "not active" or "blocked F" where that is not legal."""
-        return self.line(f"s {record}").decode().rstrip("\n")
+        return self._moved("s", record)
 
     def collapse(self, record: int) -> str:
         """Collapses a record: "ok", or "not active" or "blocked F" where that is not legal."""
-        return self.line(f"c {record}").decode().rstrip("\n")
+        return self._moved("c", record)
+
+    def _moved(self, word: str, record: int) -> str:
+        number_to(MOST_NUMBER, record, "record")
+        return self.line(f"{word} {int(record)}").decode().rstrip("\n")
 
     def budget(self, moves: int) -> None:
         """A view makes at most so many moves from here on."""
-        self.line(f"b {moves}")
+        self._words("b", [number_to(MOST_NUMBER, moves, "moves")])
+
+    def measure(self) -> Shape:
+        """Counts the mesh shown: vertices, edges, faces, border loops, Euler characteristic."""
+        words = self._words("m")
+        return Shape(*(int(words[at]) for at in (1, 2, 3, 5, 7)))
+
+    def level(self) -> Level:
+        """The level of detail of the mesh shown."""
+        return Level(*map(int, self._words("l")[1:]))
 
     def mark(self) -> None:
         """Marks the front, from which `glide` and `change` go."""
-        self.line("k")
+        self._words("k")
 
     def glide(self, part: int, parts: int) -> bytes:
         """The text of the mesh at part/parts of the way from the marked front, or `not finer K`."""
-        return self.line(f"g {part} {parts}")
+        return self.line(f"g {int(part)} {int(parts)}")
 
     def change(self) -> Change:
         """What changed since the marked front, as arrays; the front is marked then.
@@ -204,28 +148,32 @@ class Session:
         `line("d")` answers the same as text.
         """
         sizes = (ctypes.c_uint32 * 4)()
-        status = self._fetch_change(sizes)
-        if status == NO_ROOM:
-            rooms = [len(self._rooms[i][0]) for i in (0, 1, 2, 4)]
-            self._rooms = _change_rooms([max(it, 2 * size) for it, size in zip(rooms, sizes)])
+        with self._lock:
             status = self._fetch_change(sizes)
-        check(status)
-        gone_faces, gone_nodes, new_nodes, put_faces = sizes
-        counts = (gone_faces, gone_nodes, new_nodes, 3 * new_nodes, put_faces, 3 * put_faces)
-        arrays = [room[:count] for (room, _), count in zip(self._rooms, counts)]
-        if numpy is not None:
-            arrays = [it.copy() for it in arrays]
-            for i in (3, 5):
-                arrays[i] = arrays[i].reshape(-1, 3)
-        return Change(*arrays)
+            if status == NO_ROOM:
+                rooms = [len(self._rooms[i][0]) for i in (0, 1, 2, 4)]
+                wanted = [max(it, 2 * size) for it, size in zip(rooms, sizes)]
+                self._rooms = rooms_for_change(wanted)
+                status = self._fetch_change(sizes)
+            check(status)
+            gone_faces, gone_nodes, new_nodes, put_faces = sizes
+            counts = (gone_faces, gone_nodes, new_nodes, 3 * new_nodes, put_faces, 3 * put_faces)
+            arrays = [copied(room, count) for (room, _), count in zip(self._rooms, counts)]
+        return Change(*in_threes(arrays, (3, 5)))
 
     def _fetch_change(self, sizes: Any) -> int:
         pairs = [it for (room, at) in self._rooms for it in (at, len(room))]
         return int(self._library.vdpm_change(self._viewer, *pairs, sizes))
 
-    def pick(self, origin: Sequence[int], direction: Sequence[int]) -> Optional[Hit]:
-        """The face of the full mesh that a ray meets first; None where it meets none."""
-        words = self.line(" ".join(["p", *(str(int(n)) for n in (*origin, *direction))])).split()
+    def pick(self, origin: Sequence[Number], direction: Sequence[Number]) -> Optional[Hit]:
+        """The face of the full mesh that a ray meets first; None where it meets none.
+
+        origin: in whole units. direction: whole numbers, at most 32,767 away from 0, not all 0.
+        """
+        way = whole(direction, 3, MOST_WAY, "direction")
+        if not any(way):
+            raise ValueError("direction is 0, so that it tells no way")
+        words = self._words("p", whole(origin, 3, MOST_OF_EYE, "origin") + way)
         return None if words[0] == b"miss" else Hit(*map(int, words[1:]))
 
     def strips(self) -> Strips:
@@ -236,63 +184,99 @@ class Session:
     def sizes(self) -> Sizes:
         """How large the mesh shown and the hierarchy are."""
         told = (ctypes.c_uint32 * len(Sizes._fields))()
-        check(self._library.vdpm_counts(self._viewer, told))
+        with self._lock:
+            check(self._library.vdpm_counts(self._viewer, told))
         return Sizes(*told)
 
     def frame(self) -> Frame:
         """The mesh that is shown, in arrays that the library writes into: nothing is copied."""
-        sizes = self.sizes()
-        v, f = sizes.shown_nodes, sizes.shown_faces
-        kinds = (("I", v), ("i", 3 * v), ("I", f), ("I", 3 * f), ("I", 3 * f))
-        rooms = [_room(kind, count) for kind, count in kinds]
-        pairs = [it for (room, at) in rooms for it in (at, len(room))]
-        check(self._library.vdpm_frame(self._viewer, *pairs))
-        arrays = [room for room, _ in rooms]
-        if numpy is not None:
-            for i in (1, 3, 4):
-                arrays[i] = arrays[i].reshape(-1, 3)
-        return Frame(*arrays)
+        with self._lock:
+            sizes = self.sizes()
+            v, f = sizes.shown_nodes, sizes.shown_faces
+            kinds = (("I", v), ("i", 3 * v), ("I", f), ("I", 3 * f), ("I", 3 * f))
+            rooms = [room_for(kind, count) for kind, count in kinds]
+            pairs = [it for (room, at) in rooms for it in (at, len(room))]
+            check(self._library.vdpm_frame(self._viewer, *pairs))
+        return Frame(*in_threes([room for room, _ in rooms], (1, 3, 4)))
+
+    def bounds(self) -> Bounds:
+        """The box of the full mesh, whatever is shown. The first call looks at each node, which
+        takes some seconds for a million; the session keeps the answer.
+
+        Raises ValueError where there are no vertices.
+        """
+        with self._lock:
+            places = [] if self._bounds else self._leaf_places()
+            if places:
+                x, y, z = zip(*places)
+                self._bounds = Bounds((min(x), min(y), min(z)), (max(x), max(y), max(z)))
+            if self._bounds is None:
+                raise ValueError("there are no vertices, so there is no box")
+            return self._bounds
+
+    def _leaf_places(self) -> List[Place]:
+        """Where the leaves are."""
+        library, viewer, places = self._library, ctypes.pointer(self._viewer), []
+        record, out = ctypes.c_uint32(), (ctypes.c_int32 * 3)()
+        told = ctypes.pointer(record)
+        for node in range(self.sizes().nodes):
+            check(library.vdpm_splitter(viewer, node, told))
+            if record.value == NONE:
+                check(library.vdpm_place(viewer, node, out, 3))
+                places.append((out[0], out[1], out[2]))
+        return places
 
     def splitter(self, node: int) -> Optional[int]:
-        """The record that splits a node; None for a node of one leaf."""
+        """The record that splits a node; None for a node of one leaf. IndexError: no such node."""
         return self._told(self._library.vdpm_splitter, node)
 
     def maker(self, node: int) -> Optional[int]:
-        """The record that made a node; None for a root."""
+        """The record that made a node; None for a root. IndexError: no such node."""
         return self._told(self._library.vdpm_maker, node)
 
     def ancestor(self, leaf: int) -> int:
-        """The active node that has a leaf below it."""
-        number = ctypes.c_uint32()
-        check(self._library.vdpm_ancestor(self._viewer, leaf, number))
-        return number.value
+        """The active node that has a leaf below it. IndexError: no such leaf."""
+        found = ctypes.c_uint32()
+        number_to(MOST_NUMBER, leaf, "leaf")
+        with self._lock:
+            check(self._library.vdpm_ancestor(self._viewer, leaf, found))
+        return found.value
 
-    def place(self, node: int) -> Tuple[int, int, int]:
-        """The coordinates of a node."""
+    def place(self, node: int) -> Place:
+        """The coordinates of a node, in units. IndexError: no such node."""
         out = (ctypes.c_int32 * 3)()
-        check(self._library.vdpm_place(self._viewer, node, out, 3))
+        number_to(MOST_NUMBER, node, "node")
+        with self._lock:
+            check(self._library.vdpm_place(self._viewer, node, out, 3))
         return out[0], out[1], out[2]
 
-    def means(self, values: Any, channels: int = 1) -> Any:
+    def means(self, values: Any, channels: int = 1) -> "Short":
         """What each node has, by number, of what the vertices of the full mesh have: the rounded
-        mean over the leaves under it, in each of the channels (three for a colour). It is the same
-        whatever is shown: `means(colours, 3)[frame.nodes]` are the colours of a frame's vertices.
+        mean over the leaves under it, in each channel. It is the same whatever is shown:
+        `means(colours, 3)[frame.nodes]` are the colours of a frame's vertices.
 
-        `values`: so many whole numbers from 0 to 65,535 for each vertex of the mesh that the stream
-        was made of, in its order; in numpy in rows or not. Answers as many for each node, in numpy
-        a row for each where there is more than one. Raises ValueError where they don't fit.
+        values: so many whole numbers from 0 to 65,535 as channels for each vertex of the mesh that
+        the stream was made of, in its order; in numpy of shape (L, channels) or flat.
+
+        Answers uint16 of shape (N, channels) for the N nodes, (N,) for one channel; without numpy a
+        flat `array.array`. Raises ValueError where the values don't fit.
         """
         number_to(MOST_NUMBER, channels, "channels")
-        sizes, (count, by_vertex) = self.sizes(), _values(values)
-        if count != channels * sizes.leaves:
-            raise ValueError(f"{count} values, and not {channels} for each of {sizes.leaves} "
-                             "vertices")
-        room, by_node = _room("H", channels * sizes.nodes)
-        check(self._library.vdpm_means(self._viewer, channels, by_vertex, count, by_node,
-                                       len(room)))
-        return room.reshape(-1, channels) if numpy is not None and channels > 1 else room
+        count, by_vertex = values_in_room(values)
+        with self._lock:
+            sizes = self.sizes()
+            if count != channels * sizes.leaves:
+                raise ValueError(f"{count} values, and not {channels} for each of {sizes.leaves} "
+                                 "vertices")
+            room, by_node = room_for("H", channels * sizes.nodes)
+            check(self._library.vdpm_means(self._viewer, channels, by_vertex, count, by_node,
+                                           len(room)))
+        answer: "Short" = in_rows(room, channels) if channels > 1 else room
+        return answer
 
     def _told(self, function: Any, node: int) -> Optional[int]:
         number = ctypes.c_uint32()
-        check(function(self._viewer, node, number))
+        number_to(MOST_NUMBER, node, "node")
+        with self._lock:
+            check(function(self._viewer, node, number))
         return None if number.value == NONE else number.value

@@ -7,7 +7,7 @@ from typing import Dict
 from .archives import Entries, Entry, zipped
 
 NAME = "vdpm"
-PLATFORM = "manylinux_2_{}_x86_64"
+PLATFORM = "manylinux_2_{}_{}"
 LEAST_GLIBC = 17  # (older ones have other names for the same)
 METADATA = """Metadata-Version: 2.1
 Name: {name}
@@ -17,10 +17,11 @@ License: MIT OR Apache-2.0
 Requires-Python: >=3.8
 Description-Content-Type: text/markdown
 
-`import vdpm`: streams of OBJ texts, and viewers of streams, as arrays. The library in it was built
-of commit {commit} by rustc, from sources that are proved in Rattle, with their contracts erased:
-the sources are proved, and this library isn't.
+`import vdpm`: streams of OBJ texts, and viewers of streams, as arrays. The library in it {said}
 """
+BY_RUSTC = """was built
+of commit {commit} by rustc, from sources that are proved in Rattle, with their contracts erased:
+the sources are proved, and this library isn't."""
 WHEEL = """Wheel-Version: 1.0
 Generator: tools/release.py
 Root-Is-Purelib: false
@@ -28,9 +29,9 @@ Tag: {tag}
 """
 
 
-def tag_of(glibc: int) -> str:
+def tag_of(glibc: int, machine: str = "x86_64") -> str:
     """Which systems the wheel is for: those whose glibc is 2.N or later."""
-    return f"py3-none-{PLATFORM.format(max(glibc, LEAST_GLIBC))}"
+    return f"py3-none-{PLATFORM.format(max(glibc, LEAST_GLIBC), machine)}"
 
 
 def record_of(library: bytes, told: Dict[str, str]) -> str:
@@ -46,22 +47,24 @@ def line_of(name: str, entry: Entry) -> str:
     return f"{name},sha256={digest},{len(entry.data)}\n"
 
 
-def wheel(top: Path, library: bytes, version: str, glibc: int,
-          told: Dict[str, str]) -> Dict[str, bytes]:
-    """The wheel by its name. `told` is what the record says of the library."""
+def wheel(top: Path, library: bytes, version: str, glibc: int, told: Dict[str, str],
+          said: str = "", machine: str = "x86_64") -> Dict[str, bytes]:
+    """The wheel by its name. `told` is what the record says of the library, and `said` how the
+    description goes on of it."""
     info = f"{NAME}-{version}.dist-info"
     entries: Entries = {
         f"{NAME}/{path.name}": Entry(path.read_bytes())
-        for path in sorted((top / "python" / NAME).glob("*.py"))
+        for path in sorted((top / "python" / NAME).iterdir()) if path.suffix in (".py", ".typed")
     }
     entries[f"{NAME}/libvdpm.so"] = Entry(library, runs=True)
     entries[f"{NAME}/libvdpm.so.record"] = Entry(record_of(library, told).encode())
     for name in ("LICENSE-APACHE", "LICENSE-MIT"):
         entries[f"{info}/{name}"] = Entry((top / name).read_bytes())
-    text = METADATA.format(name=NAME, version=version, commit=told["commit"])
+    said = said or BY_RUSTC.format(commit=told["commit"])
+    text = METADATA.format(name=NAME, version=version, said=said)
     entries[f"{info}/METADATA"] = Entry(text.encode())
-    entries[f"{info}/WHEEL"] = Entry(WHEEL.format(tag=tag_of(glibc)).encode())
+    entries[f"{info}/WHEEL"] = Entry(WHEEL.format(tag=tag_of(glibc, machine)).encode())
     lines = [line_of(name, entry) for name, entry in sorted(entries.items())]
     lines.append(f"{info}/RECORD,,\n")
     entries[f"{info}/RECORD"] = Entry("".join(lines).encode())
-    return {f"{NAME}-{version}-{tag_of(glibc)}.whl": zipped(entries)}
+    return {f"{NAME}-{version}-{tag_of(glibc, machine)}.whl": zipped(entries)}

@@ -8,7 +8,7 @@ from pathlib import Path
 from typing import List, Optional, Tuple
 
 from quick_start.record import is_current
-from quick_start.sources import LIBRARY
+from quick_start.sources import LIBRARY, SHARED
 from quick_start.sources import Program as Sources
 
 from . import manual
@@ -24,7 +24,7 @@ def built_library() -> Optional[Path]:
     """The proved library of these sources, or else the one that isn't proved."""
     sources = Sources(TOP, LIBRARY)
     for folder in ("proved", "unproved"):
-        path = TOP / folder / f"{LIBRARY}.so"
+        path = TOP / folder / SHARED
         if is_current(sources, path):
             return path
     return None

@@ -1,0 +1,68 @@
+"""Arrays that the library writes into: numpy's where it is there, else `array.array`s."""
+import array
+import ctypes
+from typing import Any, Dict, List, Sequence, Tuple
+
+numpy: Any
+try:
+    import numpy
+except ImportError:
+    numpy = None
+
+from .library import NUMBERS, SHORT, SIGNED, number_to
+
+MOST_VALUE = 65535
+# By kind: what points at such numbers, their name in numpy, and their bytes.
+KINDS: Dict[str, Tuple[Any, str, int]] = {
+    "I": (NUMBERS, "uint32", 4), "i": (SIGNED, "int32", 4), "H": (SHORT, "uint16", 2),
+}  # fmt: skip
+# An array, and a pointer to its first number.
+Room = Tuple[Any, Any]
+
+
+def room_for(kind: str, count: int) -> Room:
+    """Room for so many numbers, and a pointer to it."""
+    pointed, name, size = KINDS[kind]
+    if numpy is not None:
+        room = numpy.empty(max(count, 1), dtype=name)
+        return room[:count], room.ctypes.data_as(pointed)
+    plain = array.array(kind, bytes(size * count))
+    held = array.array(kind, [0]) if count == 0 else plain
+    return plain, ctypes.cast((ctypes.c_uint8 * (size * max(count, 1))).from_buffer(held), pointed)
+
+
+def values_in_room(given: Any) -> Tuple[int, Any]:
+    """How many numbers there are, each from 0 to 65,535, and a pointer to them in a row."""
+    numbers = list(given) if numpy is None else numpy.asarray(given).ravel()
+    if len(numbers) > 0:
+        if numpy is not None and numbers.dtype.kind not in "ui":
+            raise TypeError("values aren't whole numbers")
+        ends = (min(numbers), max(numbers)) if numpy is None else (numbers.min(), numbers.max())
+        for end in ends:
+            number_to(MOST_VALUE, end, "a value")
+    room, at = room_for("H", len(numbers))
+    room[:] = numbers if numpy is not None else array.array("H", numbers)
+    return len(room), at
+
+
+def rooms_for_change(sizes: Sequence[int]) -> List[Room]:
+    """Room for a change with lists of these lengths."""
+    gone_faces, gone_nodes, new_nodes, put_faces = sizes
+    kinds = (("I", gone_faces), ("I", gone_nodes), ("I", new_nodes), ("i", 3 * new_nodes),
+             ("I", put_faces), ("I", 3 * put_faces))
+    return [room_for(kind, count) for kind, count in kinds]
+
+
+def in_rows(numbers: Any, width: int) -> Any:
+    """The numbers, with a row for each `width` of them where numpy is there."""
+    return numbers if numpy is None else numbers.reshape(-1, width)
+
+
+def in_threes(arrays: List[Any], places: Sequence[int]) -> List[Any]:
+    """The arrays, those at these places in rows of three."""
+    return [in_rows(it, 3) if at in places else it for at, it in enumerate(arrays)]
+
+
+def copied(room: Any, count: int) -> Any:
+    """A copy of the first numbers."""
+    return room[:count].copy() if numpy is not None else room[:count]

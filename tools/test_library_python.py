@@ -1,0 +1,320 @@
+"""Tries python/vdpm as its callers use it: python3 tools/test_library_python.py
+
+The bytes and arrays that it answers are compared in test_library.py and test_library_making.py.
+"""
+import contextlib
+import doctest
+import importlib.util
+import io
+import os
+import pydoc
+import subprocess
+import sys
+import tempfile
+import threading
+import unittest
+from fractions import Fraction
+from pathlib import Path
+from typing import Any, Callable, List, Set
+
+from tried_library import TOP, take_library
+
+import vdpm
+from vdpm.fields import multiples, pixels, plane
+
+OBJ, TORUS = TOP / "examples/octahedron.obj", (TOP / "examples/torus.obj").read_bytes()
+STREAM = (TOP / "examples/octahedron.vdpm").read_bytes()
+EYE = (0, -60000, 40000)
+
+
+def setUpModule() -> None:
+    take_library()
+
+
+def flat(numbers: Any) -> List[int]:
+    return [int(it) for it in getattr(numbers, "ravel", lambda: numbers)()]
+
+
+def torus() -> vdpm.Session:
+    return vdpm.Session(vdpm.simplify(vdpm.prepare(TORUS, 30000).text))
+
+
+class Views(unittest.TestCase):
+    def shown(self, *numbers: Any, **told: Any) -> List[int]:
+        with torus() as session:
+            session.view(EYE, *numbers, **told)
+            return flat(session.frame().nodes)
+
+    def test_fractions_are_told_exactly(self) -> None:
+        self.assertEqual(pixels(1000, 0.5, None), [2000, 1])
+        self.assertEqual(pixels(1000, 0.1, None), [10000, 1])
+        self.assertEqual(pixels(Fraction(4001, 2), Fraction(3, 4), 0), [8002, 3, 0])
+        self.assertEqual(pixels(400000, 20, None), [20000, 1])
+        self.assertEqual(pixels(600, 4, 2), [600, 4, 2])
+        self.assertEqual(plane((0.5, 0, -0.25, 3), "it"), [2, 0, -1, 12])
+        self.assertEqual(multiples([Fraction(0), Fraction(0)]), [0, 0])
+
+    def test_a_view_asks_for_the_proportion_alone(self) -> None:
+        for focal, tolerance, outline in ((700, 3, 2), (900, 8, 0), (500, 1, 1)):
+            whole = self.shown(focal, tolerance, outline=outline)
+            parts = [Fraction(it, 7) for it in (focal, tolerance, outline)]
+            self.assertEqual(self.shown(*parts[:2], outline=parts[2]), whole)
+            self.assertEqual(self.shown(3 * focal, 3 * tolerance, outline=3 * outline), whole)
+        self.assertLess(len(self.shown(1, 0.5)), len(self.shown(1, 0)))
+
+    def test_what_is_out_of_range_is_refused_in_its_own_words(self) -> None:
+        for told, numbers, more in (
+            ("eye has 16777216", ((16777216, 0, 0), 1, 1), {}),
+            ("eye has 0.5, and stands on whole units", ((0.5, 0, 0), 1, 1), {}),
+            ("eye has 2 numbers", ((0, 0), 1, 1), {}),
+            ("tolerance is -1.0, below 0", (EYE, 1, -1), {}),
+            ("round the focal length", (EYE, 514.4957554275265, 0.3), {}),
+            ("focal is nan", (EYE, float("nan"), 1), {}),
+            ("outline is 3.0, above the tolerance 2.0", (EYE, 1, 2), {"outline": 3}),
+            ("7 planes", (EYE, 1, 2, [(1, 0, 0, 0)] * 7), {}),
+            (r"planes\[1\] has 3 numbers", (EYE, 1, 2, [(1, 0, 0, 0), (1, 0, 0)]), {}),
+            (r"planes\[0\]: told in whole numbers", (EYE, 1, 2, [(40000, 0, 0, 0)]), {}),
+        ):
+            with self.subTest(told), torus() as session:
+                with self.assertRaisesRegex(ValueError, told):
+                    session.view(*numbers, **more)
+        with torus() as session:
+            with self.assertRaisesRegex(TypeError, "focal is '1', and not a number"):
+                session.view(EYE, "1", 1)  # type: ignore[arg-type]
+            with self.assertRaisesRegex(ValueError, "tells no way"):
+                session.pick(EYE, (0, 0, 0))
+            with self.assertRaisesRegex(ValueError, "not a whole number from 0"):
+                session.split(-1)
+
+    def test_a_camera_has_the_sides_of_its_picture(self) -> None:
+        look = vdpm.camera(800, 600, 60, EYE, (0, 0, 0))
+        self.assertEqual((look.focal, len(look.planes)), (520, 4))
+
+        def inside(x: int, y: int, z: int) -> List[bool]:
+            return [a * x + b * y + c * z + o >= 0 for a, b, c, o in look.planes]
+
+        self.assertEqual(inside(0, 0, 0), [True] * 4)
+        # (left and right, below and above, in this order; behind the eye is outside of all)
+        self.assertEqual(inside(-70000, 0, 0), [False, True, True, True])
+        self.assertEqual(inside(70000, 0, 0), [True, False, True, True])
+        self.assertEqual(inside(0, 0, -120000), [True, True, False, True])
+        self.assertEqual(inside(0, 0, 60000), [True, True, True, False])
+        self.assertEqual(inside(0, -120000, 80000), [False] * 4)
+        with torus() as session:
+            session.view(**look._asdict(), tolerance=1)
+            whole = len(session.frame().nodes)
+            aside = vdpm.camera(800, 600, 60, EYE, (90000, -60000, 40000))
+            session.view(**aside._asdict(), tolerance=1)
+            self.assertLess(len(session.frame().nodes), whole)
+
+    def test_a_camera_without_a_picture_is_refused(self) -> None:
+        for told, numbers in (
+            ("target is the eye", (8, 6, 60, EYE, EYE)),
+            ("fov is 180", (8, 6, 180, EYE, (0, 0, 0))),
+            ("up is the direction", (8, 6, 60, (0, 0, 9), (0, 0, 0))),
+            ("focal length is", (8, 600000, 20, EYE, (0, 0, 0))),
+            ("0 times 6 pixels", (0, 6, 60, EYE, (0, 0, 0))),
+        ):
+            with self.subTest(told), self.assertRaisesRegex(ValueError, told):
+                vdpm.camera(*numbers)
+
+
+class Told(unittest.TestCase):
+    def test_measure_and_level_are_the_lines(self) -> None:
+        with torus() as session:
+            session.view(EYE, 800, 5)
+            shape, level = session.measure(), session.level()
+            self.assertEqual("shape {} {} {} loops {} euler {}\n".format(*shape).encode(),
+                             session.line("m"))
+            self.assertEqual("level {} {} {} {} {}\n".format(*level).encode(), session.line("l"))
+            self.assertEqual(shape.euler, 0)
+
+    def test_bounds_are_those_of_the_full_mesh(self) -> None:
+        with torus() as session:
+            bounds = session.bounds()
+            for record in range(session.sizes().records):
+                session.split(record)
+            flats = flat(session.frame().places)
+            axes = [flats[axis::3] for axis in range(3)]
+            self.assertEqual(bounds, (tuple(map(min, axes)), tuple(map(max, axes))))
+        with vdpm.Session(vdpm.build("", allow_empty=True)) as session:
+            with self.assertRaisesRegex(ValueError, "no vertices"):
+                session.bounds()
+
+    def test_the_scale_leads_back(self) -> None:
+        text = b"v 0.25 1 2\nv 3 -1.5 0\nv 1 2 3.75\nf 1 2 3\n"
+        fit = vdpm.prepare(text, 1000)
+        places = [[int(it) for it in line.split()[1:]] for line in fit.text.decode().splitlines()
+                  if line.startswith("v ")]
+        given = [[Fraction(it) for it in line.split()[1:]] for line in text.decode().splitlines()
+                 if line.startswith("v ")]
+        for place, coordinates in zip(places, given):
+            for number, middle, coordinate in zip(place, fit.middle, coordinates):
+                self.assertLessEqual(abs(fit.scale * number + middle - coordinate), fit.scale / 2)
+        stands = vdpm.prepare(OBJ.read_bytes())
+        self.assertEqual((stands.scale, stands.middle), (1, (0, 0, 0)))
+
+    def test_what_is_answered_is_short_to_read(self) -> None:
+        session = vdpm.Session(STREAM)
+        self.assertEqual(repr(session), "<vdpm.Session, showing 4 of 6 vertices, 4 faces>")
+        self.assertEqual(repr(session.frame()), "Frame(4 vertices, 4 faces)")
+        self.assertIn("0 nodes gone", repr(session.change()))
+        session.close()
+        self.assertEqual(repr(session), "<vdpm.Session, closed>")
+        self.assertRegex(repr(vdpm.prepare(TORUS)), r"Prepared\(\d+ bytes, \d+ notes\)")
+
+    def test_help_tells_of_each_name(self) -> None:
+        for name in vdpm.__all__:
+            it = getattr(vdpm, name)
+            self.assertTrue(name == "Strips" or it.__doc__, name)
+            if isinstance(it, type):
+                own = [key for key in vars(it) if key[0] != "_" and callable(vars(it)[key])]
+                self.assertEqual([key for key in own if not vars(it)[key].__doc__], [], name)
+        text = pydoc.plain(pydoc.render_doc(vdpm.Session))
+        self.assertIn("in pixels", text)
+        self.assertIn("class Session", text)
+
+
+class NotTexts(unittest.TestCase):
+    def assert_told(self, told: str, given: Any, *makers: Callable[[Any], Any]) -> None:
+        for make in makers or (vdpm.prepare, vdpm.build, vdpm.simplify):
+            with self.subTest(told, maker=make.__name__):
+                with self.assertRaisesRegex(vdpm.NotMesh, told):
+                    make(given)
+
+    def test_what_was_given_is_told(self) -> None:
+        stl = bytes(80) + (1).to_bytes(4, "little") + bytes(50)
+        self.assert_told("'model.obj', the path of a text", "model.obj")
+        self.assert_told("the path of a text", str(OBJ))
+        self.assert_told("it is a PLY", b"ply\nformat ascii 1.0\n")
+        self.assert_told("it is an STL", b"solid it\n facet normal 0 0 1\n")
+        self.assert_told("it is an STL", stl)
+        self.assert_told("it is a stream", STREAM)
+        self.assert_told("it is a GLB", b"glTF\2\0\0\0")
+        self.assert_told("no line begins with f in its 16 bytes", b"v 0 0 0\nv 1 1 1\n", vdpm.build)
+        self.assert_told("no line begins with f in its 0 bytes", "", vdpm.build, vdpm.simplify)
+
+    def test_what_is_no_text_at_all_is_a_wrong_type(self) -> None:
+        for given in (OBJ, 5, None, [1, 2]):
+            with self.subTest(given), self.assertRaises(TypeError):
+                vdpm.build(given)  # type: ignore[arg-type]
+        with self.assertRaisesRegex(TypeError, "a stream is asked for as bytes"):
+            vdpm.Session("torus.vdpm")  # type: ignore[arg-type]
+
+    def test_faults_are_of_kinds(self) -> None:
+        with vdpm.Session(STREAM) as session:
+            for line in ("v", "s 99"):
+                with self.assertRaises(vdpm.LineFault):
+                    session.line(line)
+        with self.assertRaises(vdpm.StreamFault):
+            vdpm.Session(b"")
+        with self.assertRaises(vdpm.TextFault) as raised:
+            vdpm.build("v 0 0 0\nf 1 2 3\n")
+        self.assertNotIsInstance(raised.exception, vdpm.NotMesh)
+        self.assertTrue(issubclass(vdpm.TextFault, vdpm.Fault))
+
+
+class Threads(unittest.TestCase):
+    def run_all(self, works: List[Callable[[], None]]) -> None:
+        failed: List[BaseException] = []
+
+        def work(it: Callable[[], None]) -> None:
+            try:
+                it()
+            except BaseException as fault:  # pylint: disable=broad-except
+                failed.append(fault)
+
+        threads = [threading.Thread(target=work, args=(it,)) for it in works]
+        for thread in threads:
+            thread.start()
+        for thread in threads:
+            thread.join()
+        self.assertEqual(failed, [])
+
+    def test_three_threads_have_one_session(self) -> None:
+        with torus() as session:
+            seen: Set[bytes] = set()
+
+            def look() -> None:
+                for turn in range(60):
+                    session.view(EYE, 900, 1 + turn % 7)
+                    frame = session.frame()
+                    self.assertEqual(len(flat(frame.places)), 3 * len(frame.nodes))
+                    self.assertLess(max(flat(frame.corners)), len(frame.nodes))
+                    self.assertTrue(session.line("w").endswith(b"end\n"))
+                    seen.add(session.line("l").split()[0])
+                    session.change()
+
+            self.run_all([look] * 3)
+            self.assertEqual(seen, {b"level"})
+
+    def test_sixteen_threads_have_a_session_each(self) -> None:
+        stream, frames = vdpm.simplify(TORUS), set()
+
+        def look() -> None:
+            with vdpm.Session(stream) as session:
+                for turn in range(20):
+                    session.view((0, -3000, 100 * turn), 900, 1 + turn % 7)
+                frames.add(session.line("w"))
+
+        self.run_all([look] * 16)
+        self.assertEqual(len(frames), 1)
+
+    def test_a_session_may_be_closed_meanwhile(self) -> None:
+        session = torus()
+
+        def look() -> None:
+            with contextlib.suppress(vdpm.NotOpen):
+                for _ in range(200):
+                    session.view(EYE, 900, 3)
+                    session.frame()
+
+        self.run_all([look, look, session.close])
+        with self.assertRaises(vdpm.NotOpen):
+            session.frame()
+
+
+class Package(unittest.TestCase):
+    def test_the_page_says_what_is_answered(self) -> None:
+        before = os.getcwd()
+        os.chdir(TOP)
+        try:
+            with contextlib.redirect_stdout(io.StringIO()) as said:
+                done = doctest.testfile(str(TOP / "docs/LIBRARY.md"), module_relative=False)
+        finally:
+            os.chdir(before)
+        self.assertEqual(done.failed, 0, said.getvalue())
+        self.assertGreater(done.attempted, 5)
+
+    def test_a_caller_is_clean_under_mypy(self) -> None:
+        if importlib.util.find_spec("mypy") is None:
+            print("LEFT OUT: the types of a caller: there is no mypy")
+            self.skipTest("there is no mypy")
+        path = {"MYPYPATH": str(TOP / "python")}
+        with tempfile.TemporaryDirectory(prefix="mypy-") as room:
+            words = [sys.executable, "-m", "mypy", "--strict", "--cache-dir", room]
+            words += [str(TOP / "tools/library_callers/typed.py"), str(TOP / "python/vdpm")]
+            done = subprocess.run(words, env={**os.environ, **path}, capture_output=True, text=True,
+                                  check=False)
+        self.assertEqual(done.returncode, 0, done.stdout)
+
+    @unittest.skipUnless(importlib.util.find_spec("ensurepip"), "there is no ensurepip")
+    def test_pip_installs_it_without_a_network(self) -> None:
+        settings = {key: value for key, value in os.environ.items()
+                    if key not in ("PYTHONPATH", "VDPM_LIBRARY")}
+        with tempfile.TemporaryDirectory(prefix="venv-") as room:
+            subprocess.run([sys.executable, "-m", "venv", room], check=True, env=settings)
+            python = f"{room}/bin/python"
+            words = [python, "-m", "pip", "install", "--quiet", "--no-index", "--no-cache-dir",
+                     "--disable-pip-version-check", str(TOP)]
+            subprocess.run(words, check=True, env=settings)
+            asked = ("import vdpm, sys; it = vdpm.version(); print(it.path.startswith(sys.prefix),"
+                     " it.proved, bool(it.sources), vdpm.simplify(sys.stdin.read())[:4])")
+            done = subprocess.run([python, "-c", asked], cwd=room, input=OBJ.read_bytes(),
+                                  capture_output=True, check=True, env=settings)
+            self.assertTrue(list(Path(room).rglob("vdpm/py.typed")))
+        self.assertRegex(done.stdout.decode(), r"^True (True|False) True b'VDPM'$")
+
+
+if __name__ == "__main__":
+    unittest.main()
