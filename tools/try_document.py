@@ -7,7 +7,8 @@ at the top of the repository, by bash. A line `    ...` stands for any further l
 status 1 where something else was printed.
 
 The programs say at each run that they aren't proved yet, where they aren't. Exactly that line is
-left out of what is compared, as are the lines that tell of building, and the end tells of it.
+left out of what is compared, as are the lines that tell of building, and the end tells of it. So
+are those that `world.py` puts now and then, of how far it is.
 """
 import argparse
 import re
@@ -21,6 +22,7 @@ MARGIN = "    "
 # What the scripts of the programs say of one that isn't proved, beside what the program says.
 PROGRAM = "(vdpm|prepare|simplify)"
 BUILDING = re.compile(PROGRAM + ": (building( anew)? from|it is being built already)")
+PROGRESS = re.compile("world: (builds|built|checks|cuts|parts|reads|writes) .*")
 NOTICE = re.compile(PROGRAM + ": not proved on this machine yet, run-time checks are on; .*")
 
 
@@ -50,7 +52,8 @@ def commands(lines: Iterable[str]) -> List[Command]:
 def own_lines(printed: List[str]) -> Tuple[List[str], int]:
     """The lines without those on how a program was built, and how many of these were notices."""
     notices = [line for line in printed if NOTICE.fullmatch(line)]
-    own = [line for line in printed if line not in notices and not BUILDING.match(line)]
+    left_out = [line for line in printed if BUILDING.match(line) or PROGRESS.fullmatch(line)]
+    own = [line for line in printed if line not in notices and line not in left_out]
     return own, len(notices)
 
 

@@ -5,9 +5,9 @@
     ./viewer --film FLIGHT MODEL [--budget N] [--program PATH] > film.html
     ./viewer --page [MODEL] [--module FILE] > page.html
 
-MODEL is a stream; or an OBJ file, which `simplify` builds first, after `prepare` where it isn't
-fit; or the world.json of a world of tiles (docs/WORLDS.md). The page's address is printed, and
---open opens it; Ctrl-C ends all. With --film the script FLIGHT is played, and its frames are
+MODEL is a stream; or an OBJ, PLY or STL file, which `simplify` builds first, after `prepare` where
+it isn't fit; or the world.json of a world of tiles (docs/WORLDS.md). The page's address is printed,
+and --open opens it; Ctrl-C ends all. With --film the script FLIGHT is played, and its frames are
 written as one page that needs no server. With --page the window itself is written as one page
 that needs no server: it shows MODEL, or what is dropped on it, by the engine as a WebAssembly
 module, which FILE has or else is built. Needs Python 3.8 and a browser with WebGL 2, and no
@@ -53,7 +53,8 @@ def arguments(words: Optional[List[str]] = None) -> argparse.Namespace:
         description="Shows a mesh in the browser, refined for where the camera looks.",
     )
     add = parser.add_argument
-    add("model", type=Path, nargs="?", help="a stream, an OBJ file, or a world.json")
+    model = "a stream, an OBJ, PLY or STL file, or a world.json"
+    add("model", type=Path, nargs="?", help=model)
     add("--open", action="store_true", help="open the page in the browser")
     add("--budget", type=budget_of, default=ALL_MOVES, help="splits and collapses a view may make")
     add("--program", type=Path, default=TOP / "vdpm", help="vdpm, if not this repository's")
