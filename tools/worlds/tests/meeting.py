@@ -145,14 +145,14 @@ class Parents(WithWorld):
 
     def test_a_parent_has_as_many_faces_as_it_may_and_no_more(self) -> None:
         counts: Dict[int, int] = {}
-        for most in (0, 100, 150, 10**6):
+        for most in (0, 120, 150, 10**6):
             counts[most] = make_parent(VDPM, self.world, self.parent, most).faces
         inner = sum(tile.faces for tile in self.world.level(0))
-        self.assertLessEqual(counts[100], 100)
-        self.assertLess(100, counts[150])
+        self.assertLessEqual(counts[120], 120)
+        self.assertLess(120, counts[150])
         self.assertLessEqual(counts[150], 150)
         self.assertEqual(counts[10**6], inner)
-        self.assertLess(counts[0], counts[100])
+        self.assertLess(counts[0], counts[120])
 
     def test_no_vertex_is_farther_than_the_error(self) -> None:
         made = make_parent(VDPM, self.world, self.parent, 100)
