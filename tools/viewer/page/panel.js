@@ -8,6 +8,9 @@ const milliseconds = (n) => (n < 10 ? n.toFixed(1) : n.toFixed(0));
 const kilobytes = (n) => `${counted(Math.round(n / 1024))} kB`;
 export const ALL_MOVES = 4294967295;
 
+// Who wants little motion gets no glides and no flights of the camera, if they aren't asked for.
+export const isStill = matchMedia("(prefers-reduced-motion: reduce)");
+
 // A budget of the command line, which the slider may be unable to show; null once it was moved.
 const told = { budget: null };
 const chosen = (name) => document.querySelector(`input[name=${name}]:checked`).value;
@@ -66,6 +69,7 @@ export function sayModel({ notes = [], ...about }, { upright }) {
   part("notice").hidden = notices.length === 0;
   document.querySelector("input[value=own]").disabled = !coloured;
   if (coloured) choose("own")();
+  if (isStill.matches) part("glide").checked = false;
   told.budget = budget;
   part("budget").value = Math.round(Math.log2(Math.max(1, budget)));
 }

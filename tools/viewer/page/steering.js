@@ -2,6 +2,7 @@
 // pointer, and to a place that becomes the middle.
 import { homeOf, wayThrough } from "./camera.js";
 import { plus } from "./matrices.js";
+import { isStill } from "./panel.js";
 import { met } from "./picking.js";
 
 const ROOM = 1.08;    // of the mesh in a picture that shows the whole
@@ -11,7 +12,6 @@ const FARTHEST = 30;  // times the radius
 const CENTRED = 0.6;  // of the distance from which a place that becomes the middle is seen
 const HOLDS = 250;    // milliseconds for which what is under the pointer counts as known
 const STRAYS = 12;    // pixels that the pointer may move meanwhile
-const isStill = matchMedia("(prefers-reduced-motion: reduce)");
 
 const length = (p) => Math.hypot(...p);
 

@@ -63,6 +63,7 @@ class Controls(Page):
             self.press(name if name == "summary" else f"#{name}")
 
     def test_fit_turntable_and_drawer_by_mouse(self) -> None:
+        self.changes(lambda: self.press("#unhide"), "drawer.hidden")
         self.page.drag(MIDDLE, (MIDDLE[0] + 80, MIDDLE[1]))
         self.settle()
         self.changes(lambda: self.press("#home"), "viewer.camera.yaw")
@@ -71,7 +72,6 @@ class Controls(Page):
         self.page.until("viewer.camera.yaw > 0.55")
         self.press("#round")
         self.settle()
-        self.changes(lambda: self.press("#unhide"), "drawer.hidden")
         self.changes(lambda: self.press("#unhide"), "drawer.hidden")
 
     def test_each_key_that_the_panel_lists(self) -> None:

@@ -11,7 +11,7 @@ from viewer.program import ALL_MOVES, Answer
 
 from .common import Case, model
 
-WIDTH, HEIGHT = 760, 480
+WIDTH, HEIGHT = 760, 480  # where the bar folds
 COARSE = 12  # of the slider of tolerances
 
 

@@ -123,14 +123,22 @@ class Folding(Page):
     hidden = "[drawer.hidden, getComputedStyle(tools).display === 'none']"
 
     def test_the_drawer_is_shut_until_its_button_or_key_is_pressed(self) -> None:
-        self.assertEqual(self.value(self.hidden), [True, False])
+        self.assertEqual(self.value(self.hidden), [True, True])
         for act in (lambda: self.page.key("h"), lambda: self.press("#unhide")):
             for shown in (True, False):
                 act()
-                self.assertEqual(self.value(self.hidden), [not shown, False])
+                self.assertEqual(self.value(self.hidden), [not shown, not shown])
                 self.assertEqual(self.value("unhide.ariaExpanded"), str(shown).lower())
 
-    def test_in_a_narrow_window_the_tools_come_with_the_drawer(self) -> None:
+    def test_in_a_wide_window_the_tools_are_there(self) -> None:
+        self.addCleanup(self.page.resize, WIDTH, HEIGHT)
+        for width in (1001, 1280):
+            self.page.resize(width, HEIGHT)
+            self.page.until(f"innerWidth === {width}")
+            self.assertEqual(self.value(self.hidden), [True, False])
+            self.assertLessEqual(self.value("bar.scrollWidth"), width)
+
+    def test_in_a_narrow_window_the_drawer_lies_below(self) -> None:
         self.addCleanup(self.page.resize, WIDTH, HEIGHT)
         for width, height in ((390, 844), (720, 900)):
             self.page.resize(width, height)
@@ -157,6 +165,22 @@ class Folding(Page):
         self.page.until(f"viewer.camera.distance > 1.2 * {before} && {self.settled}")
         self.page.resize(WIDTH, HEIGHT)
         self.page.until(f"viewer.camera.distance === {before} && {self.settled}")
+
+
+class Motion(Page):
+    def test_who_wants_little_motion_gets_none(self) -> None:
+        self.assertTrue(self.value("viewer.set.glide"))
+        feature = {"name": "prefers-reduced-motion", "value": "reduce"}
+        self.page.call("Emulation.setEmulatedMedia", features=[feature])
+        self.addCleanup(self.page.scheme, "dark")
+        self.look_at(model("asteroid.obj"))
+        self.assertFalse(self.value("viewer.set.glide"))
+        yaw = self.value("viewer.camera.yaw")
+        self.moves(lambda: self.page.key("ArrowLeft"))
+        began = self.value("(viewer.steering.goHome()).then(() => viewer.steering.flight.begun)")
+        self.assertLess(began + 300, self.value("performance.now()"))
+        self.settle()
+        self.assertEqual(self.value("viewer.camera.yaw"), yaw)
 
 
 class Failing(Page):
