@@ -5,6 +5,7 @@ pub mod DecodeLaws
 pub mod CoderLaws
 pub mod UniformLaws
 pub mod GuessLaws
+pub mod DifferLaws
 pub mod NumberLaws
 pub mod ApartLaws
 pub mod SlotLaws

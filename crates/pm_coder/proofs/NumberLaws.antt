@@ -15,8 +15,9 @@ use Rattle.pm_coder.specs.RoundTrips.{NumbersDiffer}
 use Rattle.pm_coder.proofs.IntervalLaws.{at_least}
 use Rattle.pm_coder.proofs.CoderLaws.{can-first, can-rest, writer-can, made-writing, one_choice}
 use Rattle.pm_coder.proofs.UniformLaws.{le_yes, le_no, true≢false}
-use Rattle.pm_coder.proofs.GuessLaws.{tells-more, told-more, differ_on, differ_here}
-use Rattle.pm_coder.proofs.GuessLaws.{halvings-differ}
+use Rattle.pm_coder.proofs.GuessLaws.{tells-more, told-more}
+use Rattle.pm_coder.proofs.DifferLaws.{differ_on, differ_here}
+use Rattle.pm_coder.proofs.DifferLaws.{halvings-differ}
 
 -- The powers of two that come up.
 pub power_most : (place : ℕ) → place ≤ 31 → 2 ^ place ≤ 2147483648

@@ -1,4 +1,4 @@
-use Rattle.pm_coder.proofs.GuessLaws.{guesses-part}
+use Rattle.pm_coder.proofs.DifferLaws.{guesses-part}
 use Rattle.pm_coder.proofs.theory.guesses_are_read_back.Goals as goal
 
 pub returns : goal.returns

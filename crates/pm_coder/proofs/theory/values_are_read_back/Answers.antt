@@ -1,6 +1,6 @@
 use Rattle.pm_coder.proofs.CoderLaws.{made-are_read, readers-go_one_way, parts-join, parts-follow}
 use Rattle.pm_coder.proofs.UniformLaws.{uniforms-part}
-use Rattle.pm_coder.proofs.GuessLaws.{halvings-differ}
+use Rattle.pm_coder.proofs.DifferLaws.{halvings-differ}
 use Rattle.pm_coder.proofs.NumberLaws.{numbers-differ}
 use Rattle.pm_coder.proofs.theory.values_are_read_back.Goals as goal
 
