@@ -10,7 +10,7 @@ import json
 import os
 import struct
 from pathlib import Path
-from typing import Optional
+from typing import Any, Optional
 
 from quick_start.record import is_current
 from quick_start.sources import PROGRAMS, Program, sum_of_file
@@ -64,12 +64,18 @@ def packed(model: Model) -> bytes:
     return struct.pack("<I", len(head)) + head + model.stream + (model.colours or b"")
 
 
+def scale_told(told: Any) -> Optional[Scale]:
+    if told is None:
+        return None
+    x, y, z = told["middle"]
+    return Scale(told["unit"], (x, y, z))
+
+
 def unpacked(name: str, data: bytes) -> Model:
     (size,) = struct.unpack_from("<I", data)
     head, rest = json.loads(data[4:4 + size]), data[4 + size:]
     stream, colours = rest[:head["length"]], rest[head["length"]:]
-    told = head["scale"]
-    scale = Scale(told["unit"], tuple(told["middle"])) if told else None
+    scale = scale_told(head["scale"])
     coloured = colours if head["coloured"] else None
     known = (head["counts"], head["proved"], head["prepared"])
     return Model(name, stream, *known, scale, coloured, tuple(head["notes"]))
