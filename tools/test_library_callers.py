@@ -7,12 +7,15 @@ with little stack.
 import os
 import shutil
 import subprocess
+import sys
 import tempfile
 import unittest
 from pathlib import Path
 from typing import Iterator, List, Tuple
 
 from tried_library import TOP, compiled, take_library
+
+import vdpm
 
 OCTAHEDRON, TORUS = TOP / "examples/octahedron.obj", TOP / "examples/torus.obj"
 STREAM = TOP / "examples/octahedron.vdpm"
@@ -80,6 +83,42 @@ class Header(unittest.TestCase):
                 self.assertEqual((done.returncode, done.stderr), (0, ""))
             tried += 1
         self.assertGreater(tried, 0)
+
+
+class Pictures(unittest.TestCase):
+    def test_opengl_draws_a_model(self) -> None:
+        room = Path(folder.name)
+        archive = Path(os.environ["VDPM_LIBRARY"]).with_suffix(".a")
+        words = ["cc", "-std=gnu99", *STRICT, str(TOP / "examples/library/draw.c"), str(archive)]
+        words += ["-lEGL", "-lGL", "-lm", "-o", str(room / "draw")]
+        made = subprocess.run(words, capture_output=True, check=False)
+        if b"EGL" in made.stderr or b"lGL" in made.stderr:
+            print("LEFT OUT: the picture by OpenGL: EGL and GL aren't here")
+            self.skipTest("EGL and GL aren't here")
+        self.assertEqual(made.returncode, 0, made.stderr)
+        (room / "torus.vdpm").write_bytes(vdpm.simplify(vdpm.prepare(TORUS.read_bytes()).text))
+        drawn = subprocess.run([str(room / "draw"), str(room / "torus.vdpm"), "4"],
+                               capture_output=True, check=False)
+        if b"EGL" in drawn.stderr or b"OpenGL 3.3" in drawn.stderr:
+            print("LEFT OUT: the picture by OpenGL: no context for it")
+            self.skipTest("no OpenGL 3.3")
+        self.assertEqual(drawn.returncode, 0, drawn.stderr)
+        head, picture = drawn.stdout.split(b"\n", 1)
+        self.assertEqual((head, len(picture)), (b"P6 800 600 255", 3 * 800 * 600))
+        ground, at = picture[:3], 3 * (800 * 300 + 400)
+        lit = sum(picture[i : i + 3] != ground for i in range(0, len(picture), 3))
+        # (a ring, with a hole in the middle)
+        self.assertEqual(picture[at : at + 3], ground)
+        self.assertTrue(50_000 < lit < 200_000, lit)
+
+    def test_python_draws_a_model(self) -> None:
+        made = Path(folder.name) / "octahedron.png"
+        words = [sys.executable, str(TOP / "examples/library/render.py"), str(OCTAHEDRON),
+                 str(made)]
+        done = subprocess.run(words, env={**os.environ, "PYTHONPATH": str(TOP / "python")},
+                              capture_output=True, check=False)
+        self.assertEqual((done.returncode, done.stderr), (0, b""))
+        self.assertEqual(made.read_bytes()[:8], b"\x89PNG\r\n\x1a\n")
 
 
 class Callers(unittest.TestCase):
