@@ -82,7 +82,7 @@ class Means(unittest.TestCase):
             for value in (-1, 65536):
                 with self.assertRaises(ValueError):
                     session.means([0] * 5 + [value])
-            with self.assertRaises(TypeError):
+            with self.assertRaises(ValueError):
                 session.means([0.5] * 6)
             self.assertEqual(flat(session.means([], 0)), [])
 
