@@ -294,6 +294,8 @@ class Package(unittest.TestCase):
         with tempfile.TemporaryDirectory(prefix="mypy-") as room:
             words = [sys.executable, "-m", "mypy", "--strict", "--cache-dir", room]
             words += [str(TOP / "tools/library_callers/typed.py"), str(TOP / "python/vdpm")]
+            if importlib.util.find_spec("numpy") is None:
+                words.append("--ignore-missing-imports")
             done = subprocess.run(words, env={**os.environ, **path}, capture_output=True, text=True,
                                   check=False)
         self.assertEqual(done.returncode, 0, done.stdout)

@@ -3,11 +3,12 @@ import array
 import ctypes
 from typing import Any, Dict, List, Sequence, Tuple
 
-numpy: Any
 try:
-    import numpy
+    import numpy as found
 except ImportError:
-    numpy = None
+    numpy: Any = None
+else:
+    numpy = found
 
 from .library import NUMBERS, SHORT, SIGNED, number_to
 

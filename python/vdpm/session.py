@@ -9,7 +9,8 @@ from .rooms import copied, in_rows, in_threes, room_for, rooms_for_change, value
 from .shapes import Bounds, Change, Frame, Hit, Level, Moved, Place, Shape, Sizes, Strips
 
 if TYPE_CHECKING:
-    from .shapes import Short
+    from numpy import uint16
+    from numpy.typing import NDArray
 
 
 class Session:
@@ -250,7 +251,7 @@ class Session:
             check(self._library.vdpm_place(self._viewer, node, out, 3))
         return out[0], out[1], out[2]
 
-    def means(self, values: Any, channels: int = 1) -> "Short":
+    def means(self, values: Any, channels: int = 1) -> "NDArray[uint16]":
         """What each node has, by number, of what the vertices of the full mesh have: the rounded
         mean over the leaves under it, in each channel. It is the same whatever is shown:
         `means(colours, 3)[frame.nodes]` are the colours of a frame's vertices.
@@ -271,7 +272,7 @@ class Session:
             room, by_node = room_for("H", channels * sizes.nodes)
             check(self._library.vdpm_means(self._viewer, channels, by_vertex, count, by_node,
                                            len(room)))
-        answer: "Short" = in_rows(room, channels) if channels > 1 else room
+        answer: "NDArray[uint16]" = in_rows(room, channels) if channels > 1 else room
         return answer
 
     def _told(self, function: Any, node: int) -> Optional[int]:

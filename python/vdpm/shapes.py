@@ -2,12 +2,8 @@
 from typing import TYPE_CHECKING, Iterable, NamedTuple, Tuple
 
 if TYPE_CHECKING:
-    import numpy
+    from numpy import int32, uint32
     from numpy.typing import NDArray
-
-    Unsigned = NDArray[numpy.uint32]
-    Signed = NDArray[numpy.int32]
-    Short = NDArray[numpy.uint16]
 
 Place = Tuple[int, int, int]
 Strips = Tuple[Tuple[int, ...], ...]
@@ -46,11 +42,11 @@ class Frame(NamedTuple):
     corner_nodes: uint32, shape (F, 3), the same corners as numbers of nodes.
     """
 
-    nodes: "Unsigned"
-    places: "Signed"
-    faces: "Unsigned"
-    corners: "Unsigned"
-    corner_nodes: "Unsigned"
+    nodes: "NDArray[uint32]"
+    places: "NDArray[int32]"
+    faces: "NDArray[uint32]"
+    corners: "NDArray[uint32]"
+    corner_nodes: "NDArray[uint32]"
 
     def __repr__(self) -> str:
         return _counted("Frame", ((len(self.nodes), "vertices"), (len(self.faces), "faces")))
@@ -69,12 +65,12 @@ class Change(NamedTuple):
     put_corners: uint32, shape (D, 3), the corners of each as numbers of nodes.
     """
 
-    gone_faces: "Unsigned"
-    gone_nodes: "Unsigned"
-    new_nodes: "Unsigned"
-    new_places: "Signed"
-    put_faces: "Unsigned"
-    put_corners: "Unsigned"
+    gone_faces: "NDArray[uint32]"
+    gone_nodes: "NDArray[uint32]"
+    new_nodes: "NDArray[uint32]"
+    new_places: "NDArray[int32]"
+    put_faces: "NDArray[uint32]"
+    put_corners: "NDArray[uint32]"
 
     def __repr__(self) -> str:
         return _counted("Change", (
