@@ -10,7 +10,7 @@ import unittest
 from pathlib import Path
 
 TOOLS = Path(__file__).resolve().parent
-SUBJECTS = ("reading", "cutting", "whole", "building", "tiles", "meeting", "commands")
+SUBJECTS = ("reading", "cutting", "whole", "building", "tiles", "meeting", "hostile", "commands")
 
 
 def main() -> None:

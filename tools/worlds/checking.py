@@ -13,7 +13,7 @@ from typing import Dict, Iterable, List, NamedTuple, Optional, Tuple, Union
 from mesh_files.reading import read_soup
 from mesh_files.soup import MeshFault
 
-from .form import Place, Side, Tile, World, WorldFault, moved, outline_of
+from .form import OUTLINE, Place, Side, Tile, World, WorldFault, moved, sides_of
 from .fronts import needed, run
 from .mending import border_sides, first_broken
 from .progress import Say, Work
@@ -110,7 +110,7 @@ def _difference(own: Dict[Side, int], wanted: Dict[Side, int]) -> Optional[Side]
 def outline_fault(world: World, done: Dict[str, Checked], names: List[str]) -> str:
     """Names a side that isn't in the outline that was cut, or is only there; empty where none."""
     left = sum_of(done[name].sides for name in names)
-    outline = outline_of(world)
+    outline = sides_of(world, OUTLINE)
     side = _difference(left, sum_of([outline]))
     if side is None:
         return ""

@@ -106,20 +106,19 @@ def write_world(world: World) -> None:
     part.replace(world.folder / "world.json")
 
 
-def outline_path(world: World) -> Path:
-    return world.folder / "outline.txt"
+OUTLINE = "outline.txt"  # the border sides beside which no other tile stands
+OPENED = "opened.txt"  # the edges that several tiles have, at which all are cut open
 
 
-def write_outline(world: World, sides: Iterable[Side]) -> None:
-    """The border sides beside which no other tile stands, a line each: from three numbers to
-    three."""
-    with outline_path(world).open("w", encoding="ascii") as file:
+def write_sides(world: World, name: str, sides: Iterable[Side]) -> None:
+    """A line each: from three numbers to three."""
+    with (world.folder / name).open("w", encoding="ascii") as file:
         for start, end in sides:
             file.write(" ".join(map(str, (*start, *end))) + "\n")
 
 
-def outline_of(world: World) -> List[Side]:
-    path = outline_path(world)
+def sides_of(world: World, name: str) -> List[Side]:
+    path = world.folder / name
     try:
         lines = path.read_text(encoding="ascii").splitlines()
         rows = [tuple(map(int, line.split())) for line in lines]

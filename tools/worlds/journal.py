@@ -11,10 +11,12 @@ Identity = List[Any]  # what the cut is of, and how it is cut
 
 
 class Recorded(NamedTuple):
-    """A leaf of the tree: its tile, where it has faces, with the border, and what was mended."""
+    """A leaf of the tree: its tile, where it has faces, with the border, the edges at which it is
+    cut open beside other tiles, and what was mended."""
 
     tile: Optional[Tile]
     border: List[Side]
+    opened: List[Side]
     dropped: int
     split: int
 
@@ -60,12 +62,14 @@ class Journal:
         self.file.seek(self.lines[name])
         told = json.loads(self.file.readline().partition(" ")[2])
         tile = tile_of(told["tile"]) if told["tile"] else None
-        return Recorded(tile, _sides(told["border"]), told["dropped"], told["split"])
+        border, opened = _sides(told["border"]), _sides(told["opened"])
+        return Recorded(tile, border, opened, told["dropped"], told["split"])
 
     def add(self, name: str, found: Recorded) -> None:
         told = found._asdict()
         told["tile"] = asdict(found.tile) if found.tile else None
-        told["border"] = [number for side in found.border for place in side for number in place]
+        for key, sides in (("border", found.border), ("opened", found.opened)):
+            told[key] = [number for side in sides for place in side for number in place]
         self.file.seek(0, 2)
         self.file.write(f"{name} {json.dumps(told)}\n")
         self.file.flush()

@@ -12,8 +12,8 @@ from typing import Dict, Iterable, List, Set
 
 from .cutting import Half, parts_for
 from .form import (
-    FORM, MOST_FACES, Place, Side, Tile, World, WorldFault, box_of, fits, middle, write_outline,
-    write_world,
+    FORM, MOST_FACES, OPENED, OUTLINE, Place, Side, Tile, World, WorldFault, box_of, fits, middle,
+    write_sides, write_world,
 )
 from .inputs import RASTER, Asked, Cut, cut_of
 from .journal import Journal, Recorded
@@ -115,7 +115,8 @@ def _leaf(world: World, half: Half) -> Recorded:
     assert half.piece is not None
     done = mended(*half.piece)
     tile = _made_tile(world, name_of(half.name), done) if done.mesh.faces else None
-    return Recorded(tile, border_places(done), done.dropped, done.split)
+    opened = [(min(edge), max(edge)) for edge in half.piece.opened]
+    return Recorded(tile, border_places(done), opened, done.dropped, done.split)
 
 
 class _Leaves:
@@ -125,10 +126,12 @@ class _Leaves:
         self.seams = Seams()
         self.tiles: Dict[str, Tile] = {}
         self.ways: List[str] = []
+        self.opened: Set[Side] = set()
         self.dropped = self.split = 0
 
     def add(self, found: Recorded) -> None:
         self.dropped, self.split = self.dropped + found.dropped, self.split + found.split
+        self.opened.update(found.opened)
         if found.tile:
             self.seams.add(found.tile.name, found.border)
             self.tiles[found.tile.name] = found.tile
@@ -183,19 +186,21 @@ def make_world(asked: Asked, say: Say) -> World:
         world = World(asked.folder, cut.unit, cut.origin, 0)
         leaves = _cut_leaves(cut, world, asked, work)
     leaves.tell(say)
-    return _finished(world, leaves.tiles, leaves.ways, leaves.seams)
+    return _finished(world, leaves)
 
 
-def _finished(world: World, tiles: Dict[str, Tile], ways: List[str], seams: Seams) -> World:
+def _finished(world: World, leaves: _Leaves) -> World:
+    tiles, seams = leaves.tiles, leaves.seams
     if not tiles:
         raise WorldFault("no faces are left of the input")
     beside = seams.neighbours
     known = [
         replace(tile, neighbours=tuple(sorted(beside[tile.name]))) for tile in tiles.values()
     ]
-    everything = {tile.name: tile for tile in known + parents_of(ways, tiles)}
+    everything = {tile.name: tile for tile in known + parents_of(leaves.ways, tiles)}
     done = World(world.folder, world.unit, world.origin, seams.outline, everything)
-    write_outline(done, (side for side, names in seams.alone.items() for _ in names))
+    write_sides(done, OUTLINE, (side for side, names in seams.alone.items() for _ in names))
+    write_sides(done, OPENED, sorted(leaves.opened))
     write_world(done)
     shutil.rmtree(world.folder / RASTER, ignore_errors=True)
     return done

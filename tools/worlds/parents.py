@@ -6,9 +6,11 @@ that of the children, so a parent that keeps it meets every tile beside it.
 """
 import json
 from pathlib import Path
-from typing import List, NamedTuple, Set, Tuple
+from typing import Iterable, List, NamedTuple, Set, Tuple
 
-from .form import GREATEST_COORDINATE, Corners, Place, Tile, World, WorldFault
+from .form import (
+    GREATEST_COORDINATE, OPENED, Corners, Place, Side, Tile, World, WorldFault, sides_of,
+)
 from .fronts import frame_of, needed, places_in_world, splits
 from .making import write_mesh
 from .mending import Mended, Mesh, mended
@@ -59,15 +61,17 @@ def least_tolerance(children: List[Child], most: int) -> int:
     return high
 
 
-def together(parts: List[Tuple[List[Place], List[Corners]]]) -> Mended:
-    """Meshes in places of the world as one."""
+def together(
+    parts: List[Tuple[List[Place], List[Corners]]], opened: Iterable[Side] = ()
+) -> Mended:
+    """Meshes in places of the world as one, which is cut open at the opened edges."""
     places: List[Place] = []
     faces: List[Corners] = []
     for own, corners in parts:
         start = len(places)
         places += own
         faces += [(a + start, b + start, c + start) for a, b, c in corners]
-    return mended(places, faces)
+    return mended(places, faces, frozenset(map(frozenset, opened)))
 
 
 def within_reach(mesh: Mesh, middle: Place) -> Tuple[Mesh, int]:
@@ -117,7 +121,8 @@ def make_parent(vdpm: Path, world: World, tile: Tile, most: int) -> Made:
         raise WorldFault(f"{tile.name} was cut from the input and has no children")
     children = [read_child(world, name) for name in tile.children]
     tolerance = least_tolerance(children, most)
-    mesh = together([_shown(vdpm, world, child, tolerance) for child in children]).mesh
+    shown = [_shown(vdpm, world, child, tolerance) for child in children]
+    mesh = together(shown, sides_of(world, OPENED)).mesh
     mesh, beyond = within_reach(mesh, tile.offset)
     error = tolerance + beyond + max(error_of(world, child.tile) for child in children)
     made = Made(len(mesh.places), len(mesh.faces), error)

@@ -53,7 +53,7 @@ class _Whole:
     def glue(self, borders: Dict[str, Border]) -> None:
         between: Dict[Side, List[_Side]] = {}
         for name, border in borders.items():
-            for side in self.sides(name, border.leaves):
+            for side in self.sides(name, border.leaves + border.chords):
                 start, end = side.runs
                 between.setdefault((min(start, end), max(start, end)), []).append(side)
         for sides in between.values():

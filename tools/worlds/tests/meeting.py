@@ -25,7 +25,7 @@ def random_script(chance: random.Random, world: World, tile: Tile) -> str:
         return "v " + " ".join(map(str, numbers)) + "\nw\n"
     data = world.stream(tile).read_bytes()
     records = int.from_bytes(data[20:24], "little")
-    tries = [chance.randrange(records) for _ in range(chance.randrange(4 * records))]
+    tries = [chance.randrange(records) for _ in range(chance.randrange(4 * records + 1))]
     return "".join(f"s {record}\n" for record in tries) + "w\n" if records else "w\n"
 
 

@@ -68,20 +68,13 @@ WALL_FACES: Polygons = [
 ]
 
 
-class Pieces(WithWorld):
+class WithPieces(WithWorld):
     def check_pieces(self, world: World) -> None:
         faces, vertex, _ = glued(world)
         self.assertTrue(is_oriented_manifold(faces))
         for tile in world.level(0):
             own = [vertex[tile.name, v] for v in range(tile.vertices)]
             self.assertEqual(len(set(own)), len(own), "a tile has one vertex of the whole twice")
-
-    def test_random_cuts_are_pieces_of_one_manifold(self) -> None:
-        chance = random.Random(11)
-        for _ in range(ROUNDS):
-            surface = self.file("some.obj", obj_text(*random_surface(chance)))
-            self.check_pieces(self.cut(surface, chance.choice((3, 8, 20, 60))))
-            self.assertNotIn("touches itself: take", " ".join(self.said))
 
     def fin(self, along: int, turned: bool) -> World:
         """A wall, and a fin on some of its edges in the line that parts tiles, cut in two."""
@@ -92,6 +85,15 @@ class Pieces(WithWorld):
             both = [(at[j], at[j + 1], 25 + j + 1), (at[j], 25 + j + 1, 25 + j)]
             faces += [face[::-1] for face in both] if turned else both
         return self.cut(self.file("fin.obj", obj_text(points, faces)), 20)
+
+
+class Pieces(WithPieces):
+    def test_random_cuts_are_pieces_of_one_manifold(self) -> None:
+        chance = random.Random(11)
+        for _ in range(ROUNDS):
+            surface = self.file("some.obj", obj_text(*random_surface(chance)))
+            self.check_pieces(self.cut(surface, chance.choice((3, 8, 20, 60))))
+            self.assertNotIn("touches itself: take", " ".join(self.said))
 
     def test_a_fin_on_the_line_between_tiles_is_cut_open_in_both(self) -> None:
         for along, turned in ((1, False), (1, True), (2, False), (2, True)):
