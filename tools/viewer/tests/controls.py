@@ -67,7 +67,7 @@ class Controls(Page):
         self.page.drag(MIDDLE, (MIDDLE[0] + 80, MIDDLE[1]))
         self.settle()
         self.changes(lambda: self.press("#home"), "viewer.camera.yaw")
-        self.assertEqual(self.value("viewer.camera.yaw"), 0.5)
+        self.page.until("viewer.camera.yaw === 0.5")
         self.press("#round")
         self.page.until("viewer.camera.yaw > 0.55")
         self.press("#round")

@@ -166,7 +166,7 @@ class Models(Page):
         # (a program that isn't proved says so before it)
         self.assertIn("made fit by prepare", self.text("notice"))
         self.tick("picks")
-        self.page.click(380, 320)
+        self.page.click(270, 320)
         self.page.until("!document.getElementById('picked').hidden")
         said = self.text("picked")
         self.assertIn("of the prepared mesh", said)
