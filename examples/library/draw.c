@@ -157,7 +157,8 @@ static void look_from(vdpm_viewer *viewer, const int32_t *eye, change *news, fac
                         shown->corners + 3 * (size_t)shown->from);
 }
 
-/* Puts the places of all nodes into a vertex buffer, and tells the number farthest from 0. */
+/* Puts the places of all nodes into a vertex buffer, and tells the number farthest from 0 of those
+ * of the full mesh: coarse ones may stand outside it. */
 static int32_t upload_nodes(vdpm_viewer *viewer) {
     vdpm_sizes sizes;
     int32_t reach = 1;
@@ -165,10 +166,12 @@ static int32_t upload_nodes(vdpm_viewer *viewer) {
     float *all = grown(NULL, 3 * (size_t)sizes.nodes);
     for (uint32_t node = 0; node < sizes.nodes; node++) {
         int32_t place[3];
+        uint32_t record;
         if (vdpm_place(viewer, node, place, 3) != VDPM_DONE) stop("vdpm_place", node);
+        if (vdpm_splitter(viewer, node, &record) != VDPM_DONE) stop("vdpm_splitter", node);
         for (int i = 0; i < 3; i++) {
             all[3 * (size_t)node + i] = (float)place[i];
-            if (abs(place[i]) > reach) reach = abs(place[i]);
+            if (record == VDPM_NONE && abs(place[i]) > reach) reach = abs(place[i]);
         }
     }
     glBufferData(GL_ARRAY_BUFFER, (GLsizeiptr)(3 * sizeof(float) * sizes.nodes), all,
