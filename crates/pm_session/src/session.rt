@@ -125,9 +125,10 @@ impl Session {
         }
     }
 
-    /// Adapts the front to a view by a measure that the script may have.
+    /// Adapts the front to a view by a measure that the script may have, as its line does, and
+    /// answers how many moves were made and how many are left.
     #[tactic(auto, using(crate::proofs::MeasureLaws::has_enough))]
-    pub(crate) fn look(&mut self, view: &View) -> Adapted
+    pub fn look(&mut self, view: &View) -> Adapted
         requires { has_measure self.old.grammar view.now.measure ≡ true }
         ensures answer { result ≡ adapted_to self.old.h self.old.budget (set_of self.old.flags)
             view.now }
