@@ -36,10 +36,13 @@ extern "C" {
 
 /* The version of the library. What may change with which number: docs/LIBRARY.md. */
 #define VDPM_VERSION_MAJOR 1
-#define VDPM_VERSION_MINOR 0
+#define VDPM_VERSION_MINOR 1
 #define VDPM_VERSION_PATCH 0
 #define VDPM_VERSION \
     (VDPM_VERSION_MAJOR * 10000 + VDPM_VERSION_MINOR * 100 + VDPM_VERSION_PATCH)
+
+/* The same of the library that a program runs with, which may be a newer one. */
+uint32_t vdpm_version(void);
 
 /* What a function answers: VDPM_DONE, or why not. A fault of a stream is answered by its own
  * number (docs/COMMANDS.md, "The faults of a stream"): 11, 20 to 29 or 33. */
@@ -57,7 +60,7 @@ enum {
     VDPM_NO_RECORD = 31  /* the line names a record that isn't there; nothing was done */
 };
 
-/* What is told in place of a record where there is none. */
+/* What is told in place of a record or a vertex where there is none. */
 #define VDPM_NONE UINT32_C(0xFFFFFFFF)
 
 /* A viewer. Its fields are the library's own. */
@@ -171,6 +174,17 @@ uint32_t vdpm_place(vdpm_viewer *viewer, uint32_t node, int32_t *out, size_t roo
  * VDPM_NO_MEMORY; or VDPM_NOT_SO. Nothing is written where it isn't VDPM_DONE. */
 uint32_t vdpm_means(vdpm_viewer *viewer, uint32_t channels, const uint16_t *by_vertex,
                     size_t length, uint16_t *by_node, size_t room);
+
+/* Tells which vertices and faces of the text that the stream was made of nodes and faces are,
+ * counted from 0 in its order, so that what the text has beside its mesh can be told by them. With
+ * nodes as vdpm_counts tells it, and *faces as is told here, the faces in all:
+ * `by_node`  nodes numbers: the vertex that a node of one leaf is; VDPM_NONE for another node
+ * `by_face`  faces numbers: the face that a face is
+ * The room is counted in numbers, and may be more; the rest of it stays as it was. What is shown
+ * doesn't bear on it. Answers VDPM_DONE, VDPM_NOT_SO, or VDPM_NO_ROOM, where nothing is written but
+ * *faces, by which the caller makes room and asks again. */
+uint32_t vdpm_inputs(vdpm_viewer *viewer, uint32_t *by_node, size_t by_node_room, uint32_t *by_face,
+                     size_t by_face_room, uint32_t *faces);
 
 /* Closes a viewer and gives its memory back. One that isn't open stays as it is. */
 void vdpm_close(vdpm_viewer *viewer);

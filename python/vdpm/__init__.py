@@ -27,11 +27,12 @@ that is, and whether it was proved.
 """
 from .camera import Camera, camera
 from .faults import Fault, LineFault, NotMesh, NotOpen, StreamFault, TextFault
+from .library import NONE as NO_VERTEX
 from .library import Version, version
 from .making import Prepared, build, prepare, simplify
 from .session import Session
-from .shapes import Bounds, Change, Frame, Hit, Level, Moved, Shape, Sizes, Strips
+from .shapes import Bounds, Change, Frame, Hit, Inputs, Level, Moved, Shape, Sizes, Strips
 
-__all__ = ["Bounds", "Camera", "Change", "Fault", "Frame", "Hit", "Level", "LineFault", "Moved",
-           "NotMesh", "NotOpen", "Prepared", "Session", "Shape", "Sizes", "StreamFault", "Strips",
+__all__ = ["Bounds", "Camera", "Change", "Fault", "Frame", "Hit", "Inputs", "Level", "LineFault",
+           "Moved", "NO_VERTEX", "NotMesh", "NotOpen", "Prepared", "Session", "Shape", "Sizes", "StreamFault", "Strips",
            "TextFault", "Version", "build", "camera", "prepare", "simplify", "version"]

@@ -103,6 +103,8 @@ def load(path: Optional[str] = None) -> ctypes.CDLL:
         "ancestor": [handle, number, NUMBERS],
         "place": [handle, number, SIGNED, size],
         "means": [handle, number, SHORT, size, SHORT, size],
+        "inputs": [handle, NUMBERS, size, NUMBERS, size, NUMBERS],
+        "version": [],
         "close": [handle],
         "build": [text, size, number, number, handle, told],
         "simplify": [text, size, number, number, number, handle, told],

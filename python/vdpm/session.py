@@ -6,7 +6,7 @@ from typing import TYPE_CHECKING, Any, List, Optional, Sequence
 from .fields import MOST_OF_EYE, MOST_WAY, Number, pixels, planes_of, whole
 from .library import (MOST_NUMBER, NO_ROOM, NONE, Handle, Text, bytes_of, check, load, number_to)
 from .rooms import copied, in_rows, in_threes, room_for, rooms_for_change, values_in_room
-from .shapes import Bounds, Change, Frame, Hit, Level, Moved, Place, Shape, Sizes, Strips
+from .shapes import Bounds, Change, Frame, Hit, Inputs, Level, Moved, Place, Shape, Sizes, Strips
 
 if TYPE_CHECKING:
     from numpy import uint16
@@ -274,6 +274,23 @@ class Session:
                                            len(room)))
         answer: "NDArray[uint16]" = in_rows(room, channels) if channels > 1 else room
         return answer
+
+    def inputs(self) -> Inputs:
+        """Which vertices and faces of the text that the stream was made of nodes and faces are. It
+        is the same whatever is shown: `names[session.inputs().by_face[frame.faces]]` are the names
+        of a frame's faces, where `names` has one for each face of the text."""
+        count = ctypes.c_uint32()
+        with self._lock:
+            nodes, by_node = room_for("I", self.sizes().nodes)
+            none, nowhere = room_for("I", 0)
+            status = self._library.vdpm_inputs(self._viewer, by_node, len(nodes), nowhere, len(none),
+                                               count)
+            if status != NO_ROOM:
+                check(status)
+            faces, by_face = room_for("I", count.value)
+            check(self._library.vdpm_inputs(self._viewer, by_node, len(nodes), by_face,
+                                            len(faces), count))
+        return Inputs(nodes, faces)
 
     def _told(self, function: Any, node: int) -> Optional[int]:
         number = ctypes.c_uint32()

@@ -52,6 +52,22 @@ class Frame(NamedTuple):
         return _counted("Frame", ((len(self.nodes), "vertices"), (len(self.faces), "faces")))
 
 
+class Inputs(NamedTuple):
+    """Which vertices and faces of the text that a stream was made of its N nodes and F faces are,
+    counted from 0 in its order.
+
+    by_node: uint32, shape (N,), the vertex that a node of one leaf is, and `vdpm.NO_VERTEX` for
+        another node.
+    by_face: uint32, shape (F,), the face that a face is.
+    """
+
+    by_node: "NDArray[uint32]"
+    by_face: "NDArray[uint32]"
+
+    def __repr__(self) -> str:
+        return _counted("Inputs", ((len(self.by_node), "nodes"), (len(self.by_face), "faces")))
+
+
 class Change(NamedTuple):
     """What changed since the marked front, each list ascending.
 

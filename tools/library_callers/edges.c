@@ -64,6 +64,9 @@ static void views_of_nothing(vdpm_viewer *viewer) {
                                     &changes), VDPM_DONE);
     told("vdpm_means", vdpm_means(viewer, 3, NULL, 0, NULL, 0), VDPM_DONE);
     told("vdpm_means", vdpm_means(viewer, 0, NULL, 0, NULL, 0), VDPM_DONE);
+    told("vdpm_inputs", vdpm_inputs(viewer, NULL, 0, NULL, 0, &number), VDPM_DONE);
+    told("no faces", number, 0);
+    number = 7;
     told("vdpm_splitter", vdpm_splitter(viewer, 0, &number), VDPM_NO_SUCH);
     told("vdpm_maker", vdpm_maker(viewer, VDPM_NONE, &number), VDPM_NO_SUCH);
     told("vdpm_ancestor", vdpm_ancestor(viewer, 0, &number), VDPM_NO_SUCH);
@@ -87,5 +90,6 @@ int main(void) {
     vdpm_close(&viewer);
     vdpm_close(&viewer);
     told("vdpm_reply", vdpm_reply(&viewer, NULL, 0), VDPM_NOT_SO);
+    told("vdpm_version", vdpm_version(), VDPM_VERSION);
     return wrong;
 }

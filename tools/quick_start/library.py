@@ -51,6 +51,8 @@ fn main(rt: HostRuntime) {
     nodes::vdpm_ancestor(alloc, &mut handle, 0, &mut number);
     nodes::vdpm_place(alloc, &mut handle, 0, &mut signed);
     means::vdpm_means(alloc, &mut handle, 0, &[0u16; 1], &mut [0u16; 1]);
+    inputs::vdpm_inputs(alloc, &mut handle, &mut a, &mut b, &mut number);
+    version::vdpm_version();
     exports::vdpm_close(alloc, &mut handle);
     let Handle { slot: _slot, open: _open } = handle;
     let mut made = MadeHandle { slot: MadeSlot::empty(alloc), open: 0 };

@@ -8,8 +8,8 @@ use crate::sums::MOST_VALUE;
 use pm_base::NodeId;
 use pm_forest::Hierarchy;
 
-// The number of a node among the input's vertices, from 1; 0 for a node of more than one leaf.
-fn node_input(h: &Hierarchy, node: NodeId) -> u32
+/// The number of a node among the input's vertices, from 1; 0 for a node of more than one leaf.
+pub(crate) fn node_input(h: &Hierarchy, node: NodeId) -> u32
     requires { node.0 < node_count h.now }
     ensures { result ≡ input_of_node h.now node.0 }
 {

@@ -3,12 +3,14 @@
 #![tactic(auto)]
 
 mod channels;
+mod inputs;
 mod leaves;
 mod means;
 mod sums;
 mod theory;
 
 pub use channels::means_by_channel;
+pub use inputs::{NO_VERTEX, write_faces, write_vertices};
 pub use means::means_of;
 pub use sums::{MOST_VALUE, sums_of};
 pub use theory::means_are_sound;

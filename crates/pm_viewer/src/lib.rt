@@ -4,6 +4,7 @@
 
 mod fail;
 mod filling;
+mod inputs;
 mod looking;
 mod opening;
 mod painting;

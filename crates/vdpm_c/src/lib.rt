@@ -5,6 +5,7 @@
 mod changes;
 mod exports;
 mod holding;
+mod inputs;
 mod inside;
 mod loose;
 mod made;
@@ -15,3 +16,4 @@ mod nodes;
 mod slot;
 mod statuses;
 mod tables;
+mod version;
