@@ -5,6 +5,7 @@ use Rattle.std.proofs.Common.{◌∙◌, ap, subst, arith, refl}
 use Rattle.std.specs.Io.KnownBytes.{prepend_known}
 use Rattle.std.proofs.lemmas.List.{append-nil}
 use Rattle.pm_io.specs.Bytes.{AtEnd}
+use Rattle.pm_io.proofs.Known.{loses_none}
 use Rattle.obj_lines.specs.declared.state.LineState.{LineState}
 use Rattle.obj_lines.specs.declared.state.LineState.TheVariants as states
 use Rattle.obj_lines.specs.declared.fault.LineFault.{LineFault}
@@ -40,12 +41,15 @@ start_between f is =
       numbered = omega arith;
     }
 
-pub start_stands : {H F : Type 0} (r : Rules H F) (h : H) (all : Option (List ℕ))
-    (window : List ℕ) (f : Feeding) → window ≡ [] → f ≡ begun
-    → StandsAt r h all (prepend_known window all) (so_far start h) (open_line f)
-start_stands r h all window f empty is =
-    subst (λ (l : List ℕ). StandsAt r h all (prepend_known l all) (so_far start h) (open_line f))
-    (sym empty)
+-- Where some bytes are held, and none of all were read.
+pub held_stands : {H F : Type 0} (r : Rules H F) (h : H) (first : List ℕ)
+    (left : Option (List ℕ)) (f : Feeding) → f ≡ begun
+    → StandsAt r h (prepend_known first left) (prepend_known first left) (so_far start h)
+    (open_line f)
+held_stands r h first left f is =
+    let all = prepend_known first left in
+    subst (λ (o : Option (List ℕ)). StandsAt r h all o (so_far start h) (open_line f))
+    (sym (loses_none all))
     (subst (λ (l : List ℕ). StandsAt r h all (prepend_known [] all) (so_far start h) l)
     (sym (ap open_line is)) (stands_start r h all))
 

@@ -10,9 +10,9 @@ ghost use Rattle.obj_lines.specs.Rules.{at_end, reading};
 ghost use Rattle.obj_lines.specs.Fails.{IsRefused, Explains, of_source};
 ghost use Rattle.obj_lines.specs.Reading.{IsBetween, IsReading, so_far};
 
-use crate::fault::{LineFault, TextFail};
-use crate::limits::MOST_TEXT_BYTES;
+use crate::fault::TextFail;
 use crate::lines::Lines;
+use crate::piece::take_piece;
 use crate::reader::LineReader;
 use crate::state::LineState;
 use pm_io::{Source, Taker};
@@ -55,37 +55,17 @@ pub fn step<S: Source, R: LineReader>(
         lines.old → Explains R.rules h e whole (S.left source.new)) }
     ensures cause { HasCause (S.faults source.old) (S.faults source.new) (of_source result) }
 {
-    let fed = match taker.piece(source) {
+    let used = match taker.piece(source) {
         Err(_) => return Err(TextFail::Read),
         Ok(piece) => {
             if piece.is_empty() {
                 return Ok(false);
             }
-            let room = (MOST_TEXT_BYTES - progress.taken) as usize;
-            if room == 0 {
-                return Err(TextFail::Fault(LineFault {
-                    fault: reader.too_many(),
-                    line: progress.number,
-                }));
-            }
-            lines.feed(&piece[..room.min(piece.len())])
+            take_piece(piece, lines, reader, progress)?
         }
     };
-    taker.eat(fed.used);
-    progress.taken += fed.used as u32;
-    match fed.state {
-        LineState::Partial => Ok(true),
-        LineState::TooLong => Err(TextFail::Fault(LineFault {
-            fault: reader.too_long(),
-            line: progress.number,
-        })),
-        LineState::Whole | LineState::Continued => {
-            reader.take_line(lines, progress.number)?;
-            progress.start = progress.taken;
-            progress.number += 1;
-            Ok(true)
-        }
-    }
+    taker.eat(used);
+    Ok(true)
 }
 
 // The number of the line that would come next, where nothing is wrong at the end.
