@@ -1,7 +1,7 @@
 /* libvdpm: a view-dependent progressive mesh in a program's own memory.
  *
  * A viewer is one hierarchy that is being shown: the bytes of a stream, a front of it, and the
- * reply to the last script line. It does what `vdpm live` does (docs/COMMANDS.md,
+ * reply to the last script line. It does what `vdpm live` does (docs/commands/view.md,
  * docs/FORMATS.md), without a process and without text where arrays serve better. Streams are made
  * here too: vdpm_prepare, vdpm_build and vdpm_simplify do what the programs do with a text.
  * docs/LIBRARY.md tells how to build and use it, and what is proved of it.
@@ -45,7 +45,7 @@ extern "C" {
 uint32_t vdpm_version(void);
 
 /* What a function answers: VDPM_DONE, or why not. A fault of a stream is answered by its own
- * number (docs/COMMANDS.md, "The faults of a stream"): 11, 20 to 29 or 33. */
+ * number (docs/commands/vdpm.md, "The faults of a stream"): 11, 20 to 29 or 33. */
 enum {
     VDPM_DONE = 0,
     VDPM_FAULTY = 1,       /* the text has a fault, which is told beside the answer */
@@ -196,7 +196,7 @@ typedef struct vdpm_made {
     uint32_t open;
 } vdpm_made;
 
-/* A fault of a text, as the program tells it (docs/COMMANDS.md). Both
+/* A fault of a text, as the program tells it (docs/commands). Both
  * are 0 beside each answer but VDPM_FAULTY. */
 typedef struct vdpm_fault {
     uint32_t number; /* 0 where there is none */

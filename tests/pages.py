@@ -23,7 +23,7 @@ from sources import Crate, Function, crate_of, words_of
 TOP = Path(__file__).resolve().parent.parent
 MOST_BYTES = 8192
 # Pages for users, which may be longer.
-FOR_USERS = ("README.md", "docs/COMMANDS.md", "docs/FORMATS.md", "docs/GUIDE.md")
+FOR_USERS = ("README.md", "docs/FORMATS.md", "docs/GUIDE.md")
 MOST_WORDS_OF_README, MOST_WORDS = 900, 51500
 # Pages whose backquoted names are of the code, beside those of the crates.
 OF_CODE = ("docs/PROMISES.md", "docs/DEFINITIONS.md", "docs/OVERVIEW.md")
@@ -219,7 +219,7 @@ def pages_of_crates(top: Path) -> List[str]:
 
 def pages_at(top: Path) -> List[str]:
     """The pages that are no crate's."""
-    found = [*top.glob("*.md"), *top.glob("*/*.md")]
+    found = [*top.glob("*.md"), *top.glob("*/*.md"), *top.glob("docs/*/*.md")]
     return sorted(str(path.relative_to(top)) for path in found)
 
 

@@ -31,7 +31,8 @@ from typing import Callable, Dict, List, NamedTuple, Optional, Tuple
 TOP = Path(__file__).resolve().parent.parent
 PROGRAMS = ("vdpm", "prepare", "simplify")
 DOCUMENTS = (
-    "README.md", "CONTRIBUTING.md", "docs/GUIDE.md", "docs/COMMANDS.md", "docs/WORLDS.md",
+    "README.md", "CONTRIBUTING.md", "docs/GUIDE.md", "docs/WORLDS.md",
+    *(f"docs/commands/{name}.md" for name in ("vdpm", "view", "prepare", "simplify")),
 )  # fmt: skip
 SEED, RANDOM_CASES = "1", "300"
 

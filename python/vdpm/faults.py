@@ -2,7 +2,7 @@
 from typing import Mapping, Optional, Tuple
 
 # What a fault says of the bytes, the line or the text, what its place counts, and what to do
-# (docs/COMMANDS.md).
+# (docs/commands).
 Table = Mapping[int, Tuple[str, str, str]]
 
 OF_STREAM: Table = {
@@ -77,7 +77,7 @@ OF_ANY_TEXT: Table = {
 class Fault(ValueError):
     """Bytes that are no stream, a line that can't be done, or a text of which nothing is made.
 
-    number, place: as the programs tell them (docs/COMMANDS.md); place is None where there is none.
+    number, place: as the programs tell them (docs/commands); place is None where there is none.
     word: what the place counts. cure: what to do. A line of a text, or a face or vertex of its
     mesh, is counted from 1.
     """

@@ -26,7 +26,7 @@ class Prepared(NamedTuple):
     """An OBJ text that is fit for `build` and `simplify`, and what was done.
 
     text: the text, whose places are whole numbers but where coordinates stood as they stood.
-    notes: a line each of what was done (docs/COMMANDS.md).
+    notes: a line each of what was done (docs/commands/prepare.md).
     """
 
     text: bytes

@@ -6,7 +6,7 @@
     model       from a file, stream or OBJ, to a stream that is ready to be looked at
     kept        streams that were built before
     colours     the colours of an OBJ file's vertices
-    manual      the cures that docs/COMMANDS.md has for faults
+    manual      the cures that docs/commands has for faults
     program     the child `vdpm live` over pipes
     library     the same by the library, in this process
     arrays      what it tells as arrays, and not as lines

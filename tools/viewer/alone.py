@@ -4,7 +4,7 @@ WebAssembly module, and with a model where one is given. It opens from a file, a
 The page is the window's (page/index.html), with styles and scripts in it, and with the card that
 asks for a file (alone_page/welcome.html). The module and the model stand in it packed by zlib, in
 base64; alone_page/model.js tells the model's form. The words of faults are those of
-docs/COMMANDS.md.
+docs/commands.
 """
 import base64
 import json

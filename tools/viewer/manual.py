@@ -1,10 +1,10 @@
-"""What docs/COMMANDS.md, the manual, says of faults and statuses: its tables are the one place
-where meanings and cures stand."""
+"""What the manual, docs/COMMANDS.md and the pages of docs/commands, says of faults and statuses:
+its tables are the one place where meanings and cures stand."""
 import re
 from pathlib import Path
 from typing import Dict, List, Optional
 
-MANUAL = Path(__file__).resolve().parent.parent.parent / "docs" / "COMMANDS.md"
+DOCS = Path(__file__).resolve().parent.parent.parent / "docs"
 # The headings under which the faults of a text stand.
 OBJ = "`vdpm canon`"
 STREAM = "The faults of a stream"
@@ -40,10 +40,9 @@ def _explained(heading: str) -> Dict[int, str]:
 
 def _under(heading: str) -> List[str]:
     """The lines of tables under a heading and its own headings."""
-    try:
-        text = MANUAL.read_text(encoding="utf-8")
-    except OSError:  # the tools lie without the documents: nothing is known then
-        return []
+    # (where the tools lie without the documents, there is none, and nothing is known)
+    pages = sorted([*DOCS.glob("COMMANDS.md"), *DOCS.glob("commands/*.md")])
+    text = "".join(page.read_text(encoding="utf-8") for page in pages)
     lines: List[str] = []
     level = 0  # of the heading, while its part goes on
     for line in text.splitlines():

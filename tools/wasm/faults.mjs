@@ -22,7 +22,7 @@ export const WORDS = { OF_STREAM, OF_TEXT, OF_ANY_TEXT };
  * message is the line that the programs say, without their name. */
 export class Fault extends Error {
   /**
-   * @param {number} number the fault, as docs/COMMANDS.md counts them
+   * @param {number} number the fault, as docs/commands counts them
    * @param {number | null} place where it is; null where it has no place
    * @param {Words} words
    */

@@ -17,7 +17,7 @@ use std::fmt;
 #[derive(Clone, Copy, Debug, PartialEq, Eq)]
 #[non_exhaustive]
 pub enum Fault {
-    /// The text, stream or line is refused, by a fault that docs/COMMANDS.md of the sources lists.
+    /// The text, stream or line is refused, by a fault that docs/commands of the sources lists.
     Refused {
         /// The number of the fault.
         number: u32,
