@@ -20,10 +20,12 @@ from plain_rust.package import Unknown, is_made, package, write
 from quick_start.stopped import Stopped
 
 TOP = Path(__file__).resolve().parent.parent
+PACKAGE = TOP / "tools/plain_rust/parts/package"
 
 
 def make_module(out: Path) -> None:
-    """Builds the module in a folder that goes again."""
+    """Builds the module in a folder that goes again. Whether a compiler is here is known first."""
+    webassembly.best_way(PACKAGE)
     with tempfile.TemporaryDirectory(prefix="plain_rust-") as room:
         write(package(TOP), Path(room))
         print(f"plain_rust: {out} is made by {webassembly.build(Path(room), out)}")

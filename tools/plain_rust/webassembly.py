@@ -143,15 +143,23 @@ def ways(found: Sequence[Compiler], least: Tuple[int, int]) -> Iterator[Tuple[Co
                 yield compiler, way
 
 
+def best_way(
+    package: Path, places: Sequence[Tuple[str, str]] = PLACES
+) -> Tuple[Compiler, Way]:
+    """How the module of a package is made here. Raises NotBuilt where no compiler makes it."""
+    found = next(ways(list(compilers(places)), least_version(package)), None)
+    if found is None:
+        raise NotBuilt(INSTALL)
+    return found
+
+
 def build(package: Path, out: Path,
           places: Sequence[Tuple[str, str]] = PLACES) -> str:
     """Makes the module of a package, and answers by which compiler.
 
     Raises NotBuilt where none is here, or where it fails.
     """
-    compiler, way = next(ways(list(compilers(places)), least_version(package)), (None, None))
-    if compiler is None or way is None:
-        raise NotBuilt(INSTALL)
+    compiler, way = best_way(package, places)
     made = package / MODULE
     made.parent.mkdir(parents=True, exist_ok=True)
     done = subprocess.run(way.words, cwd=package, env={**os.environ, **way.settings}, check=False)

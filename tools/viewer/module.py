@@ -1,23 +1,20 @@
 """The engine as a WebAssembly module, for pages that need no server. It is built once of these
 sources, without their proofs, and kept in `unproved/`."""
 import os
-import tempfile
+import sys
 from pathlib import Path
 from typing import Optional
 
 from plain_rust import webassembly
-from plain_rust.package import Unknown, package, write
 from quick_start.cargo import sum_with_maker
 from quick_start.sources import LIBRARY, Program
 from quick_start.stopped import Stopped
 
-from .model import tell
+from .model import run, tell
+from .program import ProgramEnded
 
 TOP = Path(__file__).resolve().parent.parent.parent
-TO_INSTALL = (
-    "no compiler for WebAssembly is here: `rustup target add wasm32-unknown-unknown` installs one, "
-    "and of Debian 12 `apt-get install rustc libstd-rust-dev-wasm32 lld`"
-)
+MAKER = TOP / "tools/plain_rust.py"
 
 
 class NoModule(Exception):
@@ -44,18 +41,24 @@ def _kept() -> Path:
         if not path.is_file():
             folder.mkdir(exist_ok=True)
             _build(path)
-    except (Stopped, Unknown, webassembly.NotBuilt, OSError) as why:
-        raise NoModule(TO_INSTALL if str(why) == webassembly.INSTALL else str(why)) from why
+    except (Stopped, ProgramEnded, OSError) as why:
+        raise NoModule(str(why)) from why
     return path
 
 
 def _build(path: Path) -> None:
-    """Makes the module, and takes those of other sources away."""
-    tell("building the engine as a WebAssembly module: about a minute")
-    with tempfile.TemporaryDirectory(prefix="viewer-") as room:
-        write(package(TOP), Path(room))
-        made = path.with_suffix(f".{os.getpid()}")
-        webassembly.build(Path(room), made)
-    for old in path.parent.glob("vdpm-*.wasm"):
-        old.unlink()
-    os.replace(made, path)
+    """Makes the module, tells meanwhile how long that takes, and takes those of other sources
+    away."""
+    tell("building the engine as a WebAssembly module, once: about a minute")
+    made = path.with_suffix(f".{os.getpid()}")
+    maker = [str(MAKER), "--wasm", str(made)]
+    try:
+        done = run(Path(sys.executable), maker, b"", "building the engine")
+        if done.status or not made.is_file():
+            said = "\n".join(done.said) or f"{MAKER.name} ended with status {done.status}"
+            raise NoModule(said.replace(f"{MAKER.stem}: ", "", 1))
+        for old in path.parent.glob("vdpm-*.wasm"):
+            old.unlink()
+        os.replace(made, path)
+    finally:
+        made.unlink(missing_ok=True)
