@@ -5,6 +5,7 @@
     python3 tools/programs.py prove [NAME..]   proves and builds these, or all programs; libvdpm is
                                                a name too, of the library
     python3 tools/programs.py status           prints what is known of those that stand
+    python3 tools/programs.py version NAME     prints what is known of the one that would be run
 
 Ends with status 1 where a proof is open, 2 where the words aren't understood, and 70 where there is
 nothing to run: no kit, no place to write to, sources that don't compile.
@@ -19,7 +20,7 @@ from quick_start.prove import prove
 from quick_start.record import is_current
 from quick_start.running import say
 from quick_start.sources import LIBRARY, PROGRAMS, Program
-from quick_start.status import status_lines
+from quick_start.status import status_lines, version_lines
 from quick_start.stopped import NOT_BUILT, Stopped
 from quick_start.unproved import build
 
@@ -50,6 +51,8 @@ def call(words: List[str]) -> int:
         return 0 if prove(TOP, names) else 1
     elif verb == "status" and not names:
         print("\n".join(status_lines(TOP)))
+    elif verb == "version" and len(names) == 1 and names[0] in PROGRAMS:
+        print("\n".join(version_lines(Program(TOP, names[0]))))
     else:
         print(__doc__, end="", file=sys.stderr)
         return 2
@@ -60,7 +63,7 @@ def main() -> int:
     for number in (signal.SIGTERM, signal.SIGHUP):
         signal.signal(number, lambda got, _: sys.exit(128 + got))
     words = sys.argv[1:]
-    speaker = words[1] if words[:1] == ["build"] and len(words) > 1 else "prove"
+    speaker = words[1] if words[0:1] in (["build"], ["version"]) and len(words) > 1 else "prove"
     try:
         return call(words)
     except Stopped as why:

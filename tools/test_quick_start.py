@@ -272,6 +272,24 @@ class Proved(OverTestKit):
         self.assertIn("prepare: proved; of other sources than these, so it isn't run",
                       self.repository.run("prove", "--status").stdout)
 
+    def version_told(self) -> str:
+        ran = self.repository.run("prepare", "--version")
+        self.assertEqual((ran.returncode, ran.stderr), (0, ""))
+        return ran.stdout
+
+    def test_version_tells_of_what_would_be_run(self) -> None:
+        missing = "not built of these sources yet: the next run builds it\n"
+        self.assertTrue(self.version_told().startswith("prepare "))
+        self.assertTrue(self.version_told().endswith(missing))
+        self.assertEqual(self.repository.built(), 0)
+        self.repository.run("prepare")
+        self.assertIn("\nnot proved, run-time checks are on\n", self.version_told())
+        self.prove("prepare")
+        self.assertIn("\nproved\n", self.version_told())
+        self.assertIn(" by a kit of tests 1\nof these sources, sha256 ", self.version_told())
+        self.repository.change("crates/prepare/src/main.rt", "# more\n")
+        self.assertTrue(self.version_told().endswith(missing))
+
     def test_no_place_for_what_was_proved(self) -> None:
         write(self.repository.top / "proved", "a file in the folder's place")
         ran = self.repository.run("prove", "vdpm")

@@ -9,6 +9,17 @@ answer_help() {
     fi
 }
 
+# What is known of the program that would be run, where that is all that is asked for.
+answer_version() {
+    if [ "$#" = 1 ] && { [ "$1" = --version ] || [ "$1" = -V ]; }; then
+        if ! command -v python3 >/dev/null; then
+            echo "$name: python3 isn't on the path, so no record of $name is read" >&2
+            exit 70
+        fi
+        exec python3 "$top/tools/programs.py" version "$name" </dev/null
+    fi
+}
+
 # A file is named where none is taken: says how it is read, and ends as for words that aren't
 # understood.
 refuse_files() {

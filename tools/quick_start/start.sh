@@ -11,6 +11,7 @@
 top=$(cd "$(dirname "${BASH_SOURCE[0]}")/../.." && pwd) || exit 70
 . "$top/tools/quick_start/hints.sh" || exit 70
 answer_help "$@"
+answer_version "$@"
 refuse_files "$@"
 tell_kind "${1-}"
 

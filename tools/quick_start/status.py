@@ -3,7 +3,7 @@ from pathlib import Path
 from typing import Iterator
 
 from .kit import find_kit
-from .record import Record, read_record, sum_now
+from .record import Record, is_current, read_record, sum_now
 from .sources import LIBRARY, PROGRAMS, Program, sum_of_file
 from .stopped import Stopped
 
@@ -37,6 +37,20 @@ def told_of(program: Program, built: Path, kit: str) -> Iterator[str]:
     other = "" if record.kit == kit or record.is_by_cargo else f" (now: {kit})"
     yield f"    built {record.built} at commit {record.commit} by {record.kit}{other}"
     yield f"    sha256 {record.sum}"
+
+
+def version_lines(program: Program) -> Iterator[str]:
+    """What the program is, and of the one that would be run, whether it is proved and of what."""
+    usage = program.top / "tools/quick_start/usage" / program.name
+    yield usage.read_text(encoding="utf-8").partition(". ")[0] + "."
+    for built in (program.proved, program.unproved):
+        record = read_record(built)
+        if record and is_current(program, built):
+            yield "proved" if record.proved else "not proved, run-time checks are on"
+            yield f"built {record.built} at commit {record.commit} by {record.kit}"
+            yield f"of these sources, sha256 {record.sources}"
+            return
+    yield "not built of these sources yet: the next run builds it"
 
 
 def status_lines(top: Path) -> Iterator[str]:
