@@ -99,7 +99,7 @@ class Ply(WithFolder):
 
     def test_what_is_passed_over_is_counted_by_name(self) -> None:
         passed = self.read(ply("ascii", "double", "uchar", "int", between=True)).passed
-        wanted = {"colours": 5, "elements edge": 2, "properties flags": 4}
+        wanted = {"vertex colours": 5, "edge elements": 2, "flags properties": 4}
         self.assertEqual(passed, wanted)
 
     def test_faults_of_the_head(self) -> None:
@@ -174,7 +174,7 @@ class Obj(WithFolder):
 
     def test_what_is_passed_over_is_counted(self) -> None:
         soup = self.read(b"o x\nvt 1 1\nvt 0 0\nusemtl y\n" + self.TEXT + b"odd 1\n")
-        wanted = {"groups": 1, "texture places": 2, "materials": 1, "lines": 1}
+        wanted = {"group lines": 1, "texture coordinates": 2, "material lines": 1, "unknown lines": 1}
         self.assertEqual(soup.passed, wanted)
 
     def test_faults_are_named_by_line(self) -> None:
@@ -213,7 +213,7 @@ class Texts(WithFolder):
         path.write_bytes(ply("ascii", "float32", "uchar", "int"))
         text, notes = as_obj(path)
         self.assertTrue(text.endswith(b"\nf 1 2 3 5 4\n"))
-        self.assertEqual(notes, ["colours passed over 5", "properties flags passed over 4"])
+        self.assertEqual(notes, ["5 vertex colours ignored", "4 flags properties ignored"])
 
 
 class Ears(unittest.TestCase):

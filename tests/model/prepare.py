@@ -4,7 +4,7 @@ from fractions import Fraction
 from typing import Dict, FrozenSet, List, NamedTuple, Optional, Set, Tuple
 
 from .commands import number_of_word
-from .faults import Answer, Fault, failed, not_understood
+from .faults import Answer, Fault, not_understood
 from .mesh import (
     GREATEST_COORDINATE,
     Corners,
@@ -18,6 +18,16 @@ from .mesh import (
     normal,
     numbered,
     sides,
+)
+from .notes import (
+    APART,
+    REASONS,
+    Note,
+    of_faces,
+    of_others,
+    of_passed,
+    of_vertices,
+    of_welded,
 )
 from .polygons import cut
 from .scan import PASSED_OVER, UNITS, Soup, nearest, soup_of_text
@@ -54,7 +64,7 @@ class Fit(NamedTuple):
     def near(self) -> str:
         """Half a step, rounded up to units: how near places are to the coordinates."""
         units = -(-self.extent() // (4 * self.size))
-        return f"places are within {coordinate_text(units, 18)} of the coordinates\n"
+        return f"positions are within {coordinate_text(units, 18)} of the coordinates\n"
 
     def longest(self, points: Dict[int, Point]) -> str:
         """The longest axis, and the first vertices at its ends."""
@@ -300,10 +310,8 @@ class Prepared(NamedTuple):
     mesh: Mesh
     fit: Optional[Fit]
     account: Account
-    notes: List[Tuple[str, int]]
-    rounded: int  # how many vertices were joined that stood at different points
+    notes: List[Note]
     warning: str
-    first_other: int  # the first line that begins otherwise, or 0
 
 
 def prepared(soup: Soup, size: Optional[int]) -> Prepared:
@@ -329,62 +337,49 @@ def prepared(soup: Soup, size: Optional[int]) -> Prepared:
     corners = [(new[3 * face], new[3 * face + 1], new[3 * face + 2]) for face in faces]
     flat = sum(len(set(face)) < 3 for face in renamed)
     used = {v for face in stay for v in face}
+    rounded = len({soup.points[v] for v in named}) - len(set(places.values()))
+    cuts = len(rounds) - len(used)
     notes = [
-        ("polygons cut", len(soup.polygons)),
-        ("polygons whose triangles overlap", overlapping),
-        ("vertices rounded at the 18th decimal", len(soup.inexact)),
-        ("faces made flat by rounding", flattened),
-        ("faces turned over by rounding", overturned),
-        *[(f"{kind} passed over", soup.passed.count(kind)) for kind in PASSED_OVER],
-        ("lines passed over", len(soup.others)),
-        ("vertices joined", sum(names[v] != v for v in named)),
-        ("faces that name a vertex twice", len(soup.faces) - len(three)),
-        ("faces that became edges", flat),
-        ("faces that stand twice", len(renamed) - flat - len(stay)),
-        ("faces turned", sum(turns.flags)),
-        ("faces in patches that can't be turned", turns.twisted),
-        ("edges of three faces or more", sum(len(at) > 2 for at in sides_of_edges(stay).values())),
-        ("closed surfaces that enclose a void or face inward", turns.inside_out),
-        ("sides cut open", len(cut_sides(faces))),
-        ("vertices split off", len(rounds) - len(used)),
-        ("vertices that no face has", len(soup.points) - len(named)),
-        ("vertices whose faces all went", len({names[v] for v in named} - used)),
-        (
-            "faces without area",
-            sum(is_thin(points[a], points[b], points[c]) for a, b, c in corners),
-        ),
+        of_faces(len(soup.polygons), "triangulated", "polygon"),
+        of_faces(overlapping, "triangulated with overlaps", "polygon"),
+        of_vertices(len(soup.inexact), "rounded at the 18th decimal"),
+        of_faces(flattened, "made degenerate by rounding"),
+        of_faces(overturned, "flipped by rounding"),
+        *[of_passed(kind, soup.passed.count(kind)) for kind in PASSED_OVER],
+        of_others(len(soup.others), soup.others[0] if soup.others else 0),
+        of_welded(sum(names[v] != v for v in named), rounded),
+        of_faces(len(soup.faces) - len(three), "dropped: a vertex is named twice",
+                 "degenerate face"),
+        of_faces(flat, "dropped: collapsed to an edge", "degenerate face"),
+        of_faces(len(renamed) - flat - len(stay), "dropped", "duplicate face"),
+        of_faces(sum(turns.flags), "flipped for consistent winding"),
+        of_faces(turns.twisted, "in non-orientable patches"),
+        of_faces(sum(len(at) > 2 for at in sides_of_edges(stay).values()),
+                 "of three faces or more", "non-manifold edge"),
+        of_faces(turns.inside_out, "facing inward or around a void", "closed surface"),
+        of_faces(len(cut_sides(faces)), "cut open", "edge"),
+        of_vertices(cuts, f"duplicated at cuts\nprepare: {APART}"),
+        of_vertices(len(soup.points) - len(named), "dropped", "isolated "),
+        of_vertices(len({names[v] for v in named} - used), "dropped: no face is left"),
+        of_faces(sum(is_thin(points[a], points[b], points[c]) for a, b, c in corners),
+                 "of zero area"),
     ]
     account = Account(len(soup.points), len(points), len(soup.faces), len(corners))
     warning = ""
     if fit is not None and 10 * flat >= len(fans):
-        warning = "a tenth of the triangles or more became edges: "
+        warning = "a tenth of the triangles or more collapsed to edges: "
         warning += fit.longest({v: soup.points[v] for v in placed})
-    rounded = len({soup.points[v] for v in named}) - len(set(places.values()))
-    first = soup.others[0] if soup.others else 0
-    return Prepared(Mesh(points, corners), fit, account, notes, rounded, warning, first)
+    return Prepared(Mesh(points, corners), fit, account, notes, warning)
 
 
 def head_line(made: Prepared) -> str:
     return "# coordinates as they stood\n" if made.fit is None else "# " + made.fit.way_back()
 
 
-def note_line(made: Prepared, what: str, count: int) -> str:
-    """What goes with a count stands after it."""
-    line = f"prepare: {what} {count}"
-    if what == "lines passed over":
-        line += f", the first {made.first_other}"
-    if what == "vertices joined" and made.rounded:
-        line += f", {made.rounded} of them by rounding"
-    if what == "vertices split off":
-        line += "\nprepare: what was split off comes apart in fronts: "
-        line += "simplify --keep-border holds the border"
-    return line + "\n"
-
-
 def notes_text(made: Prepared) -> str:
     """How much came out, a line for each kind of change, how places lead back, and a warning."""
     lines = [made.account.line()]
-    lines += [note_line(made, what, count) for what, count in made.notes if count]
+    lines += [note.line() for note in made.notes]
     if made.fit is not None:
         lines += ["prepare: " + line for line in (made.fit.way_back(), made.fit.near())]
     if made.warning:
@@ -401,5 +396,6 @@ def answer(words: List[str], data: bytes) -> Answer:
         if not made.mesh.faces:
             raise Fault(NO_FACES)
     except Fault as fault:
-        return failed("prepare", fault)
+        reason = "more than 1,048,576 vertices come out" if str(fault) == "9" else REASONS[fault.number]
+        return Answer(1, b"", f"prepare: fault {fault} ({reason})\n")
     return Answer(0, head_line(made).encode() + canonical_text(made.mesh, 0), notes_text(made))

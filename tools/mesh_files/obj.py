@@ -12,10 +12,10 @@ _NOT_LETTERS = re.compile(rb"[^A-Za-z]")
 _SCALED = re.compile(rb"# coordinate = (\S+) / (\d+) \* place \+ \((\S+) (\S+) (\S+)\)")
 _FACE_LINE = re.compile(rb"^[ \t]*f[ \t]", re.MULTILINE)
 _KINDS = {
-    "texture places": b"vt",
+    "texture coordinates": b"vt",
     "normals": b"vn",
-    "groups": b"g o s mg",
-    "materials": b"usemtl mtllib",
+    "group lines": b"g o s mg",
+    "material lines": b"usemtl mtllib",
     "lines and points": b"l p",
 }
 _KIND_OF = {word: kind for kind, words in _KINDS.items() for word in words.split()}
@@ -102,14 +102,14 @@ def _corner(field: bytes, count: int) -> int:
 def _pass_over(soup: Soup, word: bytes) -> None:
     if word not in _COMMON and _NOT_LETTERS.sub(b"", word) in _COMMON:
         raise MeshFault(f"{word!r} has bytes that are no letters: take them out")
-    soup.pass_over(_KIND_OF.get(word, "lines"))
+    soup.pass_over(_KIND_OF.get(word, "unknown lines"))
 
 
 def _take(soup: Soup, fields: List[bytes]) -> None:
     word = fields[0]
     if word == b"v":
         soup.points.extend(_point(fields))
-        soup.pass_over("colours", len(fields) > 6)
+        soup.pass_over("vertex colours", len(fields) > 6)
     elif word == b"f":
         if len(fields) < 4:
             raise MeshFault("a face has three corners or more")

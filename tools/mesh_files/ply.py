@@ -13,8 +13,8 @@ _LETTERS = {
 _ORDERS = {"ascii": "", "binary_little_endian": "<", "binary_big_endian": ">"}
 _INDICES = ("vertex_indices", "vertex_index")
 _KINDS = {
-    "normals": "nx ny nz", "colours": "red green blue alpha r g b a diffuse_red diffuse_green"
-    " diffuse_blue", "texture places": "s t u v texture_u texture_v texcoord texnumber",
+    "normals": "nx ny nz", "vertex colours": "red green blue alpha r g b a diffuse_red diffuse_green"
+    " diffuse_blue", "texture coordinates": "s t u v texture_u texture_v texcoord texnumber",
 }
 _KIND_OF = {name: kind for kind, names in _KINDS.items() for name in names.split()}
 _LONGEST_HEAD = 65_536
@@ -255,7 +255,7 @@ def _add_faces(soup: Soup, rows: Iterator[Tuple[str, Row]], element: Element, mo
 
 def _pass_over(soup: Soup, element: Element, read: Tuple[str, ...]) -> None:
     kinds = {
-        _KIND_OF.get(one.name, f"properties {one.name}")
+        _KIND_OF.get(one.name, f"{one.name} properties")
         for one in element.properties if one.name not in read
     }
     for kind in sorted(kinds):
@@ -275,5 +275,5 @@ def read(file: BinaryIO, size: int) -> Soup:
             _add_faces(soup, rows.rows(element), element, most)
             _pass_over(soup, element, _INDICES)
         else:
-            soup.pass_over(f"elements {element.name}", sum(1 for _ in rows.rows(element)))
+            soup.pass_over(f"{element.name} elements", sum(1 for _ in rows.rows(element)))
     return soup

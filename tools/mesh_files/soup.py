@@ -43,7 +43,7 @@ class Soup:
 
     def notes(self) -> List[str]:
         """What was passed over, as `prepare` tells it."""
-        return [f"{what} passed over {count}" for what, count in self.passed.items()]
+        return [f"{count} {what} ignored" for what, count in self.passed.items()]
 
 
 def finite(numbers: Iterable[float]) -> List[float]:

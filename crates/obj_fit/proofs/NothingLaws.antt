@@ -2,7 +2,6 @@
 use Rattle.std.proofs.Common.{◌≡◌, ℕ, ◌<◌, false, ◌*◌, None, nat_le, refl, ◌∙◌, List, [], ◌++◌}
 use Rattle.std.proofs.lemmas.Grind.{common_steps}
 use Rattle.std.proofs.Common.{length, arith}
-use Rattle.std.specs.Prelude.{codes}
 use Rattle.std.proofs.lemmas.Bool.{eq-eqb}
 use Rattle.std.proofs.lemmas.List.{append-nil}
 use Rattle.pm_base.specs.declared.mesh.Corners.{Corners}
@@ -12,8 +11,9 @@ use Rattle.obj_fit.specs.Outcome.{warning_for}
 use Rattle.pm_base.specs.Place.{Place}
 use Rattle.std.proofs.lemmas.Bool.Decides.{nat_tests}
 use Rattle.obj_fit.specs.declared.counts.Counts.{Counts}
-use Rattle.obj_fit.specs.Texts.{account_line, warning_line, note_line, face_notes, line_notes}
-use Rattle.obj_fit.specs.Texts.{joined_line, turn_notes, apart_line, vertex_notes, last_note}
+use Rattle.obj_fit.specs.Texts.{account_line, warning_line, note_line, polygon_notes, inexact_note}
+use Rattle.obj_fit.specs.Texts.{line_notes, welded_line, dropped_notes, face_notes, inward_note}
+use Rattle.obj_fit.specs.Texts.{turn_notes, apart_line, vertex_notes, thin_note, last_note}
 use Rattle.obj_fit.specs.Texts.{rounded_notes, passed_notes, notes_text}
 use Rattle.obj_prepare.specs.Nothing.{nothing_done}
 
@@ -32,15 +32,14 @@ no_account c vertices triangles = grind (arith, common_steps, eq-eqb)
 -- rounding made flat or turned over, what was passed over, closed surfaces that look inward and
 -- faces without area are told.
 pub nothing_said : (c : Counts) (rounded k : ℕ) (fit : Fit) → account_line c ≡ [] → c.twice ≡ 0
-    → notes_text c (nothing_done k) rounded fit None ≡ note_line (codes "polygons cut") c.polygons
-    ++ note_line (codes "polygons whose triangles overlap") c.overlapping
-    ++ note_line (codes "vertices rounded at the 18th decimal") c.inexact
+    → notes_text c (nothing_done k) rounded fit None ≡ polygon_notes c.polygons c.overlapping
+    ++ inexact_note c.inexact
     ++ rounded_notes c.rounded
     ++ passed_notes c.passed
-    ++ note_line (codes "closed surfaces that enclose a void or face inward") k
-    ++ note_line (codes "faces without area") c.thin ++ last_note fit
-unfolding notes_text face_notes line_notes joined_line turn_notes apart_line vertex_notes
-    note_line warning_line
+    ++ inward_note k
+    ++ thin_note c.thin ++ last_note fit
+unfolding notes_text face_notes line_notes welded_line dropped_notes turn_notes apart_line
+    vertex_notes note_line warning_line
 nothing_said c rounded k fit same none = grind (arith, common_steps, append-nil, four_ends)
 
 -- Where no triangle became an edge nothing is warned of.

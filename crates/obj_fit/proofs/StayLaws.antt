@@ -30,12 +30,11 @@ use Rattle.obj_prepare.proofs.PieceLaws.{corners_named, split_formed}
 use Rattle.obj_prepare.proofs.PlacingLaws.{length-places_of}
 use Rattle.obj_prepare.proofs.ThreeLaws.{three_of_manifold, three_of_mesh}
 use Rattle.obj_prepare.proofs.TurnedLaws.{turned_stand}
-use Rattle.std.specs.Prelude.{codes}
 use Rattle.obj_fit.specs.Thin.{thin_count}
 use Rattle.obj_scan.specs.declared.passed.PassedOver.{PassedOver}
 use Rattle.obj_fit.specs.Fine.{rounded_faces}
-use Rattle.obj_fit.specs.Texts.{output_text, note_line, rounded_notes, passed_notes, last_note}
-use Rattle.obj_fit.specs.Texts.{notes_text}
+use Rattle.obj_fit.specs.Texts.{output_text, note_line, polygon_notes, inexact_note, rounded_notes}
+use Rattle.obj_fit.specs.Texts.{passed_notes, inward_note, thin_note, last_note, notes_text}
 use Rattle.obj_fit.specs.Outcome.{Done, MakesPrepared, cut_in, fit_in, places_in, counts_in}
 use Rattle.obj_fit.specs.Outcome.{IsPreparedText, made}
 use Rattle.obj_fit.specs.Laws.{NeedsNothing, as_it_is, FitScansStay, FitTextsStay}
@@ -122,8 +121,8 @@ abbrev standing_as_it_is : PassedOver → Mesh → ℕ → Done
 standing_as_it_is n m k = record {
   text = output_text fits.Standing m;
   notes = passed_notes n
-      ++ note_line (codes "closed surfaces that enclose a void or face inward") k
-      ++ note_line (codes "faces without area") (thin_count m.points m.faces)
+      ++ inward_note k
+      ++ thin_note (thin_count m.points m.faces)
       ++ last_note fits.Standing;
 }
 
@@ -131,7 +130,7 @@ stands_as_it_is : (n : PassedOver) (m : Mesh) (k : ℕ) → of_three m.faces ≡
     → All IsPlace m.points
     → ((v : ℕ) → v < length m.points → IsUsed (net_of m.faces) v)
     → as_it_is None (with_passed n (scanned_mesh m)) k ≡ standing_as_it_is n m k
-unfolding note_line rounded_notes
+unfolding note_line polygon_notes inexact_note rounded_notes
 stands_as_it_is n m k three placed used =
     let points = map scaled_up m.points in
     let fit = ap (fit_of None points) three ∙ standing_fit m.points m.faces placed in
@@ -141,8 +140,8 @@ stands_as_it_is n m k three placed used =
       text = output_text (fit i) (record { points = places i; faces = m.faces });
       notes = rounded_notes (rounded_faces (fit i) points (places i) (of_three m.faces))
           ++ passed_notes n
-          ++ note_line (codes "closed surfaces that enclose a void or face inward") k
-          ++ note_line (codes "faces without area") (thin_count (places i) m.faces)
+          ++ inward_note k
+          ++ thin_note (thin_count (places i) m.faces)
           ++ last_note (fit i);
     }
 

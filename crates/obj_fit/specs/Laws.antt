@@ -27,8 +27,8 @@ use Rattle.obj_prepare.specs.Prepared.{IsPreparedWith}
 use Rattle.obj_prepare.specs.Laws.{AreFit}
 use Rattle.obj_fit.specs.declared.fault.Fault.{Fault}
 use Rattle.obj_fit.specs.Thin.{thin_count}
-use Rattle.obj_fit.specs.Texts.{output_text, note_line, rounded_notes, passed_notes, notes_text}
-use Rattle.obj_fit.specs.Texts.{last_note}
+use Rattle.obj_fit.specs.Texts.{output_text, polygon_notes, inexact_note, rounded_notes}
+use Rattle.obj_fit.specs.Texts.{passed_notes, inward_note, thin_note, notes_text, last_note}
 use Rattle.obj_fit.specs.Outcome.{Done, MakesPrepared, IsPreparedText, cut_in, overlapping_in}
 use Rattle.obj_fit.specs.Outcome.{fit_in, places_in, counts_in, rounded_faces_in}
 use Rattle.pm_io.specs.Letters.{line_feed, carriage_return, hash_sign}
@@ -160,8 +160,8 @@ FitTextsStay = (bytes : List ℕ) (m : Mesh) → IsFormed bytes → meaning_of 0
     (Ok (record {
       text = output_text fits.Standing m;
       notes = passed_notes (passed_in (scan_meaning_of bytes))
-          ++ note_line (codes "closed surfaces that enclose a void or face inward") inside_out
-          ++ note_line (codes "faces without area") (thin_count m.points m.faces)
+          ++ inward_note inside_out
+          ++ thin_note (thin_count m.points m.faces)
           ++ last_note fits.Standing;
     })) None
 
@@ -181,13 +181,12 @@ pub record NeedsNothing (size : Option ℕ) (s : Scanned) : Type 0 where
 abbrev pub as_it_is : Option ℕ → Scanned → ℕ → Done
 as_it_is size s inside_out = record {
   text = output_text (fit_in size s) (record { points = places_in size s; faces = cut_in size s });
-  notes = note_line (codes "polygons cut") (length s.polygons)
-      ++ note_line (codes "polygons whose triangles overlap") (overlapping_in size s)
-      ++ note_line (codes "vertices rounded at the 18th decimal") s.inexact
+  notes = polygon_notes (length s.polygons) (overlapping_in size s)
+      ++ inexact_note s.inexact
       ++ rounded_notes (rounded_faces_in size s)
       ++ passed_notes s.passed
-      ++ note_line (codes "closed surfaces that enclose a void or face inward") inside_out
-      ++ note_line (codes "faces without area") (thin_count (places_in size s) (cut_in size s))
+      ++ inward_note inside_out
+      ++ thin_note (thin_count (places_in size s) (cut_in size s))
       ++ last_note (fit_in size s);
 }
 

@@ -4,4 +4,5 @@ pub mod Texts
 pub mod Outcome
 pub mod Making
 pub mod Fails
+pub mod Reasons
 pub mod Laws

@@ -40,14 +40,22 @@ head_line (fits.Scaled size b) = codes "# " ++ way_text (way_back_of size b)
 abbrev pub output_text : Fit → Mesh → List ℕ
 output_text fit m = head_line fit ++ canonical_text 0 m
 
--- `prepare: WHAT N`, where N isn't 0.
-unfoldable pub note_line : List ℕ → ℕ → List ℕ
-note_line what n = if n == 0 then codes "" else codes "prepare: " ++ what ++ codes " " ++ decimal n
-    ++ codes "\n"
+-- What one thing is called, and what more of them are.
+abbrev pub named : List ℕ → List ℕ → ℕ → List ℕ
+named one many n = if n == 1 then one else many
+
+-- `N ONE` of one thing, and else `N MANY`.
+unfoldable pub counted : List ℕ → List ℕ → ℕ → List ℕ
+counted one many n = decimal n ++ codes " " ++ named one many n
+
+-- `prepare: N THINGS WHAT`, where N isn't 0.
+unfoldable pub note_line : List ℕ → List ℕ → List ℕ → ℕ → List ℕ
+note_line one many what n = if n == 0 then codes "" else codes "prepare: " ++ counted one many n
+    ++ codes " " ++ what ++ codes "\n"
 
 -- How near places are to the coordinates.
 unfoldable pub within_text : WayBack → List ℕ
-within_text way = codes "prepare: places are within " ++ coordinate_text 18 (pos (within_of way))
+within_text way = codes "prepare: positions are within " ++ coordinate_text 18 (pos (within_of way))
     ++ codes " of the coordinates\n"
 
 -- How places lead back, where they were scaled.
@@ -76,35 +84,37 @@ unfoldable pub rounding_text : ℕ → List ℕ
 rounding_text n =
     if n == 0 then codes "" else codes ", " ++ decimal n ++ codes " of them by rounding"
 
--- How many vertices were joined, and how many of these by rounding.
-unfoldable pub joined_line : ℕ → ℕ → List ℕ
-joined_line joined rounded =
-    if joined == 0 then codes ""
-    else codes "prepare: vertices joined " ++ decimal joined ++ rounding_text rounded ++ codes "\n"
+-- How many vertices were welded, and how many of these by rounding.
+unfoldable pub welded_line : ℕ → ℕ → List ℕ
+welded_line welded rounded =
+    if welded == 0 then codes ""
+    else codes "prepare: " ++ counted (codes "vertex welded") (codes "vertices welded") welded
+    ++ rounding_text rounded ++ codes "\n"
 
 -- How many lines were passed over that begin otherwise, and the first of them.
 unfoldable pub others_line : ℕ → ℕ → List ℕ
 others_line n first =
     if n == 0 then codes ""
-    else codes "prepare: lines passed over " ++ decimal n ++ codes ", the first " ++ decimal first
-    ++ codes "\n"
+    else codes "prepare: " ++ counted (codes "unknown line") (codes "unknown lines") n
+    ++ codes " ignored, the first is line " ++ decimal first ++ codes "\n"
 
 -- What was passed over: what stands after places, and what goes with faces;
 unfoldable pub shading_notes : PassedOver → List ℕ
 shading_notes p =
-    note_line (codes "weights passed over") p.weights
-    ++ note_line (codes "colours passed over") p.colours
-    ++ note_line (codes "texture places passed over") p.textures
-    ++ note_line (codes "normals passed over") p.normals
-    ++ note_line (codes "groups passed over") p.groups
+    note_line (codes "weight") (codes "weights") (codes "ignored") p.weights
+    ++ note_line (codes "vertex colour") (codes "vertex colours") (codes "ignored") p.colours
+    ++ note_line (codes "texture coordinate") (codes "texture coordinates") (codes "ignored")
+    p.textures
+    ++ note_line (codes "normal") (codes "normals") (codes "ignored") p.normals
+    ++ note_line (codes "group line") (codes "group lines") (codes "ignored") p.groups
 
 -- what is shown beside faces, or how; and all other lines.
 unfoldable pub beside_notes : PassedOver → List ℕ
 beside_notes p =
-    note_line (codes "materials passed over") p.materials
-    ++ note_line (codes "lines and points passed over") p.elements
-    ++ note_line (codes "curves and surfaces passed over") p.curves
-    ++ note_line (codes "calls passed over") p.calls
+    note_line (codes "material line") (codes "material lines") (codes "ignored") p.materials
+    ++ note_line (codes "line or point") (codes "lines and points") (codes "ignored") p.elements
+    ++ note_line (codes "curve or surface") (codes "curves and surfaces") (codes "ignored") p.curves
+    ++ note_line (codes "call") (codes "calls") (codes "ignored") p.calls
     ++ others_line p.others p.first_other
 
 unfoldable pub passed_notes : PassedOver → List ℕ
@@ -112,50 +122,81 @@ passed_notes p = shading_notes p ++ beside_notes p
 
 -- What rounding to the grid did to triangles.
 unfoldable pub rounded_notes : RoundedFaces → List ℕ
-rounded_notes r = note_line (codes "faces made flat by rounding") r.flattened
-    ++ note_line (codes "faces turned over by rounding") r.overturned
+rounded_notes r =
+    note_line (codes "face") (codes "faces") (codes "made degenerate by rounding") r.flattened
+    ++ note_line (codes "face") (codes "faces") (codes "flipped by rounding") r.overturned
+
+-- How many polygons were cut into triangles, and of how many these overlap.
+unfoldable pub polygon_notes : ℕ → ℕ → List ℕ
+polygon_notes cut overlapping =
+    note_line (codes "polygon") (codes "polygons") (codes "triangulated") cut
+    ++ note_line (codes "polygon") (codes "polygons") (codes "triangulated with overlaps")
+    overlapping
+
+-- How many vertices were rounded as they were read.
+unfoldable pub inexact_note : ℕ → List ℕ
+inexact_note n =
+    note_line (codes "vertex") (codes "vertices") (codes "rounded at the 18th decimal") n
 
 -- What is said of polygons, of vertices that were rounded as they were read, of triangles that
 -- rounding to the grid made flat or turned over, and of what was passed over.
 unfoldable pub line_notes : Counts → List ℕ
-line_notes c = note_line (codes "polygons cut") c.polygons
-    ++ note_line (codes "polygons whose triangles overlap") c.overlapping
-    ++ note_line (codes "vertices rounded at the 18th decimal") c.inexact
+line_notes c = polygon_notes c.polygons c.overlapping
+    ++ inexact_note c.inexact
     ++ rounded_notes c.rounded
     ++ passed_notes c.passed
 
--- What is said of the faces and places of the input, of which so many were joined by rounding.
+-- Which faces were left out: those that name a vertex twice, that became edges by welding, and
+-- that stand twice.
+unfoldable pub dropped_notes : Counts → Notes → List ℕ
+dropped_notes c notes =
+    note_line (codes "degenerate face") (codes "degenerate faces")
+    (codes "dropped: a vertex is named twice") c.twice
+    ++ note_line (codes "degenerate face") (codes "degenerate faces")
+    (codes "dropped: collapsed to an edge") notes.flat
+    ++ note_line (codes "duplicate face") (codes "duplicate faces") (codes "dropped") notes.double
+
+-- What is said of the faces and places of the input, of which so many were welded by rounding.
 unfoldable pub face_notes : Counts → Notes → ℕ → List ℕ
 face_notes c notes rounded =
-    line_notes c
-    ++ joined_line notes.joined rounded
-    ++ note_line (codes "faces that name a vertex twice") c.twice
-    ++ note_line (codes "faces that became edges") notes.flat
-    ++ note_line (codes "faces that stand twice") notes.double
+    line_notes c ++ welded_line notes.joined rounded ++ dropped_notes c notes
+
+-- How many closed surfaces look inward.
+unfoldable pub inward_note : ℕ → List ℕ
+inward_note n =
+    note_line (codes "closed surface") (codes "closed surfaces")
+    (codes "facing inward or around a void") n
 
 -- What is said of turning.
 unfoldable pub turn_notes : TurnCounts → List ℕ
 turn_notes turns =
-    note_line (codes "faces turned") turns.turned
-    ++ note_line (codes "faces in patches that can't be turned") turns.twisted
-    ++ note_line (codes "edges of three faces or more") turns.crowded
-    ++ note_line (codes "closed surfaces that enclose a void or face inward") turns.inside_out
+    note_line (codes "face") (codes "faces") (codes "flipped for consistent winding") turns.turned
+    ++ note_line (codes "face") (codes "faces") (codes "in non-orientable patches") turns.twisted
+    ++ note_line (codes "non-manifold edge") (codes "non-manifold edges")
+    (codes "of three faces or more") turns.crowded
+    ++ inward_note turns.inside_out
 
 -- That what was split off comes apart in fronts, and what keeps it together along borders.
 unfoldable pub apart_line : ℕ → List ℕ
 apart_line split =
     if split == 0 then codes ""
-    else codes "prepare: what was split off comes apart in fronts: "
+    else codes "prepare: what was cut can come apart at coarser levels: "
     ++ codes "simplify --keep-border holds the border\n"
 
 -- What is said of what was cut and left out.
 unfoldable pub vertex_notes : Notes → List ℕ
 vertex_notes notes =
-    note_line (codes "sides cut open") notes.cut
-    ++ note_line (codes "vertices split off") notes.split
+    note_line (codes "edge") (codes "edges") (codes "cut open") notes.cut
+    ++ note_line (codes "vertex") (codes "vertices") (codes "duplicated at cuts")
+    notes.split
     ++ apart_line notes.split
-    ++ note_line (codes "vertices that no face has") notes.unnamed
-    ++ note_line (codes "vertices whose faces all went") notes.gone
+    ++ note_line (codes "isolated vertex") (codes "isolated vertices") (codes "dropped")
+    notes.unnamed
+    ++ note_line (codes "vertex") (codes "vertices") (codes "dropped: no face is left") notes.gone
+
+-- How many faces have no area.
+unfoldable pub thin_note : ℕ → List ℕ
+thin_note n = note_line (codes "face") (codes "faces") (codes "of zero area") n
 
 abbrev pub axis_letter : Axis → List ℕ
 axis_letter axes.X = codes "x"
@@ -168,10 +209,10 @@ longest_text l =
     codes "the longest axis, " ++ axis_letter l.axis ++ codes ", goes from vertex "
     ++ decimal (l.low + 1) ++ codes " to vertex " ++ decimal (l.high + 1) ++ codes "\n"
 
--- That many triangles became edges, and what the box stretches between.
+-- That many triangles collapsed to edges, and what the box stretches between.
 unfoldable pub warning_line : Option LongestAxis → List ℕ
 warning_line None = codes ""
-warning_line (Some l) = codes "prepare: a tenth of the triangles or more became edges: "
+warning_line (Some l) = codes "prepare: a tenth of the triangles or more collapsed to edges: "
     ++ longest_text l
 
 -- What is said of the work: how much came out, a line for each kind of change that was made, how
@@ -179,4 +220,4 @@ warning_line (Some l) = codes "prepare: a tenth of the triangles or more became 
 unfoldable pub notes_text : Counts → Notes → ℕ → Fit → Option LongestAxis → List ℕ
 notes_text c notes rounded fit warning =
     account_line c ++ face_notes c notes rounded ++ turn_notes notes.turns ++ vertex_notes notes
-    ++ note_line (codes "faces without area") c.thin ++ last_note fit ++ warning_line warning
+    ++ thin_note c.thin ++ last_note fit ++ warning_line warning

@@ -1,34 +1,61 @@
-//! The lines of what was done to lines, faces and vertices of the input.
+//! The lines of what was done to faces and vertices of the input.
 ghost use Rattle.std.specs.Prelude.{◌≡◌, ◌++◌, OnOk};
-ghost use Rattle.obj_fit.specs.Texts.{note_line, rounding_text, joined_line, line_notes};
-ghost use Rattle.obj_fit.specs.Texts.{others_line, rounded_notes, shading_notes, beside_notes};
-ghost use Rattle.obj_fit.specs.Texts.{passed_notes, face_notes, turn_notes, apart_line};
-ghost use Rattle.obj_fit.specs.Texts.{vertex_notes};
+ghost use Rattle.obj_fit.specs.Texts.{named, counted, note_line, rounding_text, welded_line};
+ghost use Rattle.obj_fit.specs.Texts.{dropped_notes, face_notes, inward_note, turn_notes};
+ghost use Rattle.obj_fit.specs.Texts.{apart_line, vertex_notes, thin_note};
 
 use crate::counts::Counts;
-use crate::rounded::RoundedFaces;
+use crate::lines::add_line_notes;
 use crate::text::add_number;
 use obj_prepare::Notes;
-use obj_scan::PassedOver;
 use pm_turn::TurnCounts;
 use std::alloc::AllocError;
 
-/// Adds the line of one kind of change, where it was made.
+// What one thing is called, or what more of them are.
+fn named<'a>(one: &'a [u8], many: &'a [u8], n: u32) -> &'a [u8]
+    ensures { result.now ≡ named one.now many.now n }
+{
+    if n == 1 { one } else { many }
+}
+
+/// Adds how many there are of something.
+pub(crate) fn add_counted(
+    text: &mut Vec<u8>,
+    one: &[u8],
+    many: &[u8],
+    n: u32,
+) -> Result<(), AllocError>
+    ensures { OnOk result (text.new.items ≡ text.old.items ++ counted one.now many.now n) }
+{
+    add_number(text, u64::from(n))?;
+    text.extend_from_slice(b" ")?;
+    text.extend_from_slice(named(one, many, n))?;
+    Ok(())
+}
+
+/// Adds the line of one kind of change, where it was made: to how many of what, and what it was.
 #[tactic(auto, unfolding(crate::specs::Texts::note_line), using(crate::proofs::TextLaws::nothing_added))]
-pub(crate) fn add_note(text: &mut Vec<u8>, what: &[u8], n: u32) -> Result<(), AllocError>
-    ensures { OnOk result (text.new.items ≡ text.old.items ++ note_line what.now n) }
+pub(crate) fn add_note(
+    text: &mut Vec<u8>,
+    one: &[u8],
+    many: &[u8],
+    what: &[u8],
+    n: u32,
+) -> Result<(), AllocError>
+    ensures { OnOk result (text.new.items
+        ≡ text.old.items ++ note_line one.now many.now what.now n) }
 {
     if n == 0 {
         return Ok(());
     }
     text.extend_from_slice(b"prepare: ")?;
-    text.extend_from_slice(what)?;
+    add_counted(text, one, many, n)?;
     text.extend_from_slice(b" ")?;
-    add_number(text, u64::from(n))?;
+    text.extend_from_slice(what)?;
     text.extend_from_slice(b"\n")
 }
 
-// Adds how many of the vertices that were joined were so by rounding, where some were.
+// Adds how many of the vertices that were welded were so by rounding, where some were.
 #[tactic(auto, unfolding(crate::specs::Texts::rounding_text), using(crate::proofs::TextLaws::nothing_added))]
 fn add_rounding(text: &mut Vec<u8>, n: u32) -> Result<(), AllocError>
     ensures { OnOk result (text.new.items ≡ text.old.items ++ rounding_text n) }
@@ -42,101 +69,47 @@ fn add_rounding(text: &mut Vec<u8>, n: u32) -> Result<(), AllocError>
     Ok(())
 }
 
-// Adds how many vertices were joined, where some were, and how many of these by rounding.
-#[tactic(auto, unfolding(crate::specs::Texts::joined_line), using(crate::proofs::TextLaws::nothing_added))]
-fn add_joined(text: &mut Vec<u8>, joined: u32, rounded: u32) -> Result<(), AllocError>
-    ensures { OnOk result (text.new.items ≡ text.old.items ++ joined_line joined rounded) }
+// Adds how many vertices were welded, where some were, and how many of these by rounding.
+#[tactic(auto, unfolding(crate::specs::Texts::welded_line), using(crate::proofs::TextLaws::nothing_added))]
+fn add_welded(text: &mut Vec<u8>, welded: u32, rounded: u32) -> Result<(), AllocError>
+    ensures { OnOk result (text.new.items ≡ text.old.items ++ welded_line welded rounded) }
 {
-    if joined == 0 {
+    if welded == 0 {
         return Ok(());
     }
-    text.extend_from_slice(b"prepare: vertices joined ")?;
-    add_number(text, u64::from(joined))?;
+    text.extend_from_slice(b"prepare: ")?;
+    add_counted(text, b"vertex welded", b"vertices welded", welded)?;
     add_rounding(text, rounded)?;
     text.extend_from_slice(b"\n")?;
     Ok(())
 }
 
-// Adds how many lines were passed over that begin otherwise, and the first of them.
-#[tactic(auto, unfolding(crate::specs::Texts::others_line), using(crate::proofs::TextLaws::nothing_added))]
-fn add_others(text: &mut Vec<u8>, n: u32, first: u32) -> Result<(), AllocError>
-    ensures { OnOk result (text.new.items ≡ text.old.items ++ others_line n first) }
+// Adds which faces were left out.
+#[tactic(auto, unfolding(crate::specs::Texts::dropped_notes))]
+fn add_dropped(text: &mut Vec<u8>, counts: Counts, notes: &Notes) -> Result<(), AllocError>
+    ensures { OnOk result (text.new.items ≡ text.old.items ++ dropped_notes counts notes.now) }
 {
-    if n == 0 {
-        return Ok(());
-    }
-    text.extend_from_slice(b"prepare: lines passed over ")?;
-    add_number(text, u64::from(n))?;
-    text.extend_from_slice(b", the first ")?;
-    add_number(text, u64::from(first))?;
-    text.extend_from_slice(b"\n")?;
-    Ok(())
-}
-
-// Adds what was passed over after places, and beside faces.
-#[tactic(auto, unfolding(crate::specs::Texts::shading_notes))]
-fn add_shading(text: &mut Vec<u8>, passed: &PassedOver) -> Result<(), AllocError>
-    ensures { OnOk result (text.new.items ≡ text.old.items ++ shading_notes passed.now) }
-{
-    add_note(text, b"weights passed over", passed.weights)?;
-    add_note(text, b"colours passed over", passed.colours)?;
-    add_note(text, b"texture places passed over", passed.textures)?;
-    add_note(text, b"normals passed over", passed.normals)?;
-    add_note(text, b"groups passed over", passed.groups)?;
-    Ok(())
-}
-
-#[tactic(auto, unfolding(crate::specs::Texts::beside_notes))]
-fn add_beside(text: &mut Vec<u8>, passed: &PassedOver) -> Result<(), AllocError>
-    ensures { OnOk result (text.new.items ≡ text.old.items ++ beside_notes passed.now) }
-{
-    add_note(text, b"materials passed over", passed.materials)?;
-    add_note(text, b"lines and points passed over", passed.elements)?;
-    add_note(text, b"curves and surfaces passed over", passed.curves)?;
-    add_note(text, b"calls passed over", passed.calls)?;
-    add_others(text, passed.others, passed.first_other)?;
-    Ok(())
-}
-
-// Adds what was passed over.
-#[tactic(auto, unfolding(crate::specs::Texts::passed_notes))]
-fn add_passed(text: &mut Vec<u8>, passed: &PassedOver) -> Result<(), AllocError>
-    ensures { OnOk result (text.new.items ≡ text.old.items ++ passed_notes passed.now) }
-{
-    add_shading(text, passed)?;
-    add_beside(text, passed)?;
-    Ok(())
-}
-
-// Adds what rounding to the grid did to triangles.
-#[tactic(auto, unfolding(crate::specs::Texts::rounded_notes))]
-fn add_rounded(text: &mut Vec<u8>, rounded: RoundedFaces) -> Result<(), AllocError>
-    ensures { OnOk result (text.new.items ≡ text.old.items ++ rounded_notes rounded) }
-{
-    add_note(text, b"faces made flat by rounding", rounded.flattened)?;
-    add_note(text, b"faces turned over by rounding", rounded.overturned)?;
-    Ok(())
-}
-
-// Adds what is said of polygons, of vertices that were rounded as they were read, of triangles that
-// rounding to the grid made flat or turned over, and of what was passed over.
-#[tactic(auto, unfolding(crate::specs::Texts::line_notes))]
-fn add_line_notes(text: &mut Vec<u8>, counts: Counts) -> Result<(), AllocError>
-    ensures { OnOk result (text.new.items ≡ text.old.items ++ line_notes counts) }
-{
-    add_note(text, b"polygons cut", counts.polygons)?;
     add_note(
         text,
-        b"polygons whose triangles overlap",
-        counts.overlapping,
+        b"degenerate face",
+        b"degenerate faces",
+        b"dropped: a vertex is named twice",
+        counts.twice,
     )?;
     add_note(
         text,
-        b"vertices rounded at the 18th decimal",
-        counts.inexact,
+        b"degenerate face",
+        b"degenerate faces",
+        b"dropped: collapsed to an edge",
+        notes.flat,
     )?;
-    add_rounded(text, counts.rounded)?;
-    add_passed(text, &counts.passed)?;
+    add_note(
+        text,
+        b"duplicate face",
+        b"duplicate faces",
+        b"dropped",
+        notes.double,
+    )?;
     Ok(())
 }
 
@@ -151,11 +124,23 @@ pub(crate) fn add_face_notes(
     ensures { OnOk result (text.new.items ≡ text.old.items ++ face_notes counts notes.now rounded) }
 {
     add_line_notes(text, counts)?;
-    add_joined(text, notes.joined, rounded)?;
-    add_note(text, b"faces that name a vertex twice", counts.twice)?;
-    add_note(text, b"faces that became edges", notes.flat)?;
-    add_note(text, b"faces that stand twice", notes.double)?;
+    add_welded(text, notes.joined, rounded)?;
+    add_dropped(text, counts, notes)?;
     Ok(())
+}
+
+// Adds how many closed surfaces look inward.
+#[tactic(auto, unfolding(crate::specs::Texts::inward_note))]
+fn add_inward(text: &mut Vec<u8>, n: u32) -> Result<(), AllocError>
+    ensures { OnOk result (text.new.items ≡ text.old.items ++ inward_note n) }
+{
+    add_note(
+        text,
+        b"closed surface",
+        b"closed surfaces",
+        b"facing inward or around a void",
+        n,
+    )
 }
 
 /// Adds what is said of turning.
@@ -163,18 +148,28 @@ pub(crate) fn add_face_notes(
 pub(crate) fn add_turn_notes(text: &mut Vec<u8>, turns: TurnCounts) -> Result<(), AllocError>
     ensures { OnOk result (text.new.items ≡ text.old.items ++ turn_notes turns) }
 {
-    add_note(text, b"faces turned", turns.turned)?;
     add_note(
         text,
-        b"faces in patches that can't be turned",
+        b"face",
+        b"faces",
+        b"flipped for consistent winding",
+        turns.turned,
+    )?;
+    add_note(
+        text,
+        b"face",
+        b"faces",
+        b"in non-orientable patches",
         turns.twisted,
     )?;
-    add_note(text, b"edges of three faces or more", turns.crowded)?;
     add_note(
         text,
-        b"closed surfaces that enclose a void or face inward",
-        turns.inside_out,
+        b"non-manifold edge",
+        b"non-manifold edges",
+        b"of three faces or more",
+        turns.crowded,
     )?;
+    add_inward(text, turns.inside_out)?;
     Ok(())
 }
 
@@ -186,7 +181,7 @@ fn add_apart(text: &mut Vec<u8>, split: u32) -> Result<(), AllocError>
     if split == 0 {
         return Ok(());
     }
-    text.extend_from_slice(b"prepare: what was split off comes apart in fronts: ")?;
+    text.extend_from_slice(b"prepare: what was cut can come apart at coarser levels: ")?;
     text.extend_from_slice(b"simplify --keep-border holds the border\n")?;
     Ok(())
 }
@@ -196,10 +191,36 @@ fn add_apart(text: &mut Vec<u8>, split: u32) -> Result<(), AllocError>
 pub(crate) fn add_vertex_notes(text: &mut Vec<u8>, notes: &Notes) -> Result<(), AllocError>
     ensures { OnOk result (text.new.items ≡ text.old.items ++ vertex_notes notes.now) }
 {
-    add_note(text, b"sides cut open", notes.cut)?;
-    add_note(text, b"vertices split off", notes.split)?;
+    add_note(text, b"edge", b"edges", b"cut open", notes.cut)?;
+    add_note(
+        text,
+        b"vertex",
+        b"vertices",
+        b"duplicated at cuts",
+        notes.split,
+    )?;
     add_apart(text, notes.split)?;
-    add_note(text, b"vertices that no face has", notes.unnamed)?;
-    add_note(text, b"vertices whose faces all went", notes.gone)?;
+    add_note(
+        text,
+        b"isolated vertex",
+        b"isolated vertices",
+        b"dropped",
+        notes.unnamed,
+    )?;
+    add_note(
+        text,
+        b"vertex",
+        b"vertices",
+        b"dropped: no face is left",
+        notes.gone,
+    )?;
     Ok(())
+}
+
+/// Adds how many faces have no area.
+#[tactic(auto, unfolding(crate::specs::Texts::thin_note))]
+pub(crate) fn add_thin(text: &mut Vec<u8>, n: u32) -> Result<(), AllocError>
+    ensures { OnOk result (text.new.items ≡ text.old.items ++ thin_note n) }
+{
+    add_note(text, b"face", b"faces", b"of zero area", n)
 }

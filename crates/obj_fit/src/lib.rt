@@ -8,6 +8,7 @@ mod counts;
 mod fault;
 mod fine;
 mod laying;
+mod lines;
 mod making;
 mod notes;
 mod outcomes;

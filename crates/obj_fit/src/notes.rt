@@ -9,7 +9,7 @@ ghost use Rattle.obj_fit.specs.Texts.{scale_text, middle_text, way_text, head_li
 ghost use Rattle.obj_fit.specs.Texts.{last_note, within_text, notes_text};
 
 use crate::account::add_account;
-use crate::changes::{add_face_notes, add_note, add_turn_notes, add_vertex_notes};
+use crate::changes::{add_face_notes, add_thin, add_turn_notes, add_vertex_notes};
 use crate::counts::Counts;
 use crate::text::{add_coordinate, add_length, add_number};
 use crate::warning::add_warning;
@@ -146,7 +146,7 @@ fn add_within(text: &mut Vec<u8>, size: u32, b: &PointBox) -> Result<(), AllocEr
     ensures { OnOk result (text.new.items ≡ text.old.items
         ++ within_text (way_back_of size b.now)) }
 {
-    text.extend_from_slice(b"prepare: places are within ")?;
+    text.extend_from_slice(b"prepare: positions are within ")?;
     add_length(text, rounded_up(extent(b), 4 * u64::from(size)))?;
     text.extend_from_slice(b" of the coordinates\n")?;
     Ok(())
@@ -194,7 +194,7 @@ fn add_notes(
     add_face_notes(text, counts, notes, rounded)?;
     add_turn_notes(text, notes.turns)?;
     add_vertex_notes(text, notes)?;
-    add_note(text, b"faces without area", counts.thin)?;
+    add_thin(text, counts.thin)?;
     add_last(text, fit)?;
     add_warning(text, warning)?;
     Ok(())

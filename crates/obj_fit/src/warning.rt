@@ -30,18 +30,18 @@ fn add_longest(text: &mut Vec<u8>, longest: LongestAxis) -> Result<(), AllocErro
     Ok(())
 }
 
-// Adds that many triangles became edges, and the longest axis.
+// Adds that many triangles collapsed to edges, and the longest axis.
 fn add_warned(text: &mut Vec<u8>, longest: LongestAxis) -> Result<(), AllocError>
     ensures { OnOk result (text.new.items ≡ text.old.items
-        ++ (codes "prepare: a tenth of the triangles or more became edges: "
+        ++ (codes "prepare: a tenth of the triangles or more collapsed to edges: "
         ++ longest_text longest)) }
 {
-    text.extend_from_slice(b"prepare: a tenth of the triangles or more became edges: ")?;
+    text.extend_from_slice(b"prepare: a tenth of the triangles or more collapsed to edges: ")?;
     add_longest(text, longest)?;
     Ok(())
 }
 
-/// Adds that many triangles became edges, and what the box stretches between.
+/// Adds that many triangles collapsed to edges, and what the box stretches between.
 #[tactic(auto, unfolding(crate::specs::Texts::warning_line), using(crate::proofs::TextLaws::nothing_added))]
 pub fn add_warning(text: &mut Vec<u8>, warning: Option<LongestAxis>) -> Result<(), AllocError>
     ensures { OnOk result (text.new.items ≡ text.old.items ++ warning_line warning) }

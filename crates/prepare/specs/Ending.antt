@@ -1,16 +1,15 @@
 -- How the program ends, and when each status comes.
-use Rattle.std.specs.Prelude.{◌≡◌, ℕ, List, ◌++◌, Option, None, IfSome, Ok, codes}
+use Rattle.std.specs.Prelude.{◌≡◌, ℕ, List, ◌++◌, Option, None, Some, IfSome, Ok, codes}
 use Rattle.std.specs.Fmt.{decimal}
 use Rattle.pm_io.specs.Bytes.{Gains, GainsPart}
 use Rattle.pm_io.specs.Causes.{Rose}
-use Rattle.obj_scan.specs.Refusals.{fault_number}
 use Rattle.obj_fit.specs.declared.fault.Fault.{Fault}
-use Rattle.obj_fit.specs.declared.fault.Fault.TheVariants as faults
 use Rattle.obj_fit.specs.declared.fault.InputFail.TheVariants as input
 use Rattle.prepare.specs.declared.fault.RunFail.{RunFail}
 use Rattle.prepare.specs.declared.fault.RunFail.TheVariants as fails
 use Rattle.obj_fit.specs.Outcome.{Done, IsPreparedText}
-use Rattle.obj_fit.specs.Fails.{StopsPreparing}
+use Rattle.obj_fit.specs.Fails.{StopsPreparing, number_of, line_of}
+use Rattle.obj_fit.specs.Reasons.{reason_of}
 use Rattle.pm_io.specs.Puts.{Said, Stayed}
 
 -- The sink gained the text of what was done, and beside it these notes are to be said.
@@ -36,12 +35,15 @@ pub record Finished (size : Option ℕ) (bytes : List ℕ) (old new err_old err_
   pub gained : Gains old new done.text
   pub said : Said err_old err_new err_before err_now done.notes
 
--- The line of a fault.
+-- ` line N` of a line, and nothing where no line has the fault.
+abbrev pub place_text : Option ℕ → List ℕ
+place_text None = codes ""
+place_text (Some n) = codes " line " ++ decimal n
+
+-- The line of a fault: its number, the line that has it, and what it is.
 unfoldable pub prepare_fault_line : Fault → List ℕ
-prepare_fault_line (faults.Line e n) = codes "prepare: fault " ++ decimal (fault_number e)
-    ++ codes " line " ++ decimal n ++ codes "\n"
-prepare_fault_line faults.TooMany = codes "prepare: fault 9\n"
-prepare_fault_line faults.NoFaces = codes "prepare: fault 12\n"
+prepare_fault_line f = codes "prepare: fault " ++ decimal (number_of f) ++ place_text (line_of f)
+    ++ codes " (" ++ reason_of f ++ codes ")\n"
 
 unfoldable pub prepare_fail_line : RunFail → List ℕ
 prepare_fail_line (fails.Input (input.Faulty f)) = prepare_fault_line f

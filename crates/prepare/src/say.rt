@@ -1,6 +1,7 @@
 //! What is said on the error sink.
-ghost use Rattle.std.specs.Prelude.{◌≡◌};
-ghost use Rattle.prepare.specs.Ending.{prepare_fault_line, prepare_fail_line, prepare_status_of};
+ghost use Rattle.std.specs.Prelude.{◌≡◌, ◌+◌, ◌≤◌, ◌++◌, length};
+ghost use Rattle.prepare.specs.Ending.{place_text, prepare_fault_line, prepare_fail_line};
+ghost use Rattle.prepare.specs.Ending.{prepare_status_of};
 ghost use Rattle.pm_io.specs.Devices.{Tells};
 
 use crate::fault::RunFail;
@@ -14,23 +15,30 @@ pub fn say<E: Sink>(err: &mut E, text: &[u8])
     let _ = put_all(err, text);
 }
 
+// Adds the line that has a fault, where one has.
+fn add_place(line: &mut Line, place: Option<u32>)
+    requires { length line.old ≤ 60 }
+    ensures text { line.new ≡ line.old ++ place_text place }
+    ensures short { length line.new ≤ length line.old + 16 }
+{
+    if let Some(number) = place {
+        line.add(b" line ");
+        line.add_number(number);
+    }
+}
+
 // The line of a fault.
 #[tactic(auto, unfolding(crate::specs::Ending::prepare_fault_line))]
 fn put_fault(line: &mut Line, fault: Fault)
     ensures { line.new ≡ prepare_fault_line fault }
 {
     line.clear();
-    match fault {
-        Fault::Line(fault, number) => {
-            line.add(b"prepare: fault ");
-            line.add_number(fault.number());
-            line.add(b" line ");
-            line.add_number(number);
-            line.add(b"\n");
-        }
-        Fault::TooMany => line.add(b"prepare: fault 9\n"),
-        Fault::NoFaces => line.add(b"prepare: fault 12\n"),
-    }
+    line.add(b"prepare: fault ");
+    line.add_number(fault.number());
+    add_place(line, fault.line());
+    line.add(b" (");
+    line.add(fault.reason());
+    line.add(b")\n");
 }
 
 #[tactic(auto, unfolding(crate::specs::Ending::prepare_fail_line))]

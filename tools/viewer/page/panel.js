@@ -49,10 +49,10 @@ export function saySettings(now) {
   part("budget-said").textContent = now.budget === ALL_MOVES ? "all" : counted(now.budget);
 }
 
-// What of a file isn't shown, by what `prepare` says that it passed over.
-const DROPPED = [[/texture places/, "textures"], [/materials/, "materials"]];
+// What of a file isn't shown, by what `prepare` says that it ignored.
+const DROPPED = [[/texture/, "textures"], [/material/, "materials"]];
 function droppedOf(notes) {
-  const said = notes.filter((note) => note.includes("passed over")).join();
+  const said = notes.filter((note) => note.includes("ignored")).join();
   return DROPPED.filter(([looks]) => looks.test(said)).map(([, name]) => name);
 }
 

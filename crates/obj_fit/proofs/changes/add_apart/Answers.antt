@@ -10,6 +10,6 @@ returns c =
     rw (ne_eqb c.args.split 0 c.if-split-eq0.false)
     (added_two c.args.text.now.items c.extend_from_slice.new.self.items
     c.extend_from_slice-2.new.self.items
-    (codes "prepare: what was split off comes apart in fronts: ")
+    (codes "prepare: what was cut can come apart at coarser levels: ")
     (codes "simplify --keep-border holds the border\n")
     c.in_ok-extend_from_slice.ensures.items c.in_ok-extend_from_slice-2.ensures.items)

@@ -5,4 +5,4 @@ use Rattle.obj_fit.proofs.changes.add_turn_notes.Goals as goal
 pub returns : goal.returns
 unfolding turn_notes
 returns c = added_four _ _ _ _ _ _ _ _ _ c.in_ok-add_note.ensures c.in_ok-add_note-2.ensures
-    c.in_ok-add_note-3.ensures c.in_ok-add_note-4.ensures
+    c.in_ok-add_note-3.ensures c.in_ok-add_inward.ensures

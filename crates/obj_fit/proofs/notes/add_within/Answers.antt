@@ -17,7 +17,7 @@ returns c =
     ∙ ap (λ (p : ℕ). (extent c.args.b.now + p - 1) / p) parts in
     added_three c.args.text.now.items c.extend_from_slice.new.self.items
     c.add_length.new.text.items c.extend_from_slice-2.new.self.items
-    (codes "prepare: places are within ")
+    (codes "prepare: positions are within ")
     (coordinate_text 18 (pos (within_of (way_back_of c.args.size c.args.b.now))))
     (codes " of the coordinates\n")
     c.in_ok-extend_from_slice.ensures.items (c.in_ok-add_length.ensures

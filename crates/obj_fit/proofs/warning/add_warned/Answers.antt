@@ -7,6 +7,6 @@ pub returns : goal.returns
 returns c =
     added_two c.args.text.now.items c.extend_from_slice.new.self.items
     c.add_longest.new.text.items
-    (codes "prepare: a tenth of the triangles or more became edges: ")
+    (codes "prepare: a tenth of the triangles or more collapsed to edges: ")
     (longest_text c.args.longest)
     c.in_ok-extend_from_slice.ensures.items c.in_ok-add_longest.ensures

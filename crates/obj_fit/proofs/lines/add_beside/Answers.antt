@@ -1,6 +1,6 @@
 use Rattle.obj_fit.specs.Texts.{beside_notes}
 use Rattle.obj_fit.proofs.TextLaws.{added_five}
-use Rattle.obj_fit.proofs.changes.add_beside.Goals as goal
+use Rattle.obj_fit.proofs.lines.add_beside.Goals as goal
 
 pub returns : goal.returns
 unfolding beside_notes

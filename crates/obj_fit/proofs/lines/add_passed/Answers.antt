@@ -1,6 +1,6 @@
 use Rattle.obj_fit.specs.Texts.{passed_notes}
 use Rattle.obj_fit.proofs.TextLaws.{added_two}
-use Rattle.obj_fit.proofs.changes.add_passed.Goals as goal
+use Rattle.obj_fit.proofs.lines.add_passed.Goals as goal
 
 pub returns : goal.returns
 unfolding passed_notes

@@ -1,6 +1,6 @@
 use Rattle.obj_fit.specs.Texts.{shading_notes}
 use Rattle.obj_fit.proofs.TextLaws.{added_five}
-use Rattle.obj_fit.proofs.changes.add_shading.Goals as goal
+use Rattle.obj_fit.proofs.lines.add_shading.Goals as goal
 
 pub returns : goal.returns
 unfolding shading_notes

@@ -1,0 +1,66 @@
+"""The words of `prepare`: what it says of each kind of change, and of each fault."""
+from typing import NamedTuple
+
+REASONS = {
+    1: "more than 65,536 bytes",
+    2: "continued, but the text ends",
+    3: "fewer than three fields",
+    4: "a field is no number",
+    6: "a number is out of range",
+    7: "there is no such vertex",
+    9: "too many vertices, triangles or bytes",
+    10: "16 bits a letter, not UTF-8",
+    11: "a CR inside the line",
+    12: "no face is left",
+    13: "the first word is garbled",
+}
+# What is said of things that were passed over, by their kind: of one, and of more.
+PASSED = {
+    "weights": ("weight", "weights"),
+    "colours": ("vertex colour", "vertex colours"),
+    "texture places": ("texture coordinate", "texture coordinates"),
+    "normals": ("normal", "normals"),
+    "groups": ("group line", "group lines"),
+    "materials": ("material line", "material lines"),
+    "lines and points": ("line or point", "lines and points"),
+    "curves and surfaces": ("curve or surface", "curves and surfaces"),
+    "calls": ("call", "calls"),
+}
+APART = "what was cut can come apart at coarser levels: simplify --keep-border holds the border"
+
+
+class Note(NamedTuple):
+    """How many of something, and what was done to it."""
+
+    count: int
+    one: str
+    many: str
+    what: str
+
+    def line(self) -> str:
+        """The line, which is empty where there is nothing to tell."""
+        if self.count == 0:
+            return ""
+        return f"prepare: {self.count} {self.one if self.count == 1 else self.many}{self.what}\n"
+
+
+def of_faces(count: int, what: str, kind: str = "face") -> Note:
+    return Note(count, kind, f"{kind}s", f" {what}")
+
+
+def of_vertices(count: int, what: str, kind: str = "") -> Note:
+    return Note(count, f"{kind}vertex", f"{kind}vertices", f" {what}")
+
+
+def of_passed(kind: str, count: int) -> Note:
+    one, many = PASSED[kind]
+    return Note(count, one, many, " ignored")
+
+
+def of_welded(count: int, rounded: int) -> Note:
+    return Note(count, "vertex welded", "vertices welded",
+                f", {rounded} of them by rounding" if rounded else "")
+
+
+def of_others(count: int, first: int) -> Note:
+    return Note(count, "unknown line", "unknown lines", f" ignored, the first is line {first}")
