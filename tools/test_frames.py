@@ -59,7 +59,7 @@ class Reading(unittest.TestCase):
             (TRIANGLE[:3], "line 3: the text ends within a frame"),
             (["frame 3"] + TRIANGLE[1:], "line 1: `frame V F` was to come"),
             (TRIANGLE[:2] + ["v 1 9 0"] + TRIANGLE[3:], "line 3: `v NODE X Y Z` was to come"),
-            (TRIANGLE[:2] + ["v 0 9 0 0"] + TRIANGLE[3:], "line 3: node 0 stands twice"),
+            (TRIANGLE[:2] + ["v 0 9 0 0"] + TRIANGLE[3:], "line 3: node 0 is there twice"),
             (TRIANGLE[:4] + ["f 0 0 1 7", "end"], "line 5: face 0 has a corner at node 7"),
             (
                 TRIANGLE[:5] + ["f 1 0 2 1", "end"],

@@ -70,7 +70,7 @@ class Views(unittest.TestCase):
             ("tolerance is -1.0, below 0", (EYE, 1, -1), {}),
             ("round the focal length", (EYE, 514.4957554275265, 0.3), {}),
             ("focal is nan", (EYE, float("nan"), 1), {}),
-            ("outline is 3.0, above the tolerance 2.0", (EYE, 1, 2), {"outline": 3}),
+            ("`outline` is 3.0, above the tolerance 2.0", (EYE, 1, 2), {"outline": 3}),
             ("7 planes", (EYE, 1, 2, [(1, 0, 0, 0)] * 7), {}),
             (r"planes\[1\] has 3 numbers", (EYE, 1, 2, [(1, 0, 0, 0), (1, 0, 0)]), {}),
             (r"planes\[0\]: told in whole numbers", (EYE, 1, 2, [(40000, 0, 0, 0)]), {}),

@@ -56,7 +56,7 @@ def pixels(focal: Number, tolerance: Number, outline: Optional[Number]) -> List[
         if number < 0:
             raise ValueError(f"{name} is {float(number)}, below 0")
     if outline is not None and told[2] > told[1]:
-        raise ValueError(f"outline is {float(told[2])}, above the tolerance {float(told[1])}")
+        raise ValueError(f"`outline` is {float(told[2])}, above the tolerance {float(told[1])}")
     if all(it.denominator == 1 and it <= MOST_PIXELS for it in told):
         return [int(it) for it in told]
     found = multiples(told)

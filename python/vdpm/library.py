@@ -126,7 +126,7 @@ def check(status: int, place: Optional[int] = None) -> None:
     if status in (DONE, QUIT):
         return
     if status == NO_MEMORY:
-        raise MemoryError("libvdpm: memory is wanting")
+        raise MemoryError("libvdpm: out of memory")
     if status == NOT_SO:
         raise NotOpen("the session is closed")
     if status == NO_SUCH:

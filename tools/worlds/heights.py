@@ -133,7 +133,7 @@ def _head_lines(file: BinaryIO) -> Tuple[Dict[str, float], int, bytes]:
         except ValueError:
             raise WorldFault(f"line {number}: `{name}` tells one number") from None
         if name in told:
-            raise WorldFault(f"line {number}: `{name}` stands twice")
+            raise WorldFault(f"line {number}: `{name}` is there twice")
         told[name] = value
         number += 1
 

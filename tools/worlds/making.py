@@ -138,7 +138,7 @@ class _Leaves:
 
     def tell(self, say: Say) -> None:
         if self.dropped:
-            say(f"{self.dropped} faces that became edges or stand twice were left out")
+            say(f"{self.dropped} degenerate or duplicate faces were left out")
         if self.split:
             say(
                 f"{self.split} vertices were split off where the surface touches itself or is no"
