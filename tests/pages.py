@@ -9,8 +9,9 @@ Of each crate's page, crates/NAME/README.md:
 - each name in backquotes is a word of some crate's code, definitions or proofs, or a file's name.
 
 Of every page, each link to a file or to a heading of a page leads to one, and a page has at most
-8 KB, but for those of users. README.md and all pages together have no more words than is told
-below; how many they have is said. The last line is `N pages are as told, M aren't`, and the status
+8 KB, but for those of users. No page and no tool says what docs/WORDS.md has newer words for
+(words.py). README.md and all pages together have no more words than is told below; how many they
+have is said. The last line is `N pages are as told, M aren't`, and the status
 is 0 exactly where there is a page and none fails.
 """
 import re
@@ -18,6 +19,7 @@ import sys
 from pathlib import Path
 from typing import Dict, Iterator, List, NamedTuple, Set, Tuple
 
+import words as vocabulary
 from sources import Crate, Function, crate_of, words_of
 
 TOP = Path(__file__).resolve().parent.parent
@@ -223,13 +225,24 @@ def pages_at(top: Path) -> List[str]:
     return sorted(str(path.relative_to(top)) for path in found)
 
 
+def old_words(top: Path, name: str) -> List[str]:
+    page = top / name
+    if name in vocabulary.MAY_SAY_ANY or not page.is_file():
+        return []
+    text = plain(page.read_text(encoding="utf-8"))
+    return list(vocabulary.used_in(text, vocabulary.old_words(top)))
+
+
 def told_of(top: Path) -> Iterator[Tuple[str, List[str]]]:
     """Each page with what is wrong in it."""
     known = known_at(top)
     for name in known.crates:
-        yield f"crates/{name}/README.md", faults_of_crate(top / "crates" / name, known)
+        page = f"crates/{name}/README.md"
+        yield page, faults_of_crate(top / "crates" / name, known) + old_words(top, page)
     for name in pages_at(top):
-        yield name, faults_of_page(top / name, name, known)
+        yield name, faults_of_page(top / name, name, known) + old_words(top, name)
+    yield from vocabulary.told_of_tools(top)
+    yield from vocabulary.told_of_search(top)
     for name, fault in too_many_words(words_at(top)):
         yield name, [fault]
 

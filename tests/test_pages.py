@@ -5,6 +5,7 @@ import tempfile
 import unittest
 from pathlib import Path
 from typing import Dict, List, Tuple
+from unittest import mock
 
 import pages
 import sources
@@ -172,6 +173,31 @@ class Pages(unittest.TestCase):
             "README.md: 902 words are more than 900",
             faults({"README.md": "a - " * 902}),
         )
+
+    def test_old_words_are_told(self) -> None:
+        rows = ("Word | Meant | Not", "---|---|---", "weld | one | glue, glues on", "b | c | ")
+        table = "".join(f"| {row} |\n" for row in rows)
+        files = {
+            "docs/WORDS.md": table,
+            "README.md": "It\nGlues on `glue` and glue-pots.\n\n    glue\n",
+            "CHANGELOG.md": "glue",
+            "tools/quick_start/usage/vdpm": "the glue",
+            "tools/a.py": "say(f'no glue {1}')\nraise BadFault('glue it')\nuse('glue it')\n",
+        }
+        with mock.patch.object(pages.vocabulary, "SEARCHED", {"weld": "docs/WORDS.md"}):
+            told = faults(files)
+        fault = "`glue` is no word of docs/WORDS.md"
+        wanted = [f"README.md: {fault.replace('glue', 'glues on')}"]
+        wanted += [f"tools/a.py: {fault}"] * 2 + [f"tools/quick_start/usage/vdpm: {fault}"]
+        self.assertEqual(told, wanted)
+
+    def test_a_search_that_leads_nowhere_is_told(self) -> None:
+        files = {"docs/WORDS.md": "# Words\n", "docs/A.md": "an isolated\nVertex\n"}
+        searched = {"isolated vertex": "docs/A.md", "LOD": "docs/A.md", "weld": "docs/B.md"}
+        with mock.patch.object(pages.vocabulary, "SEARCHED", searched):
+            told = faults(files)
+        wanted = ["docs/A.md: a search for LOD doesn't lead here"]
+        self.assertEqual(told, wanted + ["docs/B.md: a search for weld doesn't lead here"])
 
     def test_a_page_for_users_may_be_longer(self) -> None:
         files = {"docs/GUIDE.md": 9000 * "x", "docs/SPEED.md": 9000 * "x"}
