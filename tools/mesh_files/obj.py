@@ -119,8 +119,8 @@ def _take(soup: Soup, fields: List[bytes]) -> None:
         _pass_over(soup, word)
 
 
-def read_lines(lines: Iterable[bytes]) -> Soup:
-    soup = Soup()
+def read_lines(lines: Iterable[bytes], soup: Optional[Soup] = None) -> Soup:
+    soup = soup or Soup()
     for number, fields in fields_of(lines):
         try:
             _take(soup, fields)
@@ -129,5 +129,5 @@ def read_lines(lines: Iterable[bytes]) -> Soup:
     return soup
 
 
-def read(file: BinaryIO, _: int) -> Soup:
-    return read_lines(file)
+def read(file: BinaryIO, _: int, soup: Soup) -> None:
+    read_lines(file, soup)

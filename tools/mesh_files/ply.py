@@ -262,9 +262,9 @@ def _pass_over(soup: Soup, element: Element, read: Tuple[str, ...]) -> None:
         soup.pass_over(kind, element.count)
 
 
-def read(file: BinaryIO, size: int) -> Soup:
+def read(file: BinaryIO, size: int, soup: Soup) -> None:
     head = read_head(file)
-    soup = Soup(is_binary=bool(head.order))
+    soup.is_binary = bool(head.order)
     rows = _Binary(file, head.order, size) if head.order else _Text(file, head.lines)
     most = next(element.count for element in head.elements if element.name == "vertex")
     for element in head.elements:
@@ -276,4 +276,3 @@ def read(file: BinaryIO, size: int) -> Soup:
             _pass_over(soup, element, _INDICES)
         else:
             soup.pass_over(f"{element.name} elements", sum(1 for _ in rows.rows(element)))
-    return soup

@@ -1,10 +1,11 @@
 """The soup of a mesh file of any kind that is read here, and its text for `prepare`."""
 from decimal import Decimal
+from itertools import chain
 from pathlib import Path
-from typing import BinaryIO, Callable, Dict, Iterator, List, Tuple
+from typing import BinaryIO, Callable, Dict, Iterator, List, Optional, Tuple
 
 from . import obj, ply, stl
-from .soup import MeshFault, Soup
+from .soup import MeshFault, Soup, blocks_of
 
 _HEAD = 512
 # Files of other kinds, by their first bytes.
@@ -17,7 +18,7 @@ _OTHERS = (
     (b"VDPM", "a stream of this project"), (b"ncols", "a height field, whose name ends in .asc"),
     (b"P5", "a PGM picture, whose name ends in .pgm"),
 )  # fmt: skip
-Reader = Callable[[BinaryIO, int], Soup]
+Reader = Callable[[BinaryIO, int, Soup], None]
 READERS: Dict[str, Reader] = {
     "OBJ": obj.read, "PLY": ply.read, "binary STL": stl.read_binary, "STL": stl.read_text,
 }
@@ -58,14 +59,17 @@ def kind_at(path: Path) -> str:
         return kind_of(file.read(_HEAD), path.stat().st_size)
 
 
-def read_soup(path: Path, watch: Callable[[BinaryIO], None] = lambda _: None) -> Soup:
-    """The soup of a file; MeshFault where it has a fault or no faces. `watch` is given the open
-    file."""
+def read_soup(
+    path: Path, watch: Callable[[BinaryIO], None] = lambda _: None, soup: Optional[Soup] = None
+) -> Soup:
+    """The soup of a file, added to one that is empty; MeshFault where it has a fault or no faces.
+    `watch` is given the open file."""
     reader, size = READERS[kind_at(path)], path.stat().st_size
+    soup = soup or Soup()
     with path.open("rb") as file:
         watch(file)
-        soup = reader(file, size)
-    if not soup.corners:
+        reader(file, size, soup)
+    if not len(soup.corners):
         raise MeshFault("it has no faces")
     return soup
 
@@ -77,13 +81,20 @@ def exact(number: float) -> str:
 
 def polygons_of(soup: Soup) -> Iterator[List[int]]:
     """The faces, each with all its corners."""
-    sizes = dict(soup.polygons)
-    corners, face = soup.corners, 0
-    while face < soup.faces:
-        more = sizes.get(face, 3) - 3
-        thirds = corners[3 * face + 2 : 3 * (face + more) + 3 : 3]
-        yield [*corners[3 * face : 3 * face + 2], *thirds]
-        face += 1 + more
+    numbers = chain.from_iterable(blocks_of(soup.polygons))
+    polygons = chain(zip(numbers, numbers), [(soup.faces, 3)])
+    corners = chain.from_iterable(blocks_of(soup.corners))
+    first, size = next(polygons)
+    for face, named in enumerate(zip(corners, corners, corners)):
+        if face < first:
+            yield list(named)
+        elif face == first:
+            polygon = list(named)
+        else:
+            polygon.append(named[2])
+        if face == first + size - 3:
+            yield polygon
+            first, size = next(polygons)
 
 
 def text_of(soup: Soup) -> bytes:

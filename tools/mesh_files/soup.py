@@ -3,7 +3,11 @@ triangle."""
 from array import array
 from dataclasses import dataclass, field
 from math import isfinite
-from typing import Dict, Iterable, List, Tuple
+from typing import Dict, Iterable, List, Union
+
+from .filed import Filed
+
+Numbers = Union["array[float]", Filed]
 
 
 class MeshFault(Exception):
@@ -13,14 +17,15 @@ class MeshFault(Exception):
 @dataclass
 class Soup:
     """Three numbers a point; three numbers of points, from 0, a triangle. A polygon stands as the
-    fan of triangles at its first corner: `polygons` has the first of them, and how many corners it
-    has. `passed` counts what was passed over, by name."""
+    fan of triangles at its first corner: `polygons` has two numbers of each, the first of them and
+    how many corners it has. `passed` counts what was passed over, by name."""
 
-    points: "array[float]" = field(default_factory=lambda: array("d"))
-    corners: "array[int]" = field(default_factory=lambda: array("I"))
-    polygons: List[Tuple[int, int]] = field(default_factory=list)
+    points: Numbers = field(default_factory=lambda: array("d"))
+    corners: Numbers = field(default_factory=lambda: array("I"))
+    polygons: Numbers = field(default_factory=lambda: array("I"))
     passed: Dict[str, int] = field(default_factory=dict)
     is_binary: bool = False  # its coordinates are binary numbers, and not decimals
+    is_filed: bool = False  # it is in files; corners of an STL file aren't joined then
 
     @property
     def faces(self) -> int:
@@ -33,7 +38,7 @@ class Soup:
 
     def add_polygon(self, named: List[int]) -> None:
         if len(named) > 3:
-            self.polygons.append((self.faces, len(named)))
+            self.polygons.extend((self.faces, len(named)))
         for second, third in zip(named[1:], named[2:]):
             self.corners.extend((named[0], second, third))
 
@@ -44,6 +49,16 @@ class Soup:
     def notes(self) -> List[str]:
         """What was passed over, as `prepare` tells it."""
         return [f"{count} {what} ignored" for what, count in self.passed.items()]
+
+
+def blocks_of(numbers: Numbers) -> "Iterable[array[float]]":
+    """All of them in their order, a part at a time."""
+    return numbers.blocks() if isinstance(numbers, Filed) else [numbers]
+
+
+def filed_soup() -> Soup:
+    """One whose numbers are in files, so that its size takes no memory."""
+    return Soup(Filed("d"), Filed("I"), Filed("I"), is_filed=True)
 
 
 def finite(numbers: Iterable[float]) -> List[float]:

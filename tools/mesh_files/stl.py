@@ -17,23 +17,26 @@ def is_binary(head: bytes, size: int) -> bool:
 
 
 class _Joined:
-    """A soup whose points are told apart by their places."""
+    """A soup whose points are told apart by their places; in one that is in files, which is joined
+    later, each corner is a point of its own."""
 
-    def __init__(self) -> None:
-        self.soup = Soup()
+    def __init__(self, soup: Soup) -> None:
+        self.soup = soup
         self.number_at: Dict[Point, int] = {}
 
     def corner(self, point: Point) -> int:
-        found = self.number_at.setdefault(point, len(self.number_at))
-        if found == self.soup.count:
+        new = found = self.soup.count
+        if not self.soup.is_filed:
+            found = self.number_at.setdefault(point, new)
+        if found == new:
             self.soup.points.extend(finite(point))
         return found
 
 
-def read_binary(file: BinaryIO, _: int) -> Soup:
+def read_binary(file: BinaryIO, _: int, soup: Soup) -> None:
     head = file.read(HEAD)
     count = _COUNT.unpack_from(head, 80)[0]
-    made = _Joined()
+    made = _Joined(soup)
     made.soup.is_binary = True
     triangle = struct.Struct("<12x9fH")
     for start in range(0, count, _BLOCK):
@@ -45,7 +48,6 @@ def read_binary(file: BinaryIO, _: int) -> Soup:
                 raise MeshFault(f"triangle {number + 1}, byte {HEAD + EACH * number}: {fault}")
             made.soup.corners.extend(corners)
             made.soup.pass_over("attributes", numbers[9] != 0)
-    return made.soup
 
 
 def _lines(file: BinaryIO) -> Iterator[Tuple[int, List[bytes]]]:
@@ -80,8 +82,8 @@ def _facet(lines: Iterator[Tuple[int, List[bytes]]], made: _Joined, first: int) 
     made.soup.corners.extend(corners)
 
 
-def read_text(file: BinaryIO, _: int) -> Soup:
-    made = _Joined()
+def read_text(file: BinaryIO, _: int, soup: Soup) -> None:
+    made = _Joined(soup)
     lines = _lines(file)
     is_open = False
     for number, fields in lines:
@@ -95,4 +97,3 @@ def read_text(file: BinaryIO, _: int) -> Soup:
             raise MeshFault(f"line {number}: `{came}` has no place there in an STL text")
     if is_open:
         raise MeshFault("the text is cut off: it has no `endsolid` at its end")
-    return made.soup

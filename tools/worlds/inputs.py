@@ -1,11 +1,12 @@
 """What is cut: a height field or a mesh, in whole numbers of the world's unit."""
 from functools import partial
+from math import inf
 from pathlib import Path
-from typing import Callable, Container, Iterable, NamedTuple, Tuple
+from typing import Callable, Container, Iterable, List, NamedTuple, Tuple
 
 from mesh_files.obj import scale_of
 from mesh_files.reading import read_soup
-from mesh_files.soup import MeshFault
+from mesh_files.soup import MeshFault, Soup, blocks_of, filed_soup
 
 from .cutting import Grid, Half, cut_grid
 from .form import LONGEST_SPAN, WorldFault
@@ -90,17 +91,25 @@ def _scale_of(path: Path) -> Tuple[float, Point]:
     return found or (1.0, (0.0, 0.0, 0.0))
 
 
+def _box(soup: Soup) -> Tuple[List[float], List[float]]:
+    lows, highs = [inf] * 3, [-inf] * 3
+    for block in blocks_of(soup.points):
+        for axis in range(3):
+            lows[axis] = min(lows[axis], min(block[axis::3]))
+            highs[axis] = max(highs[axis], max(block[axis::3]))
+    return lows, highs
+
+
 def _cut_mesh(asked: Asked, say: Say, work: Work) -> Cut:
     watch = work.read(asked.source.name, asked.source.stat().st_size)
     try:
-        soup = read_soup(asked.source, watch)
+        soup = read_soup(asked.source, watch, filed_soup())
     except MeshFault as fault:
         raise WorldFault(f"{asked.source}: {fault}") from None
     for note in soup.notes():
         say(note)
     work.begin("parts the faces", 0)
-    lows = [min(soup.points[axis::3]) for axis in range(3)]
-    highs = [max(soup.points[axis::3]) for axis in range(3)]
+    lows, highs = _box(soup)
     step, middle = _scale_of(asked.source)
     unit = _unit(asked, step * max(b - a for a, b in zip(lows, highs))) / step
     # A whole number of units, so that coordinates which are whole numbers of units stay so.

@@ -5,56 +5,74 @@ then in the first again, that half touches itself: one vertex of the whole would
 So faces are moved to the other half until there is no such vertex. And where a surface isn't a
 manifold at an edge that both halves have, it is cut open there in both.
 """
-from array import array
-from typing import Dict, FrozenSet, Iterable, List, NamedTuple, Set, Tuple
+from typing import Callable, Dict, FrozenSet, Iterator, List, NamedTuple, Sequence, Set, Tuple
 
 Edge = FrozenSet[int]  # two points
 _ROUNDS = 100
+_BOTH = 3
+_BLOCK = 1 << 14  # faces
 
 
 class Parted(NamedTuple):
-    """Both halves, and how many vertices stayed at which one touches itself."""
+    """Which of some faces are in the first half, and how many vertices stayed at which a half
+    touches itself."""
 
-    one: "array[int]"
-    other: "array[int]"
+    sides: bytearray
     touching: int
+
+
+class Bag(NamedTuple):
+    """Some faces of a soup, with the corners of all faces and the count of all points. `let_go`
+    frees memory, and is called now and then."""
+
+    faces: Sequence[int]
+    corners: Sequence[int]
+    points: int
+    let_go: Callable[[], None]
+
+    def named(self) -> Iterator[Sequence[int]]:
+        """The corners of each face."""
+        corners = self.corners
+        for at in range(0, len(self.faces), _BLOCK):
+            for face in self.faces[at : at + _BLOCK]:
+                yield corners[3 * face : 3 * face + 3]
+            self.let_go()
 
 
 class _Seam:
     """The faces at the vertices that both halves have. Of faces that stand twice the first counts,
-    and one with two equal corners doesn't."""
+    and one with two equal corners doesn't. `sides` has a 1 for each face of the first half."""
 
-    def __init__(
-        self, corners: "array[int]", one: Iterable[int], other: Iterable[int], opened: Set[Edge]
-    ) -> None:
-        self.side: Dict[int, bool] = {}  # by face: whether it is in `one`
+    def __init__(self, bag: Bag, sides: bytearray, opened: Set[Edge]) -> None:
+        self.side: Dict[int, bool] = {}  # by face: whether it is in the first half
+        self.number: Dict[int, int] = {}  # by face: which one of the bag it is
         self.twins: Dict[int, List[int]] = {}  # those that stand on a face
         self.fans: Dict[int, List[int]] = {}  # by vertex that both halves have
         self.beside: Dict[Edge, List[Tuple[int, bool]]] = {}  # faces, and which way they run
-        self.corners, self.opened = corners, opened
-        bags = list(one), list(other)
-        both = self._both(*bags)
+        self.corners, self.opened = bag.corners, opened
+        halves = self._halves(bag, sides)
         first: Dict[FrozenSet[int], int] = {}
-        for is_one, bag in zip((True, False), bags):
-            for face in bag:
-                named = corners[3 * face : 3 * face + 3]
-                if named[0] in both or named[1] in both or named[2] in both:
-                    self._add(face, is_one, both, first)
+        for number, (a, b, c) in enumerate(bag.named()):
+            if _BOTH in (halves[a], halves[b], halves[c]):
+                self.number[bag.faces[number]] = number
+                self._add(bag.faces[number], bool(sides[number]), halves, first)
 
-    def _both(self, one: List[int], other: List[int]) -> Set[int]:
-        corners = self.corners
-        few, many = (one, other) if len(one) < len(other) else (other, one)
-        known = {corners[3 * face + i] for face in few for i in range(3)}
-        return {
-            corners[3 * face + i] for face in many for i in range(3)
-            if corners[3 * face + i] in known
-        }
+    @staticmethod
+    def _halves(bag: Bag, sides: bytearray) -> bytearray:
+        """For each point 1 where the one half has it, 2 for the other, and 3 for both."""
+        found = bytearray(bag.points)
+        for side, (a, b, c) in zip(sides, bag.named()):
+            half = 2 - side
+            found[a] |= half
+            found[b] |= half
+            found[c] |= half
+        return found
 
     def _add(
-        self, face: int, is_one: bool, both: Set[int], first: Dict[FrozenSet[int], int]
+        self, face: int, is_one: bool, halves: bytearray, first: Dict[FrozenSet[int], int]
     ) -> None:
-        named = self.corners[3 * face : 3 * face + 3]
-        key = frozenset(named)
+        a, b, c = self.corners[3 * face : 3 * face + 3]
+        key = frozenset((a, b, c))
         if len(key) < 3:
             return
         known = first.setdefault(key, face)
@@ -62,11 +80,10 @@ class _Seam:
             self.twins.setdefault(known, []).append(face)
             return
         self.side[face] = is_one
-        a, b, c = named
         for start, end in ((a, b), (b, c), (c, a)):
-            if start in both:
+            if halves[start] == _BOTH:
                 self.fans.setdefault(start, []).append(face)
-            if start in both or end in both:
+            if _BOTH in (halves[start], halves[end]):
                 self.beside.setdefault(frozenset((start, end)), []).append((face, start < end))
 
     def open_edges(self) -> None:
@@ -146,31 +163,27 @@ class _Seam:
         return sum(bool(self._faces_to_move(vertex, True)) for vertex in self.fans)
 
 
-def _one_way(
-    corners: "array[int]", one: Set[int], other: Set[int], opened: Set[Edge], from_one: bool
-) -> bool:
+def _one_way(bag: Bag, sides: bytearray, opened: Set[Edge], from_one: bool) -> bool:
     """Moves faces from one half to the other until neither touches itself; False where that takes
     all."""
     for _ in range(_ROUNDS):
-        seam = _Seam(corners, sorted(one), sorted(other), opened)
+        seam = _Seam(bag, sides, opened)
         seam.open_edges()
         gone = seam.moved(from_one)
-        left, right = (one, other) if from_one else (other, one)
-        left -= gone
-        right |= gone
-        if not gone or not left:
-            return bool(left)
+        for face in gone:
+            sides[seam.number[face]] = not from_one
+        if not gone or from_one not in sides:
+            return from_one in sides
     return False
 
 
-def parted(
-    corners: "array[int]", one: "array[int]", other: "array[int]", opened: Set[Edge]
-) -> Parted:
+def parted(bag: Bag, sides: bytearray, opened: Set[Edge]) -> Parted:
     """The halves after moving faces; those that were given where no way leads to others."""
-    for from_one in (len(one) <= len(other), len(one) > len(other)):
-        halves = set(one), set(other)
-        if _one_way(corners, *halves, opened, from_one):
-            return Parted(array("I", sorted(halves[0])), array("I", sorted(halves[1])), 0)
-    seam = _Seam(corners, one, other, opened)
+    is_one_less = 2 * sides.count(1) <= len(sides)
+    for from_one in (is_one_less, not is_one_less):
+        found = bytearray(sides)
+        if _one_way(bag, found, opened, from_one):
+            return Parted(found, 0)
+    seam = _Seam(bag, sides, opened)
     seam.open_edges()
-    return Parted(one, other, seam.touching())
+    return Parted(sides, seam.touching())

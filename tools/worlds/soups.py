@@ -1,25 +1,40 @@
 """Cuts a soup by planes across its longest axis: a face goes to one side by the middle of its
 corners, but for those that are moved so that no tile touches itself (parting)."""
 from array import array
-from typing import Callable, Container, Dict, Iterator, List, NamedTuple, Set, Tuple
+from itertools import chain, compress, islice, repeat
+from typing import Callable, Container, Dict, Iterable, Iterator, List, NamedTuple, Set, Tuple
 
 from mesh_files.ears import triangles_of
+from mesh_files.filed import Filed
 from mesh_files.reading import polygons_of
-from mesh_files.soup import Soup
+from mesh_files.soup import Soup, blocks_of
 
 from .cutting import Half, Piece, parts_for
 from .form import Corners, Place, WorldFault, fits
-from .parting import Edge, Parted, parted
+from .parting import Bag, Edge, Parted, parted
 
 _BINS = 4096
 _MOST_PLACE = 1 << 29  # of a world's places, so that three of them add up within 32 bits
 _SHARES = (0.0, -0.2, 0.2)  # beside the share that is wanted
+_BLOCK = 1 << 14  # faces
+_BUCKET = 1 << 18  # points that are joined at a time
+_OTHER = bytes([1, 0]) + bytes(254)  # the one half's bytes as the other's
 
-class Rounded(NamedTuple):
-    """A soup in whole numbers of the world's unit."""
 
-    points: "array[int]"
-    corners: "array[int]"
+class Rounded:
+    """A soup in whole numbers of the world's unit, in files where it is long."""
+
+    def __init__(self, points: Filed, corners: Filed) -> None:
+        self._filed = points, corners
+        self.points, self.corners = points.whole(), corners.whole()
+
+    @property
+    def count(self) -> int:
+        return len(self.points) // 3
+
+    def let_go(self) -> None:
+        for numbers in self._filed:
+            numbers.let_go()
 
     def place(self, point: int) -> Place:
         x, y, z = self.points[3 * point : 3 * point + 3]
@@ -29,63 +44,107 @@ class Rounded(NamedTuple):
         a, b, c = self.corners[3 * face : 3 * face + 3]
         return a, b, c
 
+    def bag(self, faces: memoryview) -> Bag:
+        return Bag(faces, self.corners, self.count, self.let_go)
+
 
 def rounded(soup: Soup, unit: float, origin: Tuple[float, float, float]) -> Rounded:
-    points = array("i", bytes(4 * len(soup.points)))
-    for axis in range(3):
-        start = origin[axis]
-        for number in range(axis, len(points), 3):
-            place = round((soup.points[number] - start) / unit)
-            if abs(place) > _MOST_PLACE:
+    points = Filed("i")
+    for block in blocks_of(soup.points):
+        places = array("i", bytes(4 * len(block)))
+        for axis in range(3):
+            start = origin[axis]
+            found = [round((number - start) / unit) for number in block[axis::3]]
+            if max(map(abs, found), default=0) > _MOST_PLACE:
                 raise WorldFault(f"more than {_MOST_PLACE:,} units across: take a larger unit")
-            points[number] = place
-    return _joined(_cut_polygons(Rounded(points, soup.corners), soup))
+            places[axis::3] = array("i", found)
+        points.extend(places)
+    return Rounded(points, _joined(points, _cut_polygons(points, soup)))
 
 
-def _joined(found: Rounded) -> Rounded:
-    """With the corners at one place as one point."""
-    first_at: Dict[bytes, int] = {}
-    points = found.points
-    first = array("I", (
-        first_at.setdefault(points[at : at + 3].tobytes(), at // 3)
-        for at in range(0, len(points), 3)
-    ))
-    if len(first_at) == len(first):
-        return found
-    return found._replace(corners=array("I", (first[corner] for corner in found.corners)))
+def _joined(points: Filed, corners: Filed) -> Filed:
+    """The corners with those at one place as one point. The points are parted by a sum of their
+    places, and each part is joined by itself."""
+    parts = [Filed("i") for _ in range(1 + len(points) // 3 // _BUCKET)]
+    numbers = chain.from_iterable(points.blocks())
+    for number, place in enumerate(zip(numbers, numbers, numbers)):
+        parts[hash(place) % len(parts)].extend((*place, number))
+    firsts = Filed("I", bytes(len(points) // 3))
+    first, joined = firsts.whole(), 0
+    for part in parts:
+        first_at: Dict[Place, int] = {}
+        numbers = chain.from_iterable(part.blocks())
+        for x, y, z, number in zip(numbers, numbers, numbers, numbers):
+            first[number] = first_at.setdefault((x, y, z), number)
+        joined += len(first_at)
+        firsts.let_go()
+    if joined == len(first):
+        return corners
+    found = Filed("I")
+    for block in corners.blocks():
+        found.extend([first[corner] for corner in block])
+        firsts.let_go()
+    return found
 
 
-def _cut_polygons(found: Rounded, soup: Soup) -> Rounded:
-    """With the polygons cut as `prepare` cuts them."""
-    if not soup.polygons:
-        return found
-    corners = array("I")
-    for named in polygons_of(soup):
-        faces = [tuple(named)] if len(named) == 3 else triangles_of(named, found.place)
-        for face in faces:
+def _cut_polygons(points: Filed, soup: Soup) -> Filed:
+    """The corners with the polygons cut as `prepare` cuts them."""
+    corners = Filed("I")
+    if not len(soup.polygons):
+        for block in blocks_of(soup.corners):
+            corners.extend(block)
+        return corners
+    places = points.whole()
+
+    def place(point: int) -> Place:
+        x, y, z = places[3 * point : 3 * point + 3]
+        return x, y, z
+
+    for number, named in enumerate(polygons_of(soup)):
+        for face in [named] if len(named) == 3 else triangles_of(named, place):
             corners.extend(face)
-    return found._replace(corners=corners)
+        if number % _BLOCK == 0:
+            points.let_go()
+    return corners
 
 
-def _bag_box(soup: Rounded, bag: "array[int]") -> Tuple[Place, Place]:
+def _blocks(faces: memoryview) -> Iterator[memoryview]:
+    return (faces[at : at + _BLOCK] for at in range(0, len(faces), _BLOCK))
+
+
+def _bag_box(soup: Rounded, faces: memoryview) -> Tuple[Place, Place]:
     """The box of all corners of some faces."""
     corners, points = soup.corners, soup.points
-    lows, highs = [0, 0, 0], [0, 0, 0]
-    for axis in range(3):
-        numbers = array(
-            "i", (points[3 * corners[3 * face + i] + axis] for face in bag for i in range(3))
-        )
-        lows[axis], highs[axis] = min(numbers), max(numbers)
+    lows, highs = [_MOST_PLACE] * 3, [-_MOST_PLACE] * 3
+    for block in _blocks(faces):
+        used = {corner for f in block for corner in corners[3 * f : 3 * f + 3]}
+        for axis in range(3):
+            numbers = [points[3 * corner + axis] for corner in used]
+            lows[axis] = min(lows[axis], min(numbers))
+            highs[axis] = max(highs[axis], max(numbers))
+        soup.let_go()
     return (lows[0], lows[1], lows[2]), (highs[0], highs[1], highs[2])
 
 
-def _threshold(keys: "array[int]", share: float) -> int:
-    """A number below which about this share of the keys lies, but neither none nor all; keys aren't
-    all the same."""
-    low, high = min(keys), max(keys)
+def _keys(soup: Rounded, faces: memoryview, axis: int) -> Filed:
+    """Three times the middle of each face."""
+    corners, points = soup.corners, soup.points
+    keys = Filed("i")
+    for block in _blocks(faces):
+        keys.extend([
+            points[3 * corners[3 * f] + axis] + points[3 * corners[3 * f + 1] + axis]
+            + points[3 * corners[3 * f + 2] + axis] for f in block
+        ])
+        soup.let_go()
+    return keys
+
+
+def _threshold(keys: Filed, low: int, high: int, share: float) -> int:
+    """A number below which about this share of the keys lies, but neither none nor all; keys go
+    from `low` to `high`, which aren't the same."""
     width = max(1, -(-(high - low + 1) // _BINS))
     counts = [0] * ((high - low) // width + 1)
-    for key in keys:
+    for key in chain.from_iterable(keys.blocks()):
         counts[(key - low) // width] += 1
     passed, best, found = 0, 2 * len(keys), low + 1
     for number, count in enumerate(counts[:-1]):  # the last bin has the greatest key
@@ -97,51 +156,58 @@ def _threshold(keys: "array[int]", share: float) -> int:
 
 
 def _ways(
-    soup: Rounded, bag: "array[int]", most: int, low: Place, high: Place
-) -> Iterator[Tuple["array[int]", "array[int]"]]:
-    """The faces on both sides of planes that part them: across the longest axis first, where each
-    half has its share."""
-    corners, points = soup.corners, soup.points
-    parts = parts_for(len(bag), most)
+    soup: Rounded, faces: memoryview, most: int, low: Place, high: Place
+) -> Iterator[bytearray]:
+    """Which faces are below planes that part them: across the longest axis first, where each half
+    has its share."""
+    parts = parts_for(len(faces), most)
     share = (parts // 2) / parts if parts > 1 else 0.5
     for axis in sorted(range(3), key=lambda axis: low[axis] - high[axis]):
-        keys = array("i", (
-            points[3 * corners[3 * f] + axis] + points[3 * corners[3 * f + 1] + axis]
-            + points[3 * corners[3 * f + 2] + axis] for f in bag
-        ))  # three times the middle
-        if min(keys) == max(keys):
+        keys = _keys(soup, faces, axis)
+        least, greatest = min(map(min, keys.blocks())), max(map(max, keys.blocks()))
+        if least == greatest:
             continue
         for more in _SHARES:
-            at = _threshold(keys, share + more)
-            one = array("I", (face for face, key in zip(bag, keys) if key < at))
-            yield one, array("I", (face for face, key in zip(bag, keys) if key >= at))
+            at = _threshold(keys, least, greatest, share + more)
+            sides = bytearray()
+            for block in keys.blocks():
+                sides += bytes([key < at for key in block])
+            yield sides
 
 
 def _halved(
-    soup: Rounded, bag: "array[int]", most: int, box: Tuple[Place, Place], opened: Set[Edge]
+    soup: Rounded, faces: memoryview, most: int, box: Tuple[Place, Place], opened: Set[Edge]
 ) -> Parted:
     """The faces in two halves, of which neither touches itself; as a plane parts them where there
     is no other way."""
     best = None
-    for one, other in _ways(soup, bag, most, *box):
-        found = parted(soup.corners, one, other, opened)
+    for sides in _ways(soup, faces, most, *box):
+        found = parted(soup.bag(faces), sides, opened)
         if not found.touching:
             return found
         best = best or found
     if best is None:
         raise WorldFault(
-            f"{len(bag)} faces have one middle and can't be parted: take more faces a tile,"
+            f"{len(faces)} faces have one middle and can't be parted: take more faces a tile,"
             " or a larger unit where the faces are long"
         )
     return best
+
+
+def _chosen(faces: Iterable[int], sides: Iterable[int]) -> memoryview:
+    found = Filed("I")
+    wanted = compress(faces, sides)
+    while len(block := array("I", islice(wanted, _BLOCK))):
+        found.extend(block)
+    return found.whole()
 
 
 def cut_soup(
     soup: Rounded, most: int, known: Container[str], say: Callable[[str], None]
 ) -> Iterator[Half]:
     """The tree of a soup, each node before what is under it."""
-    whole = array("I", range(len(soup.corners) // 3))
-    waiting: List[Tuple[str, "array[int]"]] = [("", whole)]
+    every = range(len(soup.corners) // 3)
+    waiting: List[Tuple[str, memoryview]] = [("", _chosen(every, repeat(1)))]
     opened: Set[Edge] = set()
     touching = 0
     while waiting:
@@ -154,16 +220,17 @@ def cut_soup(
         if len(bag) == 1:
             raise WorldFault("a face is longer than 65,534 units: take a larger unit")
         yield Half(name)
-        one, other, left = _halved(soup, bag, most, box, opened)
+        sides, left = _halved(soup, bag, most, box, opened)
         touching += left
-        waiting += [(name + "1", other), (name + "0", one)]
+        waiting.append((name + "1", _chosen(bag, sides.translate(_OTHER))))
+        waiting.append((name + "0", _chosen(bag, sides)))
     if opened:
         say(f"{len(opened)} edges between tiles are cut open in all: no manifold is there")
     if touching:
         say(f"{touching} vertices stayed at which a tile touches itself: take more faces a tile")
 
 
-def _bag_piece(soup: Rounded, bag: "array[int]", opened: Set[Edge]) -> Piece:
+def _bag_piece(soup: Rounded, bag: memoryview, opened: Set[Edge]) -> Piece:
     number_of: Dict[int, int] = {}
     faces: List[Corners] = []
     for face in bag:

@@ -113,7 +113,7 @@ class Pieces(WithPieces):
     @needs_simplify
     def test_a_tile_that_touches_itself_is_named(self) -> None:
         """As planes part faces, without moving any."""
-        with mock.patch.object(soups, "parted", lambda _, one, other, __: Parted(one, other, 0)):
+        with mock.patch.object(soups, "parted", lambda _, sides, __: Parted(sides, 0)):
             world = self.cut(self.file("ball.obj", obj_text(*ball(9, 13))), 9)
             build(world, 10)
             with self.assertRaisesRegex(WorldFault, "it touches itself at .*more faces a tile"):
