@@ -10,6 +10,7 @@ from typing import Dict, List, Tuple
 
 sys.path.insert(0, str(Path(__file__).resolve().parent))
 
+from mesh_files.filed import BLOCK, Filed  # noqa: E402
 from mesh_files import obj  # noqa: E402
 from mesh_files.ears import triangles_of  # noqa: E402
 from mesh_files.reading import as_obj, polygons_of, read_soup  # noqa: E402
@@ -64,6 +65,29 @@ def stl(text: bool) -> bytes:
     for three in threes:
         data += struct.pack("<12fH", 0, 0, 0, *(c for point in three for c in point), 3)
     return data
+
+
+class FiledNumbers(unittest.TestCase):
+    def test_a_long_list_is_what_was_added_and_a_short_one_too(self) -> None:
+        for count in (0, 5, BLOCK, 2 * BLOCK + 7):
+            numbers = Filed("i")
+            for first in range(0, count, 1000):
+                numbers.extend(range(first, min(count, first + 1000)))
+            self.assertEqual(len(numbers), count)
+            self.assertEqual([n for block in numbers.blocks() for n in block], list(range(count)))
+            whole = numbers.whole()
+            self.assertEqual(whole.tolist(), list(range(count)))
+            numbers.let_go()
+            self.assertEqual(list(whole[-3:]), list(range(count))[-3:])
+
+    def test_places_of_zeros_are_written_later(self) -> None:
+        for count in (3, BLOCK + 3):
+            numbers = Filed("I")
+            numbers.extend_by_zeros(count)
+            whole = numbers.whole()
+            whole[2] = 4_000_000_000
+            numbers.let_go()
+            self.assertEqual((whole[2], sum(whole)), (4_000_000_000, 4_000_000_000))
 
 
 class WithFolder(unittest.TestCase):

@@ -1,10 +1,10 @@
-"""Long lists of numbers in files without a name, which are gone with the program: so that an input's
-size takes no memory."""
+"""Long lists of numbers in files without a name, which are gone with the program: so that an
+input's size takes no memory."""
 import mmap
 import os
 import tempfile
 from array import array
-from typing import BinaryIO, Iterable, Iterator, List
+from typing import BinaryIO, Iterable, Iterator, List, Optional
 
 BLOCK = 3 << 14  # numbers that are in memory at a time; whole places and faces
 
@@ -17,13 +17,12 @@ def nameless() -> BinaryIO:
 class Filed:
     """A list of numbers, which grows at its end. What is short never leaves memory."""
 
-    def __init__(self, letter: str, numbers: Iterable[float] = ()) -> None:
+    def __init__(self, letter: str) -> None:
         self.letter = letter  # of a number, as `array` has it
         self._last = array(letter)
-        self._file: "BinaryIO | None" = None
+        self._file: Optional[BinaryIO] = None
         self._before = 0  # numbers that are in the file
         self._mapped: List[mmap.mmap] = []
-        self.extend(numbers)
 
     def __len__(self) -> int:
         return self._before + len(self._last)
@@ -32,6 +31,12 @@ class Filed:
         self._last.extend(numbers)
         if len(self._last) >= BLOCK:
             self._put()
+
+    def extend_by_zeros(self, count: int) -> None:
+        while count:
+            part = min(count, BLOCK)
+            self.extend(array(self.letter, bytes(self._last.itemsize * part)))
+            count -= part
 
     def _put(self) -> None:
         self._file = self._file or nameless()

@@ -165,15 +165,21 @@ class _Seam:
 
 def _one_way(bag: Bag, sides: bytearray, opened: Set[Edge], from_one: bool) -> bool:
     """Moves faces from one half to the other until neither touches itself; False where that takes
-    all."""
+    all, so that none is moved."""
+    moved: List[int] = []
     for _ in range(_ROUNDS):
         seam = _Seam(bag, sides, opened)
         seam.open_edges()
-        gone = seam.moved(from_one)
-        for face in gone:
-            sides[seam.number[face]] = not from_one
-        if not gone or from_one not in sides:
-            return from_one in sides
+        gone = [seam.number[face] for face in seam.moved(from_one)]
+        for number in gone:
+            sides[number] = not from_one
+        moved += gone
+        if from_one not in sides:
+            break
+        if not gone:
+            return True
+    for number in moved:
+        sides[number] = from_one
     return False
 
 
@@ -181,9 +187,8 @@ def parted(bag: Bag, sides: bytearray, opened: Set[Edge]) -> Parted:
     """The halves after moving faces; those that were given where no way leads to others."""
     is_one_less = 2 * sides.count(1) <= len(sides)
     for from_one in (is_one_less, not is_one_less):
-        found = bytearray(sides)
-        if _one_way(bag, found, opened, from_one):
-            return Parted(found, 0)
+        if _one_way(bag, sides, opened, from_one):
+            return Parted(sides, 0)
     seam = _Seam(bag, sides, opened)
     seam.open_edges()
     return Parted(sides, seam.touching())

@@ -2,6 +2,7 @@
 corners, but for those that are moved so that no tile touches itself (parting)."""
 from array import array
 from itertools import chain, compress, islice, repeat
+from operator import not_
 from typing import Callable, Container, Dict, Iterable, Iterator, List, NamedTuple, Set, Tuple
 
 from mesh_files.ears import triangles_of
@@ -17,8 +18,7 @@ _BINS = 4096
 _MOST_PLACE = 1 << 29  # of a world's places, so that three of them add up within 32 bits
 _SHARES = (0.0, -0.2, 0.2)  # beside the share that is wanted
 _BLOCK = 1 << 14  # faces
-_BUCKET = 1 << 18  # points that are joined at a time
-_OTHER = bytes([1, 0]) + bytes(254)  # the one half's bytes as the other's
+_BUCKET = 1 << 17  # points that are joined at a time
 
 
 class Rounded:
@@ -69,7 +69,8 @@ def _joined(points: Filed, corners: Filed) -> Filed:
     numbers = chain.from_iterable(points.blocks())
     for number, place in enumerate(zip(numbers, numbers, numbers)):
         parts[hash(place) % len(parts)].extend((*place, number))
-    firsts = Filed("I", bytes(len(points) // 3))
+    firsts = Filed("I")
+    firsts.extend_by_zeros(len(points) // 3)
     first, joined = firsts.whole(), 0
     for part in parts:
         first_at: Dict[Place, int] = {}
@@ -222,7 +223,7 @@ def cut_soup(
         yield Half(name)
         sides, left = _halved(soup, bag, most, box, opened)
         touching += left
-        waiting.append((name + "1", _chosen(bag, sides.translate(_OTHER))))
+        waiting.append((name + "1", _chosen(bag, map(not_, sides))))
         waiting.append((name + "0", _chosen(bag, sides)))
     if opened:
         say(f"{len(opened)} edges between tiles are cut open in all: no manifold is there")
