@@ -7,10 +7,14 @@ said. NAMEs choose tests, as those of `python3 -m unittest` do: `cutting.Fields`
 import os
 import sys
 import unittest
+from collections import Counter
 from pathlib import Path
 
 TOOLS = Path(__file__).resolve().parent
-SUBJECTS = ("reading", "cutting", "whole", "building", "tiles", "meeting", "hostile", "commands")
+SUBJECTS = (
+    "reading", "cutting", "whole", "memory", "building", "tiles", "others", "meeting", "hostile",
+    "commands",
+)  # fmt: skip
 
 
 def main() -> None:
@@ -23,7 +27,9 @@ def main() -> None:
     suite = unittest.defaultTestLoader.loadTestsFromNames(names)
     result = unittest.TextTestRunner(buffer=True).run(suite)
     if result.skipped:
-        print(f"LEFT OUT: {len(result.skipped)} tests: there is no program simplify")
+        reasons = Counter(reason for _, reason in result.skipped)
+        told = "; ".join(f"{count} tests: {reason}" for reason, count in reasons.items())
+        print(f"LEFT OUT: {told}")
     sys.exit(0 if result.wasSuccessful() else 1)
 
 

@@ -6,7 +6,7 @@
     world.py list WORLD LEVEL            prints the paths of a level's tiles, without ending
     world.py parent WORLD NAME [--faces N] [--program PATH]
     world.py check WORLD [--jobs J] [--program PATH]
-    world.py tiles3d WORLD [--out FOLDER] [--levels N] [--program PATH]
+    world.py tiles3d WORLD [--out FOLDER] [--levels N] [--crs CRS] [--program PATH]
 
 INPUT is a height field (an ESRI ASCII grid `.asc`, a binary PGM `.pgm`; a GeoTIFF, an .hgt and the
 like where GDAL is installed) or a mesh (OBJ, PLY, STL); WORLD is a folder, or its world.json.
@@ -75,6 +75,8 @@ def arguments(words: Optional[List[str]] = None) -> argparse.Namespace:
     exported.add_argument("world", type=Path)
     exported.add_argument("--out", type=Path, help="else tiles3d in the world's folder")
     told = "levels of a tile at most, each with half of the faces of the one before"
+    crs = "the system of the input's coordinates, as EPSG:32632: all is put on the Earth by GDAL"
+    exported.add_argument("--crs", default="", help=crs)
     exported.add_argument("--levels", type=positive_whole, default=3, help=told)
     for verb in (build, check):
         verb.add_argument("--jobs", type=positive_whole, default=1, help="processes side by side")
@@ -105,9 +107,10 @@ def built(asked: argparse.Namespace, world: World) -> int:
 def export(asked: argparse.Namespace, world: World) -> str:
     folder = asked.out or world.folder / "tiles3d"
     with Work(say) as work:
-        words = Export(world, asked.program.resolve(), folder, asked.levels, work)
+        words = Export(world, asked.program.resolve(), folder, asked.levels, work, asked.crs)
         count = write_tiles3d(words)
-    return f"{folder / FILE}: {count} GLB files, in the input's coordinates, z up"
+    where = f"on the Earth by {asked.crs}" if asked.crs else "in the input's coordinates, z up"
+    return f"{folder / FILE}: {count} GLB files, {where}"
 
 
 def call(asked: argparse.Namespace) -> None:

@@ -89,7 +89,10 @@ def refuse_degrees(path: Path, source: Path, extent: Extent) -> None:
         return
     from_degrees = [] if is_raster(source) else ["-s_srs", "EPSG:4326"]
     made = f"{source.stem}_metres"
-    to_metres = ["-t_srs", f"EPSG:{zone_of(extent)}", "-r", "bilinear", str(source), f"{made}.tif"]
+    # Heights between whole metres stay, and there are none beside the field.
+    kept = ["-ot", "Float32", "-dstnodata", "-99999"]
+    to_metres = ["-t_srs", f"EPSG:{zone_of(extent)}", "-r", "bilinear", *kept]
+    to_metres += [str(source), f"{made}.tif"]
     raise WorldFault(
         f"{source} is in degrees: its points are {extent.step:g} apart, from {extent.west:g} to"
         f" {extent.east:g} and {extent.south:g} to {extent.north:g}, and its heights range over"
