@@ -2,7 +2,7 @@
 import { focalOf, homeOf } from "./camera.js";
 import { Controls } from "./controls.js";
 import { showFault } from "./faults.js";
-import { cameraOf, lookOf } from "./flight.js";
+import { cameraOf, looksOf } from "./flight.js";
 import { unpacked } from "./packed.js";
 import { Reel } from "./reel.js";
 import { NO_FACE, Renderer, watchTheme } from "./renderer.js";
@@ -25,7 +25,7 @@ class Film {
     document.title = `${reel.head.name}: a film`;
     part("colour").querySelector("[value=own]").disabled = !reel.head.coloured;
     if (reel.head.coloured) part("colour").value = "own";
-    this.looks = reel.head.views.map((view) => (view === "" ? null : lookOf(view, this.middle)));
+    this.looks = looksOf(reel.head.views, this.middle);
     // While a camera moves its views reach a little beyond the picture, so the narrowest is it.
     this.opening = Math.max(0, ...this.looks.map((look) => look?.opening ?? 0));
     this.takeHands();

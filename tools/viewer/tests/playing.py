@@ -1,9 +1,11 @@
 """Films in a real browser, opened from a file; and models whose colours or places the page
 tells."""
+import argparse
 import re
 import time
 from typing import List
 
+from flight import view_line
 from frames import read_frames
 from viewer.film import film_page
 from viewer.main import programs_of
@@ -123,6 +125,28 @@ class Films(Page):
             for ours, theirs in zip(self.value("film.camera.eye()"), eye):
                 self.assertAlmostEqual(ours, theirs, delta=1)
             self.assertTrue(self.value("film.opening > 0"))
+
+    def test_a_flight_with_y_up_stays_upright(self) -> None:
+        asked = argparse.Namespace(
+            at=(0, 0, 0), up=(0, 1, 0), focal=1000, tolerance=40, outline=None, width=640,
+            height=480,
+        )
+        # Round the model, through where the picture is level with z up too.
+        places = [(20000, 0), (0, 20000), (-20000, 0), (0, -20000), (9000, 9000)]
+        for high in (6000, -6000):
+            lines = [view_line((x, high, z), asked) for x, z in places]
+            script = "".join(f"{line}\nw\n" for line in lines).encode()
+            self.open(film_page(program(), model("octahedron.vdpm"), script, ALL_MOVES))
+            self.value("film.pause(), 0")
+            ups = self.value("film.looks.map(({ upright }) => upright)")
+            self.assertEqual(ups, ["y"] * len(places))
+            self.assertTrue(self.value(
+                "film.looks.every((_, at) => { film.show(at); return film.camera.axes().up[1] > 0; })"
+            ))
+
+    def test_a_film_begins_as_the_window_does(self) -> None:
+        self.play(model("asteroid.obj"), flight())
+        self.assertEqual(self.value("[edges.checked, smooth.checked]"), [False, True])
 
     def test_a_geomorph_moves_its_points(self) -> None:
         glide = (EXAMPLES / "asteroid_glide.script").read_bytes()
