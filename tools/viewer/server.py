@@ -27,13 +27,13 @@ PAGE = Path(__file__).resolve().parent / "page"
 _KINDS = {".html": "text/html", ".css": "text/css", ".js": "text/javascript"}
 FILES = (
     "index.html", "style.css", "bar.css", "arrays.js", "bar.js", "bends.js", "boot.js",
-    "camera.js", "cells.js", "connection.js", "controls.js", "coordinate.js", "fault.js",
-    "faults.js", "fitting.js", "folding.js", "follower.js", "front.js", "glides.js", "hands.js",
-    "hierarchy.js", "keeping.js", "late.js", "layout.js", "leaving.js", "link.js", "main.js",
-    "matrices.js", "mesh.js", "normals.js", "panel.js", "picking.js", "renderer.js", "replies.js",
-    "scene.js", "session.js", "shaders.js", "shape.js", "slots.js", "steering.js", "surface.js",
-    "tasks.js", "textures.js", "upright.js", "viewer.js", "views.js", "work.js", "worker.js",
-    "working.js", "writers.js",
+    "camera.js", "cells.js", "connection.js", "controls.js", "coordinate.js", "divider.js",
+    "fault.js", "faults.js", "fitting.js", "folding.js", "follower.js", "front.js", "glides.js",
+    "hands.js", "hierarchy.js", "keeping.js", "late.js", "layout.js", "leaving.js", "link.js",
+    "main.js", "matrices.js", "mesh.js", "normals.js", "panel.js", "picking.js", "renderer.js",
+    "replies.js", "scene.js", "session.js", "shaders.js", "shape.js", "slots.js", "steering.js",
+    "surface.js", "tasks.js", "textures.js", "upright.js", "viewer.js", "views.js", "work.js",
+    "worker.js", "working.js", "writers.js",
 )
 Content = Tuple[str, Callable[[], bytes]]  # its kind, and what gives it
 LONGEST_BODY = 1 << 10

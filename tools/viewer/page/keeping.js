@@ -1,4 +1,5 @@
 // What a user takes away: the picture, the mesh shown, a link, the session and the view's line.
+import { focalOf } from "./camera.js";
 import { toldOf } from "./link.js";
 import { ALL_MOVES, tell } from "./panel.js";
 
@@ -19,7 +20,7 @@ const textFile = (text) => new Blob([text], { type: "text/plain" });
 const LIVE = /^(?:d|l|b \d+|vds? .*)$/m;
 
 // Puts a text on the clipboard; where the browser doesn't let it, by an older way.
-async function copy(text) {
+export async function copy(text) {
   try {
     await navigator.clipboard.writeText(text);
   } catch {
@@ -30,6 +31,18 @@ async function copy(text) {
     document.execCommand("copy");
     field.remove();
   }
+}
+
+// The size that is chosen of a picture, where the window shows `seen`: none has a side of more than
+// `most` pixels.
+export function chosenSize(seen, most) {
+  const { value } = document.getElementById("picture-size");
+  if (value === "1") return { isAsSeen: true, picture: seen, told: "" };
+  const [wide, high] = value.includes("x") ? value.split("x").map(Number)
+    : [seen.width * value, seen.height * value];
+  const part = Math.min(1, most / Math.max(wide, high));
+  const [width, height] = [wide, high].map((n) => Math.round(part * n));
+  return { picture: { width, height, focal: focalOf(height) }, told: `-${width}x${height}` };
 }
 
 export class Keeping {
@@ -49,11 +62,30 @@ export class Keeping {
   // A name for a file of the model, without its ending.
   get name() { return this.viewer.about.name.replace(/\.[^.]*$/, ""); }
 
-  savePicture() {
-    const { name, viewer, viewer: { scene: { canvas } } } = this;
-    viewer.draw(performance.now()); // what was drawn is there until this task ends
-    canvas.toBlob((blob) => download(`${name}.png`, blob), "image/png");
-    tell(`Saved ${name}.png`);
+  // The picture at the size that is chosen, refined for that many pixels.
+  async savePicture() {
+    const { name, viewer, viewer: { scene } } = this;
+    const size = chosenSize(viewer.picture(), scene.most);
+    if (size.isAsSeen) viewer.draw(performance.now());
+    else await this.drawAt(size.picture);
+    // What was drawn is there until this task ends.
+    scene.canvas.toBlob((blob) => download(`${name}${size.told}.png`, blob), "image/png");
+    if (!size.isAsSeen) viewer.draw(performance.now());
+    tell(`Saved ${name}${size.told}.png`);
+  }
+
+  // Draws the front that a picture of another size asks for, and asks for that of the window anew.
+  async drawAt(picture) {
+    const { viewer, viewer: { camera, scene, set, views, work } } = this, seen = camera.copy();
+    if (viewer.frozen === null) {
+      const line = views.line(seen, picture, set, Infinity);
+      const { patch } = await work.ask({ task: "view", line, glides: false });
+      scene.renderer.change("front", patch);
+      viewer.glides.take("front", patch, false);
+      views.forget();
+    }
+    scene.drawAs(seen, viewer.look(performance.now() / 1000), picture, 1);
+    viewer.change({});
   }
 
   // The mesh shown, named by the model and how many triangles it has.

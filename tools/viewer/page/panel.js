@@ -108,7 +108,7 @@ let said = "";
 export function sayCounters({ shown, all, left, put, draw, pictures, fronts, mark }) {
   const { moves, times, changes: { nodesCome, nodesGone, facesCome, facesGone } } = shown;
   const rows = [
-    ["vertices", counted(shown.nodeCount)],
+    ["vertices now", counted(shown.nodeCount)],
     ["splits, collapses", left > 0 ? `${counted(moves)}, ${counted(left)} left` : counted(moves)],
     ["vertices changed", `+${counted(nodesCome)}  −${counted(nodesGone)}`],
     ["triangles changed", `+${counted(facesCome)}  −${counted(facesGone)}`],
@@ -150,7 +150,7 @@ function made(kind, inside) {
 
 export const rowOf = (cells) => made("tr", cells.map((cell) => made("td", [cell])));
 
-// The captions of the two halves, where there are two.
+// The captions left and right of the line, where there is one.
 const INPUT_SAID = { unasked: "", asked: "the full model is on its way", shown: "full model" };
 export function sayHalves(beside, inputState) {
   part("halves").hidden = !beside;

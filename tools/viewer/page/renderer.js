@@ -70,8 +70,8 @@ export class Renderer {
 
   has(name) { return this.meshes.has(name); }
 
-  // The pictures of a scene: `parts` are names of meshes, with where their picture begins, in
-  // pixels of the canvas, and how wide it is.
+  // The picture of a scene: `parts` are names of meshes, with where the part of the canvas begins
+  // in which they are seen, in pixels, and how wide it is.
   draw({ camera, picture, parts, look }) {
     const { gl, canvas } = this;
     const far = look.reach + camera.distance;
@@ -80,7 +80,7 @@ export class Renderer {
     const toClip = clipMatrix(axes, picture, near, 2 * far);
     gl.enable(gl.SCISSOR_TEST);
     for (const { names, left, width } of parts) {
-      gl.viewport(left, 0, width, canvas.height);
+      gl.viewport(0, 0, canvas.width, canvas.height);
       gl.scissor(left, 0, width, canvas.height);
       this.drawSky(look.theme);
       for (const mesh of names.flatMap((name) => this.meshes.get(name) ?? [])) {

@@ -1,5 +1,5 @@
-// The canvas, as large as the screen wants it, and the pictures on it: the front, and the input
-// beside it where that is asked for.
+// The canvas, as large as the screen wants it, and the picture on it: the front, and right of a
+// line the input where that is asked for.
 import { focalOf } from "./camera.js";
 import { Renderer } from "./renderer.js";
 
@@ -7,43 +7,51 @@ import { Renderer } from "./renderer.js";
 // screen.
 const sharpness = Number(new URLSearchParams(location.search).get("sharpness")) || 1;
 
+const LARGEST = 8192; // pixels of a side of a picture that is saved
+
 export class Scene {
   constructor(canvas) {
     Object.assign(this, { canvas, renderer: new Renderer(canvas) });
   }
 
-  // One picture in pixels of the screen. Views are asked for these, however many are drawn.
-  picture(beside) {
-    const half = beside ? 2 : 1;
+  // The picture in pixels of the screen. Views are asked for these, however many are drawn.
+  picture() {
     const { clientWidth, clientHeight } = this.canvas;
-    const width = Math.max(1, Math.round((clientWidth * devicePixelRatio) / half));
-    const height = Math.max(1, Math.round(clientHeight * devicePixelRatio));
+    const [width, height] = [clientWidth, clientHeight].map((n) =>
+      Math.max(1, Math.round(n * devicePixelRatio)));
     return { width, height, focal: focalOf(height) };
   }
 
-  // A place of the window in pixels of its picture, from the middle to the right and upwards.
-  placeAt(clientX, clientY, beside) {
-    const { width, height } = this.picture(beside);
+  // A place of the window in pixels of the picture, from its middle to the right and upwards.
+  placeAt(clientX, clientY) {
+    const { width, height } = this.picture();
     const { left, top } = this.canvas.getBoundingClientRect();
-    const x = (((clientX - left) * devicePixelRatio) % width) - width / 2;
+    const x = (clientX - left) * devicePixelRatio - width / 2;
     return [x, height / 2 - (clientY - top) * devicePixelRatio];
   }
 
   draw(camera, look) {
-    const picture = this.picture(look.beside), width = this.fit(picture, look.beside);
-    const parts = [{ names: ["front"], left: 0, width }];
-    if (look.beside) parts.push({ names: ["input"], left: width, width });
-    this.renderer.draw({ camera, picture, parts, look });
+    const picture = this.picture();
+    this.drawAs(camera, look, picture, sharpness);
   }
 
-  // Makes the canvas as large as its pictures, and gives the width of one.
-  fit(picture, beside) {
+  // Draws a picture, with so many pixels for each of it. `cut` is the part of it that the front
+  // has, left of the input, if that is shown too.
+  drawAs(camera, look, picture, times) {
+    const [width, height] = [picture.width, picture.height].map((n) => Math.ceil(n * times));
     const { canvas } = this;
-    const [one, height] = [picture.width, picture.height].map((n) => Math.ceil(n * sharpness));
-    const width = beside ? 2 * one : one;
     if (canvas.width !== width || canvas.height !== height) {
       Object.assign(canvas, { width, height });
     }
-    return one;
+    const cut = look.beside ? Math.round(look.cut * width) : width;
+    const parts = [{ names: look.names ?? ["front"], left: 0, width: cut }];
+    if (look.beside) parts.push({ names: ["input"], left: cut, width: width - cut });
+    this.renderer.draw({ camera, picture, parts, look });
+  }
+
+  // The largest picture that can be drawn, in pixels of a side.
+  get most() {
+    const { gl } = this.renderer;
+    return Math.min(gl.getParameter(gl.MAX_RENDERBUFFER_SIZE), LARGEST);
   }
 }

@@ -74,8 +74,8 @@ export class Steering {
   }
 
   async under(x, y) {
-    const { viewer, viewer: { scene, set, session, work } } = this, camera = viewer.camera.copy();
-    const { focal } = viewer.picture(), at = scene.placeAt(x, y, set.beside);
+    const { viewer, viewer: { scene, session, work } } = this, camera = viewer.camera.copy();
+    const { focal } = viewer.picture(), at = scene.placeAt(x, y);
     const away = plus(camera.eye(), camera.distance, wayThrough(camera, focal, ...at));
     if (!session.isRunning) return { place: away, isHit: false };
     const hit = await met(work, camera, focal, ...at).catch(() => null);

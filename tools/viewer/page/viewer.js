@@ -1,5 +1,6 @@
 // The window: asks for the view of the camera, again and again, and draws what came last. It is the
 // same over a server and over an engine in the page: what differs is its worker.
+import { Divider } from "./divider.js";
 import { showFault } from "./faults.js";
 import { Keeping } from "./keeping.js";
 import { Glides } from "./glides.js";
@@ -48,6 +49,7 @@ export class Viewer {
     this.session = new Session(this.work, { told, failed: fail });
     this.steering = new Steering(this);
     this.keeping = new Keeping(this);
+    this.divider = new Divider(scene.canvas, () => this.change({}), this.leaving.signal);
   }
 
   async open() {
@@ -98,7 +100,7 @@ export class Viewer {
     panel.saySettings(this.set);
     if (name === "freeze") this.frozen = this.set.freeze ? this.seen() : null;
     if (name === "budget") this.budgetAt = performance.now() + BUDGET_SETTLES;
-    if (name === "up" || name === "beside") this.steering.goHome();
+    if (name === "up") this.steering.goHome();
     if (name === "beside" && this.set.beside) this.showInput();
     this.change({});
   }
@@ -136,24 +138,30 @@ export class Viewer {
   draw(now) {
     this.dirty = false;
     const begun = performance.now();
-    this.scene.draw(this.camera, {
-      ...this.set,
-      theme: this.theme,
-      now: begun / 1000,
-      frozen: this.frozen,
-      reach: 2 * this.radius,
-      deepest: this.hierarchy.deepest,
-      side: this.hierarchy.side,
-      picked: this.hit?.face ?? NO_FACE,
-      hit: this.hit?.place,
-    });
+    this.scene.draw(this.camera, this.look(begun / 1000));
     if (measures) this.scene.renderer.finish();
     this.times.draw = performance.now() - begun;
     this.times.draws.push(now);
     if (measures) this.log.push({ draw: this.times.draw });
   }
 
-  picture() { return this.scene.picture(this.set.beside); }
+  // How the scene is drawn at a time, in seconds.
+  look(now) {
+    return {
+      ...this.set,
+      cut: this.divider.cut,
+      theme: this.theme,
+      now,
+      frozen: this.frozen,
+      reach: 2 * this.radius,
+      deepest: this.hierarchy.deepest,
+      side: this.hierarchy.side,
+      picked: this.hit?.face ?? NO_FACE,
+      hit: this.hit?.place,
+    };
+  }
+
+  picture() { return this.scene.picture(); }
 
   // The camera as it is now, and its picture.
   seen() { return { camera: this.camera.copy(), picture: this.picture() }; }
@@ -163,8 +171,7 @@ export class Viewer {
     const { put, draw, draws, fronts } = times;
     times.said = now;
     for (const ago of [draws, fronts]) while (ago[0] < now - 1000) ago.shift();
-    const glides = this.glides.isOn(now) ? "gliding" : "";
-    const mark = set.freeze ? "LOD frozen: fly round it" : glides;
+    const mark = set.freeze ? "LOD frozen: fly round it" : "";
     const rates = { pictures: draws.length, fronts: fronts.length };
     panel.sayCounters({ shown, all, left, put, draw, ...rates, mark });
     panel.sayHalves(set.beside, this.inputState);
@@ -264,7 +271,7 @@ export class Viewer {
 
   async pick(clientX, clientY) {
     if (!this.session.isRunning || !this.set.picks) return;
-    const at = this.scene.placeAt(clientX, clientY, this.set.beside);
+    const at = this.scene.placeAt(clientX, clientY);
     try {
       this.hit = await met(this.work, this.camera, this.picture().focal, ...at);
     } catch (fault) {

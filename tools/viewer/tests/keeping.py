@@ -69,6 +69,19 @@ class Keeping(Page):
         self.tick("save-picture")
         self.assertEqual(self.page.downloaded("asteroid.png")[:8], b"\x89PNG\r\n\x1a\n")
 
+    def test_a_larger_picture_is_refined_for_its_size(self) -> None:
+        asked, faces = self.asked(), self.faces()
+        wide, high = self.value("[2 * viewer.picture().width, 2 * viewer.picture().height]")
+        self.value("document.getElementById('picture-size').value = '2', 0")
+        self.tick("save-picture")
+        data = self.page.downloaded(f"asteroid-{wide}x{high}.png")
+        self.assertEqual(struct.unpack(">II", data[16:24]), (wide, high))
+        self.settle()
+        views = [answer.text for answer in self.answers[-2:]]
+        counts = [int(view.split(b"change ")[1].split()[1]) for view in views]
+        self.assertGreater(counts[0], faces)
+        self.assertEqual((self.asked(), counts[1], self.faces()), (asked, faces, faces))
+
     def test_the_mesh_is_the_obj_of_the_frame(self) -> None:
         self.tick("save-obj")
         text = self.page.downloaded(f"asteroid-{self.faces()}.obj").decode()

@@ -21,6 +21,16 @@ WARM = """((left, width) => {
 })"""
 
 
+# The pixels of the left or the right half of the picture.
+PART = """((half) => {
+  viewer.draw(performance.now());
+  const { gl } = viewer.scene.renderer, height = gl.drawingBufferHeight;
+  const width = Math.floor(gl.drawingBufferWidth / 2), pixels = new Uint8Array(4 * width * height);
+  gl.readPixels(half * width, 0, width, height, gl.RGBA, gl.UNSIGNED_BYTE, pixels);
+  return pixels.reduce((sum, byte, at) => (31 * sum + byte) % 1000003, 7);
+})"""
+
+
 class Drawing(Page):
     def test_the_mesh_is_drawn_and_its_counts_are_the_replies(self) -> None:
         warm = self.value(f"{WARM}(0, viewer.scene.canvas.width)")
@@ -31,7 +41,7 @@ class Drawing(Page):
         said = "document.getElementById('faces-said').textContent"
         self.page.until(f"{said} === '{len(frame.faces):,}'")
         self.assertEqual(self.text("all-said"), "of 6,480 triangles")
-        self.assertIn(f"vertices{len(frame.nodes):,}splits, collapses", self.text("rows"))
+        self.assertIn(f"vertices now{len(frame.nodes):,}splits, collapses", self.text("rows"))
         self.assertEqual(self.page.errors(), [])
 
     def test_a_view_has_the_planes_that_flight_has(self) -> None:
@@ -63,11 +73,25 @@ class Drawing(Page):
         self.page.key("b")
         self.page.until("viewer.inputState === 'shown'")
         self.settle()
-        half = "viewer.scene.canvas.width / 2"
-        self.assertGreater(self.value(f"{WARM}({half}, {half})"), 0.1)
         self.assertEqual(self.value("viewer.scene.renderer.meshes.get('input').faceCount"), 6480)
-        self.assertEqual(self.value("viewer.picture().width"), WIDTH / 2)
+        self.assertEqual(self.value("viewer.picture().width"), WIDTH)
         self.page.until("document.getElementById('right-half').textContent === 'full model'")
+        # What is right of the line is another picture, and what is left of it isn't.
+        left, right = (self.value(f"{PART}({half})") for half in (0, 1))
+        self.value("viewer.divider.put(0.98), 0")
+        self.assertEqual(self.value(f"{PART}(0)"), left)
+        self.assertNotEqual(self.value(f"{PART}(1)"), right)
+
+    def test_the_line_between_is_dragged_and_moved_by_arrows(self) -> None:
+        self.page.key("b")
+        self.page.until("!document.getElementById('halves').hidden")
+        self.page.drag((WIDTH // 2, 300), (WIDTH // 4, 300))
+        self.page.until("Math.abs(viewer.divider.cut - 0.25) < 0.01")
+        before = self.value("[viewer.divider.cut, viewer.camera.yaw]")
+        self.page.key("ArrowRight")
+        self.assertAlmostEqual(self.value("viewer.divider.cut"), before[0] + 0.02)
+        self.assertEqual(self.value("viewer.camera.yaw"), before[1])
+        self.assertEqual(self.value("document.getElementById('halves').ariaValueNow"), "27")
 
     def test_the_input_of_the_stream_is_the_front_with_all_records_split(self) -> None:
         looked_at = model("asteroid.obj")
