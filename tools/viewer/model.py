@@ -5,6 +5,7 @@ file an OBJ text is made; any other is taken for one: `vdpm canon` judges it wit
 of decimals that it allows; where that refuses it, `prepare` makes it fit; then `simplify` makes the
 stream. Each step is told on standard error, with the seconds where it takes some.
 """
+import re
 import subprocess
 import sys
 import threading
@@ -23,6 +24,8 @@ from .program import UNPROVED, ProgramEnded, end_of, feed, is_notice
 MAGIC = b"VDPM"
 SECONDS_BETWEEN_NEWS = 5
 MOST_DIGITS = 4
+# What of a text isn't shown, by how its lines begin, in words as those of `prepare`.
+PASSED_OVER = {"texture places": rb"^vt\s", "materials": rb"^usemtl\s"}
 # A fault that another number of decimals may cure: a nonzero digit past the first D.
 TOO_MANY_DECIMALS = "fault 5 "
 _passed_on: Set[str] = set()  # notices, which each run of a program gives again
@@ -199,7 +202,7 @@ def _fitting(text: bytes, programs: Programs) -> Fitting:
         words = ["canon"] + (["--digits", str(digits)] if digits else [])
         done = run(programs.vdpm, words, text, "reading")
         if done.status == 0:
-            return Fitting(text, digits)
+            return Fitting(text, digits, notes=passed_over(text))
         if not is_refusal(done) or TOO_MANY_DECIMALS not in done.said[-1]:
             break
     if not is_refusal(done):
@@ -215,6 +218,13 @@ def scale_of(mesh: bytes) -> Optional[Scale]:
     """How a prepared mesh leads back, by its first line; None where its coordinates are the file's
     own."""
     found = obj.scale_of(mesh)
+def passed_over(text: bytes) -> Tuple[str, ...]:
+    return tuple(
+        f"{what} passed over" for what, looks in PASSED_OVER.items()
+        if re.search(looks, text, re.MULTILINE)
+    )
+
+
     return Scale(*found) if found else None
 
 

@@ -7,6 +7,7 @@ const pixels = (n) => `${n < 10 ? Number(n.toFixed(2)) : Math.round(n)} px`;
 const milliseconds = (n) => (n < 10 ? n.toFixed(1) : n.toFixed(0));
 const kilobytes = (n) => `${counted(Math.round(n / 1024))} kB`;
 export const ALL_MOVES = 4294967295;
+const SHORT = 2500, LONG = 8000; // milliseconds for which something is told
 
 // Who wants little motion gets no glides and no flights of the camera, if they aren't asked for.
 export const isStill = matchMedia("(prefers-reduced-motion: reduce)");
@@ -64,7 +65,11 @@ export function sayModel({ notes = [], ...about }, { upright }) {
   document.title = name;
   const notices = engine ? [engine] : proved ? [] : ["not proved on this machine"];
   if (prepared) notices.push("made fit by prepare");
-  if (dropped.length > 0) notices.push(`not shown: ${dropped.join(", ")}`);
+  if (dropped.length > 0) {
+    const said = `Not shown: ${dropped.join(" and ")} of the file`;
+    notices.push(said);
+    tell(said, LONG);
+  }
   part("notice").textContent = notices.join(" · ");
   part("notice").hidden = notices.length === 0;
   document.querySelector("input[value=own]").disabled = !coloured;
@@ -164,9 +169,9 @@ export function sayPicked(text) {
 
 // Tells something for a moment.
 let untold = 0;
-export function tell(text) {
+export function tell(text, milliseconds = SHORT) {
   part("told").textContent = text;
   part("told").hidden = false;
   clearTimeout(untold);
-  untold = setTimeout(() => { part("told").hidden = true; }, 2500);
+  untold = setTimeout(() => { part("told").hidden = true; }, milliseconds);
 }

@@ -37,6 +37,13 @@ class Files(Case):
         self.assertEqual(asteroid.stream, done.stdout)
         self.assertEqual(asteroid.stream[4:12], bytes([2, 0, 0, 0, 1, 0, 0, 0]))
 
+    def test_what_is_not_shown_of_a_fit_obj_is_told(self) -> None:
+        text = b"mtllib a.mtl\n" + (EXAMPLES / "octahedron.obj").read_bytes() + b"vt 0 0\n"
+        for more, notes in ((b"", ()), (b"usemtl a\n", ("materials passed over",))):
+            made = looked_at(self.written("a.obj", text + more))
+            self.assertEqual(made.notes, ("texture places passed over", *notes))
+            self.assertFalse(made.prepared)
+
     def test_an_obj_that_is_not_fit_is_prepared(self) -> None:
         ring = model("ring_scan.obj")
         self.assertEqual((ring.faces, ring.prepared), (576, True))
