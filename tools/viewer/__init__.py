@@ -5,6 +5,8 @@
     main        the words of the command line
     model       from a file, stream or OBJ, to a stream that is ready to be looked at
     kept        streams that were built before
+    progress    how far a model is on its way from its file
+    seat        where the window of some words listens, now and at its next start
     colours     the colours of an OBJ file's vertices
     manual      the cures that docs/commands has for faults
     program     the child `vdpm live` over pipes
@@ -12,6 +14,7 @@
     arrays      what it tells as arrays, and not as lines
     showing     a model and its program, which may be started anew
     server      the page, and what it asks for
+    page_files  which files that page has
     websocket   the server's end of the line over which scripts come
     hierarchy   reads a stream, for films
     film        a page that needs no server

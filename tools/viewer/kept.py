@@ -109,7 +109,8 @@ def keep(key: str, model: Model) -> bool:
 def _make_room(newest: Path) -> None:
     """Takes away what was looked at longest ago, as long as all take too much; never the newest."""
     known = sorted(
-        (path.stat().st_mtime, path.stat().st_size, path) for path in newest.parent.iterdir()
+        (path.stat().st_mtime, path.stat().st_size, path)
+        for path in newest.parent.iterdir() if path.is_file()
     )
     held = sum(size for _, size, _ in known)
     for _, size, path in known:

@@ -25,7 +25,7 @@ from pathlib import Path
 from types import FrameType
 from typing import List, Optional, Union
 
-from . import kept
+from . import kept, progress, seat
 from .alone import page_of
 from .film import BadFlight, film_page
 from .library import NOT_BUILT, TO_BUILD, built_library
@@ -33,10 +33,12 @@ from .model import MAGIC, Model, Programs, model_of, tell
 from .module import NoModule, module_of
 from .program import ALL_MOVES, ProgramEnded
 from .server import Server, is_budget
+from .seat import Seat
 from .showing import Showing
 from .world import WorldServer, WorldShowing, showing_of
 
 MEMORY = 1000  # megabytes
+TOLD = 2.0     # seconds that a page has to hear why there is nothing to show
 WORLD = "world.json"
 TOP = Path(__file__).resolve().parent.parent.parent
 
@@ -81,15 +83,22 @@ def programs_of(vdpm: Path) -> Programs:
     return Programs(vdpm.resolve(), found("prepare"), found("simplify"))
 
 
-def loaded(asked: argparse.Namespace) -> Model:
+def found(asked: argparse.Namespace) -> Model:
+    """The model that is asked for; ProgramEnded where it can't be had."""
     try:
         model = model_kept(asked.model, programs_of(asked.program), asked.fresh)
     except OSError as fault:
-        sys.exit(f"viewer: {asked.model} can't be read: {fault.strerror}")
-    except ProgramEnded as fault:
-        sys.exit(f"viewer: {asked.model}: {fault}")
+        raise ProgramEnded(f"it can't be read: {fault.strerror}") from fault
     tell(f"{asked.model}: {model.counts}")
     return model
+
+
+def loaded(asked: argparse.Namespace) -> Model:
+    """The same for a page or a film, of which there is none without it."""
+    try:
+        return found(asked)
+    except ProgramEnded as fault:
+        sys.exit(f"viewer: {asked.model}: {fault}")
 
 
 def model_kept(path: Path, programs: Programs, fresh: bool) -> Model:
@@ -147,43 +156,84 @@ def showing_for(asked: argparse.Namespace) -> Union[Showing, WorldShowing]:
     library = built_library() if asked.library else None
     if asked.library and library is None:
         raise ProgramEnded(NOT_BUILT, TO_BUILD)
-    return Showing(program, loaded(asked), asked.budget, library)
+    model = found(asked)
+    progress.current.begins("opening")
+    return Showing(program, model, asked.budget, library)
 
 
-def served(asked: argparse.Namespace) -> Union[Server, WorldServer]:
+def seat_for(asked: argparse.Namespace, place: Path) -> Seat:
+    """Where the window listens: where it did the last time, if it may. Ends where it still runs
+    there, and shows the same file."""
+    before, of = seat.last(place), seat.state_of(asked.model)
+    pages = seat.pages_at(before) if before else None
+    if before is None or (pages is not None and before.of != of):
+        return seat.fresh(asked.port, of)
+    if pages is None:
+        return before._replace(of=of, port=asked.port or before.port)
+    print(f"viewer: {before.address} shows it already", flush=True)
+    if asked.open and pages == 0:
+        webbrowser.open(before.address)
+    sys.exit(0)
+
+
+def listening(asked: argparse.Namespace) -> Union[Server, WorldServer]:
+    """The server of a window, before there is something to look at."""
+    words = {name: word for name, word in vars(asked).items() if name not in ("open", "fresh")}
+    place = seat.place_of({**words, "model": asked.model.resolve()})
+    taken, kind = seat_for(asked, place), WorldServer if asked.model.name == WORLD else Server
     try:
-        showing = showing_for(asked)
-    except ProgramEnded as fault:
-        sys.exit(f"viewer: {asked.model}: {fault}")
-    try:
-        if isinstance(showing, WorldShowing):
-            return WorldServer(showing, asked.port)
-        return Server(showing, asked.port)
+        server = kind(None, taken.port, taken.token)
     except (OSError, OverflowError) as fault:
-        showing.close()
-        sys.exit(f"viewer: port {asked.port} can't be had: {fault}")
+        if asked.port:
+            sys.exit(f"viewer: port {asked.port} can't be had: {fault}")
+        server = kind(None, 0, taken.token)  # another program has the port of the last time
+    seat.keep(place, taken._replace(port=server.server_port))
+    server.progress = progress.of(asked.model.name)
+    return server
 
 
 def _stop(number: int, frame: Optional[FrameType]) -> None:
     raise KeyboardInterrupt
 
 
-def serve(server: Union[Server, WorldServer], opened: bool) -> None:
+def fill(server: Union[Server, WorldServer], asked: argparse.Namespace) -> None:
+    """Gives the server what it shows. Where there is nothing the page is told so before all
+    ends."""
+    try:
+        server.showing = showing_for(asked)  # type: ignore[assignment]
+    except ProgramEnded as fault:
+        server.progress.fails(fault.reason, fault.cure)
+        if server.is_awaited:
+            server.progress.is_told.wait(TOLD)
+        sys.exit(f"viewer: {asked.model}: {fault}")
+
+
+def window(asked: argparse.Namespace) -> None:
     """Serves until Ctrl-C, the end of the terminal or a request to end; then ends the program
     too."""
+    try:
+        server = listening(asked)
+    except OSError as fault:
+        sys.exit(f"viewer: {asked.model} can't be read: {fault.strerror}")
     for name in ("SIGHUP", "SIGTERM"):
         if hasattr(signal, name):
             signal.signal(getattr(signal, name), _stop)
+    serving = threading.Thread(target=server.serve_forever, args=(0.05,), daemon=True)
+    serving.start()
     try:
         print(f"viewer: {server.address} (Ctrl-C ends)", flush=True)
-        if opened:
+        if asked.open:
             threading.Thread(target=webbrowser.open, args=(server.address,), daemon=True).start()
-        server.serve_forever()
+        fill(server, asked)
+        serving.join()
     except KeyboardInterrupt:
-        pass
+        if not server.is_ready:
+            raise
     finally:
+        server.shutdown()
         server.server_close()
-        server.showing.close()
+        if server.showing is not None:
+            server.showing.close()
 
 
 def main() -> None:
@@ -194,6 +244,6 @@ def main() -> None:
         elif asked.film:
             write_film(asked)
         else:
-            serve(served(asked), asked.open)
+            window(asked)
     except KeyboardInterrupt:
         sys.exit(130)

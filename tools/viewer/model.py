@@ -18,7 +18,7 @@ from mesh_files import obj
 from mesh_files.reading import as_obj
 from mesh_files.soup import MeshFault
 
-from . import colours, manual
+from . import colours, manual, progress
 from .program import UNPROVED, ProgramEnded, end_of, feed, is_notice
 
 MAGIC = b"VDPM"
@@ -97,6 +97,7 @@ def tell(text: str) -> None:
 def run(path: Path, words: Sequence[str], text: bytes, doing: str) -> Done:
     """Runs a program to its end, and tells meanwhile how long it has been doing what it does. Its
     notices are passed on as they come: a program that isn't built yet may take long."""
+    progress.current.begins(doing)
     try:
         child = subprocess.Popen([str(path), *words], stdin=PIPE, stdout=PIPE, stderr=PIPE)
     except OSError as fault:
@@ -128,6 +129,8 @@ def _listen(end: IO[bytes], said: List[str]) -> None:
         for line in end:
             text = line.decode("utf-8", "replace").rstrip("\n")
             said.append(text)
+            if is_notice(text) and UNPROVED not in text:
+                progress.current.waits()
             if is_notice(text) and text not in _passed_on:
                 _passed_on.add(text)
                 print(text, file=sys.stderr, flush=True)
@@ -181,6 +184,7 @@ def text_at(path: Path) -> bytes:
 
 
 def _built(name: str, text: bytes, programs: Programs) -> Model:
+    progress.current.faces = obj.face_count(text)
     mesh, digits, prepared, notes = _fitting(text, programs)
     faces = obj.face_count(mesh)
     if faces == 0:
@@ -214,10 +218,6 @@ def _fitting(text: bytes, programs: Programs) -> Fitting:
     return Fitting(ready.out, 0, True, tuple(ready.said))
 
 
-def scale_of(mesh: bytes) -> Optional[Scale]:
-    """How a prepared mesh leads back, by its first line; None where its coordinates are the file's
-    own."""
-    found = obj.scale_of(mesh)
 def passed_over(text: bytes) -> Tuple[str, ...]:
     return tuple(
         f"{what} passed over" for what, looks in PASSED_OVER.items()
@@ -225,6 +225,10 @@ def passed_over(text: bytes) -> Tuple[str, ...]:
     )
 
 
+def scale_of(mesh: bytes) -> Optional[Scale]:
+    """How a prepared mesh leads back, by its first line; None where its coordinates are the file's
+    own."""
+    found = obj.scale_of(mesh)
     return Scale(*found) if found else None
 
 

@@ -3,7 +3,9 @@
 It listens on 127.0.0.1 alone. A request whose Host isn't this address is refused, so that no
 foreign name that leads here gets an answer; so is a path that doesn't begin with the token, which
 only the printed address tells. A script or a start has to come from the page itself, which its
-Origin shows. No file is read from disk but those listed here.
+Origin shows. No file is read from disk but those of page_files.py.
+
+It is there before its model is: until then the page is told how far that is.
 
 Scripts come by a WebSocket, a message each. The replies go back as bytes, since the page reads them
 several times faster than Python could, after five numbers of 32 bits: the program's two times,
@@ -12,33 +14,29 @@ Arrays may stand behind them (arrays.py). What went wrong goes back as a text.
 """
 import hmac
 import json
+import os
 import secrets
+import signal
 import struct
+import time
 from http.server import BaseHTTPRequestHandler, ThreadingHTTPServer
 from pathlib import Path
 from typing import Callable, Dict, Optional, Tuple, Type
 
 from .arrays import packed
+from .page_files import FILES, PAGE
 from .program import ALL_MOVES, Answer, BadScript, ProgramEnded
+from .progress import Progress
 from .showing import Showing
 from .websocket import WebSocket, accepted
 
-PAGE = Path(__file__).resolve().parent / "page"
 _KINDS = {".html": "text/html", ".css": "text/css", ".js": "text/javascript"}
-FILES = (
-    "index.html", "style.css", "bar.css", "arrays.js", "bar.js", "bends.js", "boot.js",
-    "camera.js", "cells.js", "connection.js", "controls.js", "coordinate.js", "divider.js",
-    "fault.js", "faults.js", "fitting.js", "folding.js", "follower.js", "front.js", "glides.js",
-    "hands.js", "hierarchy.js", "keeping.js", "late.js", "layout.js", "leaving.js", "link.js",
-    "main.js", "matrices.js", "mesh.js", "normals.js", "panel.js", "picking.js", "renderer.js",
-    "replies.js", "scene.js", "session.js", "shaders.js", "shape.js", "slots.js", "steering.js",
-    "surface.js", "tasks.js", "textures.js", "upright.js", "viewer.js", "views.js", "work.js",
-    "worker.js", "working.js", "writers.js",
-)
 Content = Tuple[str, Callable[[], bytes]]  # its kind, and what gives it
 LONGEST_BODY = 1 << 10
 BYTES = "application/octet-stream"
 JSON = "application/json"
+WAITS = 3.0      # seconds after its last question that a page counts as one that waits
+LONG_AGO = 1e9
 TEXT = "text/plain; charset=utf-8"
 SAFETY = {
     "Cache-Control": "no-store",
@@ -57,10 +55,23 @@ class Address(ThreadingHTTPServer):
 
     daemon_threads = True
 
-    def __init__(self, port: int, handler: Type["Page"]) -> None:
+    def __init__(self, port: int, handler: Type["Page"], token: Optional[str] = None) -> None:
         super().__init__(("127.0.0.1", port), handler)
-        self.token = secrets.token_urlsafe(16)
+        self.token = token or secrets.token_urlsafe(16)
+        self.progress = Progress()
+        self.talks = 0            # pages that are connected
+        self.awaited = -LONG_AGO  # when a page asked last how far the model is
         self.hosts = {f"{name}:{self.server_port}" for name in ("127.0.0.1", "localhost")}
+
+    @property
+    def is_ready(self) -> bool:
+        """Whether there is something to look at."""
+        raise NotImplementedError
+
+    @property
+    def is_awaited(self) -> bool:
+        """Whether a page waits for the model."""
+        return time.monotonic() - self.awaited < WAITS
 
     @property
     def policy(self) -> str:
@@ -70,6 +81,10 @@ class Address(ThreadingHTTPServer):
             f"default-src 'self'; connect-src 'self' {lines}; img-src 'self' blob: data:; "
             "base-uri 'none'; form-action 'none'; frame-ancestors 'none'"
         )
+
+    def cancel(self) -> None:
+        """Ends the way to a model, as Ctrl-C does."""
+        os.kill(os.getpid(), signal.SIGTERM)
 
     @property
     def address(self) -> str:
@@ -97,7 +112,11 @@ class Page(BaseHTTPRequestHandler):
         if file is not None:
             self._send(200, f"{_KINDS[file.suffix]}; charset=utf-8", file.read_bytes())
             return
-        found = self.content(path)
+        found = self.told(path)
+        if found is None and not self.server.is_ready:
+            self._refuse(503, "the model isn't there yet")
+            return
+        found = found or self.content(path)
         if found is None:
             self._refuse(404, "there is no such page")
             return
@@ -106,6 +125,18 @@ class Page(BaseHTTPRequestHandler):
             self._send(200, kind, content())
         except ProgramEnded as fault:
             self._refuse(502, str(fault))
+
+    def told(self, path: str) -> Optional[Content]:
+        """What is told whether a model is there or not: of it, and of the pages that are open."""
+        server = self.server
+        if path == "progress":
+            server.awaited = time.monotonic()
+            ready = {"isReady": server.is_ready}
+            return JSON, lambda: json.dumps({**ready, **server.progress.told()}).encode()
+        if path == "alive":
+            pages = server.talks + (1 if server.is_awaited else 0)
+            return JSON, lambda: json.dumps({"pages": pages}).encode()
+        return None
 
     def content(self, path: str) -> Optional[Content]:
         """What the page asks for beside its files."""
@@ -126,7 +157,10 @@ class Page(BaseHTTPRequestHandler):
         path = self._path()
         if path is None or not self._is_from_page():
             return
-        if path != "start":
+        if path == "end" and not self.server.is_ready:
+            self._send(200, TEXT, b"")
+            self.server.cancel()
+        elif path != "start" or not self.server.is_ready:
             self._refuse(404, "there is no such page")
         elif not is_budget(body):
             self._refuse(400, f"a budget is a number from 0 to {ALL_MOVES}")
@@ -148,6 +182,9 @@ class Page(BaseHTTPRequestHandler):
         """Answers scripts until the page is left."""
         if not self._is_from_page():
             return
+        if not self.server.is_ready:
+            self._refuse(503, "the model isn't there yet")
+            return
         key = self.headers.get("Sec-WebSocket-Key")
         if key is None:
             self._refuse(400, "this is for a WebSocket")
@@ -159,6 +196,7 @@ class Page(BaseHTTPRequestHandler):
         self.end_headers()
         self.close_connection = True
         line = WebSocket(self.rfile, self.wfile)
+        self.server.talks += 1
         try:
             script = line.receive()
             while script is not None:
@@ -166,6 +204,8 @@ class Page(BaseHTTPRequestHandler):
                 script = line.receive()
         except (ConnectionError, struct.error):  # the page was left, and nobody waits for this
             pass
+        finally:
+            self.server.talks -= 1
 
     def _answer(self, line: WebSocket, script: str) -> None:
         try:
@@ -227,11 +267,17 @@ class Page(BaseHTTPRequestHandler):
 
 
 class Server(Address):
-    """The window of one model."""
+    """The window of one model, which may be on its way."""
 
-    def __init__(self, showing: Showing, port: int = 0) -> None:
-        super().__init__(port, Handler)
+    def __init__(
+        self, showing: Optional[Showing], port: int = 0, token: Optional[str] = None
+    ) -> None:
+        super().__init__(port, Handler, token)
         self.showing = showing
+
+    @property
+    def is_ready(self) -> bool:
+        return self.showing is not None
 
 
 class Handler(Page):
@@ -239,7 +285,7 @@ class Handler(Page):
     files = {**{name: PAGE / name for name in FILES}, "": PAGE / "index.html"}
 
     def content(self, path: str) -> Optional[Content]:
-        showing = self.server.showing
+        showing = self._showing()
         contents: Dict[str, Content] = {
             "about": (JSON, lambda: json.dumps(showing.about()).encode()),
             "stream": (BYTES, lambda: showing.model.stream),
@@ -248,9 +294,14 @@ class Handler(Page):
         }
         return contents.get(path)
 
+    def _showing(self) -> Showing:
+        if self.server.showing is None:
+            raise ProgramEnded("the model isn't there yet")
+        return self.server.showing
+
     def answer(self, script: str) -> Answer:
-        return self.server.showing.ask(script)
+        return self._showing().ask(script)
 
     def started(self, budget: int) -> Optional[bytes]:
-        self.server.showing.start(budget)
-        return json.dumps(self.server.showing.about()).encode()
+        self._showing().start(budget)
+        return json.dumps(self._showing().about()).encode()

@@ -13,11 +13,12 @@ from worlds.parents import error_of, told_path
 from . import manual
 from .model import needed, run, tell
 from .program import ALL_MOVES, Answer, BadScript, Program, ProgramEnded, replies_to
-from .server import BYTES, FILES, JSON, PAGE, TEXT, Address, Content
+from .page_files import FILES, PAGE
+from .server import BYTES, JSON, TEXT, Address, Content
 from .server import Page as ServedPage
 
 WORLD_PAGE = Path(__file__).resolve().parent / "world_page"
-OWN_FILES = ("tiles.js", "tiling.js", "world.html", "world.js", "world_worker.js")
+OWN_FILES = ("tiles.js", "tiling.js", "world_bar.js", "world_worker.js")
 # Measured: `vdpm view` takes 57 MB for a stream of 199,712 faces, and 272 for one of 980,000.
 # `vdpm live` takes 8 bytes more for each node, and there are about as many nodes as faces.
 MEMORY_A_FACE = 300
@@ -46,8 +47,9 @@ class WorldShowing:
         low, _ = box_of([tile.low for tile in self.tiles.values()])
         _, high = box_of([tile.high for tile in self.tiles.values()])
         return {
-            "name": self.world.folder.resolve().name, "unit": self.world.unit, "low": low,
-            "high": high, "memory": self.memory, "proved": self.proved,
+            "name": self.world.folder.resolve().name, "unit": self.world.unit,
+            "origin": self.world.origin, "low": low, "high": high, "memory": self.memory,
+            "proved": self.proved,
             "faces": sum(tile.faces for tile in self.world.level(0)),
             "tiles": [self._told(tile) for tile in self.tiles.values()],
         }
@@ -139,11 +141,17 @@ def missing_of(world: World, missing: List[Tile]) -> str:
 
 
 class WorldServer(Address):
-    """The window of a world."""
+    """The window of a world, which may be on its way."""
 
-    def __init__(self, showing: WorldShowing, port: int = 0) -> None:
-        super().__init__(port, WorldHandler)
+    def __init__(
+        self, showing: Optional[WorldShowing], port: int = 0, token: Optional[str] = None
+    ) -> None:
+        super().__init__(port, WorldHandler, token)
         self.showing = showing
+
+    @property
+    def is_ready(self) -> bool:
+        return self.showing is not None
 
 
 class WorldHandler(ServedPage):
@@ -151,11 +159,17 @@ class WorldHandler(ServedPage):
     files = {
         **{name: PAGE / name for name in FILES if name != "index.html"},
         **{name: WORLD_PAGE / name for name in OWN_FILES},
-        "": WORLD_PAGE / "world.html",
+        "main.js": WORLD_PAGE / "world.js",  # the page is the window's, and this begins it
+        "": PAGE / "index.html",
     }
 
+    def _showing(self) -> WorldShowing:
+        if self.server.showing is None:
+            raise ProgramEnded("the world isn't there yet")
+        return self.server.showing
+
     def content(self, path: str) -> Optional[Content]:
-        showing = self.server.showing
+        showing = self._showing()
         if path == "about":
             return JSON, lambda: json.dumps(showing.about()).encode()
         what, _, name = path.partition("/")
@@ -170,7 +184,7 @@ class WorldHandler(ServedPage):
         head, _, rest = script.partition("\n")
         if not head.startswith(_HEAD):
             raise BadScript("the first line names a tile")
-        return self.server.showing.ask(head[len(_HEAD):], rest)
+        return self._showing().ask(head[len(_HEAD):], rest)
 
 
 def showing_of(path: Path, file: Path, memory: int) -> WorldShowing:

@@ -38,7 +38,7 @@ class Alone {
 
   // Builds and shows a file.
   take(file) {
-    return this.show(file.name, file.size, async () => {
+    return this.show(file.name, async () => {
       if (file.size > MOST_BYTES) throw TOO_LARGE;
       return { bytes: new Uint8Array(await file.arrayBuffer()) };
     });
@@ -48,12 +48,12 @@ class Alone {
   async takeOwn() {
     const model = await carried();
     this.link ||= model.known.view ?? "";
-    await this.show(model.known.name, 0, async () => ({ model }));
+    await this.show(model.known.name, async () => ({ model }));
   }
 
   // Shows what `read` gives to the worker. What was shown before goes when the new is there.
-  async show(name, size, read) {
-    const turn = this.begin(name, size);
+  async show(name, read) {
+    const turn = this.begin(name);
     try {
       this.steps.begin("read");
       const given = await read(), opened = await this.opened(turn, { name, ...given });
@@ -63,9 +63,9 @@ class Alone {
     }
   }
 
-  begin(name, size) {
+  begin(name) {
     this.leave();
-    this.steps = new Steps(name, size);
+    this.steps = new Steps(name);
     this.look("doing");
     return ++this.turn;
   }
@@ -74,8 +74,10 @@ class Alone {
   async opened(turn, given) {
     const module = (await this.engine).slice();
     if (turn !== this.turn) return null;
-    this.coming = new Work(new Worker(this.workerAt), ({ step }) => {
-      if (turn === this.turn) this.steps.begin(step);
+    this.coming = new Work(new Worker(this.workerAt), ({ step, faces }) => {
+      if (turn !== this.turn) return;
+      if (faces !== undefined) this.steps.counts(faces);
+      else this.steps.begin(step);
     });
     const task = { task: "open", pageOrigin: performance.timeOrigin, words: this.words, module };
     const handedOver = [module, given.bytes].filter(Boolean).map(({ buffer }) => buffer);
@@ -114,15 +116,14 @@ class Alone {
 
   // Shows the card that asks for a file, the one that tells of steps, or none.
   look(name) {
-    part("welcome").hidden = name === null;
-    for (const each of ["ask", "doing"]) part(each).hidden = each !== name;
+    for (const each of ["welcome", "doing"]) part(each).hidden = each !== name;
   }
 
-  lookAgain() { this.look(this.viewer === null ? "ask" : null); }
+  lookAgain() { this.look(this.viewer === null ? "welcome" : null); }
 
   fail({ reason, message = "", cure = "" }) {
     this.leave();
-    part("welcome").hidden = true;
+    this.look(null);
     const title = "This can't be shown", again = () => this.lookAgain();
     showFault({ title, reason: reason ?? message, cure, again });
   }

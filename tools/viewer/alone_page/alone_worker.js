@@ -3,6 +3,6 @@ import { answerBy } from "../page/tasks.js";
 import { tasksOver } from "../page/working.js";
 import { BuiltIn } from "./built_in.js";
 
-const told = (step) => postMessage({ news: { step } });
+const told = (news) => postMessage({ news });
 
 answerBy(tasksOver((asked) => new BuiltIn(asked, told)));

@@ -7,6 +7,7 @@ import { colouredVertices, packed, packedByPlace } from "./colours.js";
 import { MAGIC, otherKind } from "./kinds.js";
 
 const MOST_DIGITS = 4, TOO_MANY_DECIMALS = 5, TOO_MUCH = 9, NO_FACE = 12;
+const LF = 10, F = 102, S = 115, T = 116, U = 117, V = 118;
 const FIRST_LINE = 256; // bytes that have the first line of a prepared text
 
 // What a fault of a text says, and what to do about it, by the manual's words for its number.
@@ -25,7 +26,7 @@ function toldOf({ number, place }, words) {
 }
 
 // What a file's stream is, and what is known of it: { stream, colours, known }.
-export function built(engine, bytes, { step, words }) {
+export function built(engine, bytes, { told, words }) {
   if (MAGIC.every((byte, at) => bytes[at] === byte)) {
     return { stream: bytes, colours: null, known: { prepared: false, scale: null, notes: [] } };
   }
@@ -34,13 +35,28 @@ export function built(engine, bytes, { step, words }) {
     throw new Fault(`This is ${kind}, and OBJ files are what is read here.`,
       "What to do: open it in a program as Blender, MeshLab or assimp, and export it as OBJ.");
   }
+  const { faces, notes } = lookedThrough(bytes);
+  told({ faces });
   const vertices = colouredVertices(bytes);
   try {
-    step("simplify");
-    return asItStands(engine, bytes, vertices) ?? prepared(engine, bytes, vertices, step);
+    told({ step: "simplify" });
+    return asItStands(engine, bytes, vertices, notes) ?? prepared(engine, bytes, vertices, told);
   } catch (fault) {
     throw fault instanceof TextFault ? toldOf(fault, words) : fault;
   }
+}
+
+// How many lines are faces, of polygons somewhat fewer than their triangles; and what of the text
+// isn't shown, in words as those of `prepare`.
+function lookedThrough(bytes) {
+  const passed = new Set();
+  let faces = 0;
+  for (let at = bytes.indexOf(LF); at >= 0; at = bytes.indexOf(LF, at + 1)) {
+    if (bytes[at + 1] === F) faces++;
+    else if (bytes[at + 1] === V && bytes[at + 2] === T) passed.add("texture places");
+    else if (bytes[at + 1] === U && bytes[at + 2] === S) passed.add("materials");
+  }
+  return { faces, notes: [...passed].map((what) => `${what} passed over`) };
 }
 
 // Whether a stream has no face: after its version, and its digits if that is 2, and the numbers of
@@ -51,12 +67,12 @@ function isEmpty({ buffer, byteOffset }) {
 }
 
 // What is built of a text as it stands; null where it isn't fit for that.
-function asItStands(engine, bytes, vertices) {
+function asItStands(engine, bytes, vertices, notes) {
   for (let digits = 0; digits <= MOST_DIGITS; digits++) {
     try {
       const stream = engine.simplify(bytes, { digits });
       if (isEmpty(stream)) break;
-      const known = { prepared: false, scale: null, notes: [] };
+      const known = { prepared: false, scale: null, notes };
       return { stream, colours: vertices && packed(vertices), known };
     } catch (fault) {
       if (!(fault instanceof TextFault)) throw fault;
@@ -66,12 +82,12 @@ function asItStands(engine, bytes, vertices) {
   return null;
 }
 
-function prepared(engine, bytes, vertices, step) {
-  step("prepare");
+function prepared(engine, bytes, vertices, told) {
+  told({ step: "prepare" });
   const { text, notes } = engine.prepare(bytes);
   const scale = scaleOf(new TextDecoder().decode(text.subarray(0, FIRST_LINE)));
   const colours = vertices && packedByPlace(vertices, text, scale);
-  step("simplify");
+  told({ step: "simplify" });
   return { stream: engine.simplify(text), colours, known: { prepared: true, scale, notes } };
 }
 

@@ -34,18 +34,19 @@ function tried(doing) {
 
 export class BuiltIn {
   // `module` has the engine's bytes; `bytes` are a file's, or else `model` is one that was built
-  // before: { stream, colours, known }. `step` is told what is done next.
-  constructor({ module, name, bytes, model, words }, step) {
+  // before: { stream, colours, known }. `told` is called with what is done next, as { step }, and
+  // with how many { faces } there are.
+  constructor({ module, name, bytes, model, words }, told) {
     Object.assign(this, { name, words, marks: 1, session: null, budget: ALL_MOVES, lines: [] });
-    this.open = this.begin(module, { bytes, model }, step);
+    this.open = this.begin(module, { bytes, model }, told);
   }
 
-  async begin(module, { bytes, model }, step) {
+  async begin(module, { bytes, model }, told) {
     const begun = performance.now();
     this.engine = await Vdpm.load(module);
     const loaded = performance.now();
-    this.model = model ?? tried(() => built(this.engine, bytes, { step, words: this.words }));
-    step("open");
+    this.model = model ?? tried(() => built(this.engine, bytes, { told, words: this.words }));
+    told({ step: "open" });
     const made = performance.now();
     this.beginsAt(ALL_MOVES);
     const opened = performance.now();

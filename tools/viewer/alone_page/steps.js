@@ -1,28 +1,24 @@
-// Tells which steps are done from a file to its picture, and about how much is.
-const part = (name) => document.getElementById(name);
+// Tells which steps are done from a file to its picture. The engine tells nothing while it works:
+// how long a step takes is guessed from the number of faces, and each step that is over shows how
+// fast this machine is.
+import { hideDoing, sayDoing } from "../page/doing.js";
 
 const STEPS = [
   ["read", "Reading the file"], ["prepare", "Preparing the mesh"],
   ["simplify", "Simplifying"], ["open", "Opening"], ["draw", "Drawing"],
 ];
-// About how many seconds each step takes for a megabyte of text.
-const SECONDS = { read: 0.02, prepare: 0.1, simplify: 0.85, open: 0.25, draw: 0.15 };
-const LEAST = 0.02;     // seconds
-const STEEPNESS = 1.6;  // of the way to a step's end, which is never reached by waiting
-const SAY_AGAIN = 100;  // milliseconds
+// Microseconds that each step takes for a face, as measured.
+const A_FACE = { read: 0.5, prepare: 5, simplify: 20, open: 5, draw: 5 };
+const LEAST = 0.02;    // seconds of a step
+const MEASURED = 0.2;  // seconds of steps that are over, from which a machine's speed can be told
+const LAST = 0.05;     // of a step that takes longer than was guessed, what counts as still left
+const SAY_AGAIN = 100; // milliseconds
 
 const sum = (numbers) => numbers.reduce((a, b) => a + b, 0);
 
 export class Steps {
-  constructor(name, bytes) {
-    Object.assign(this, { begun: performance.now(), at: -1, times: {} });
-    this.guesses = STEPS.map(([step]) => (SECONDS[step] * bytes) / 2 ** 20 + LEAST);
-    part("doing-name").textContent = name;
-    part("steps").replaceChildren(...STEPS.map(([, said]) => {
-      const line = document.createElement("li");
-      line.textContent = said;
-      return line;
-    }));
+  constructor(name) {
+    Object.assign(this, { name, begun: performance.now(), at: -1, times: {}, faces: null });
     this.timer = setInterval(() => this.say(), SAY_AGAIN);
   }
 
@@ -31,27 +27,43 @@ export class Steps {
     const now = performance.now();
     if (this.at >= 0) this.took(STEPS[this.at][0], now - this.since);
     Object.assign(this, { at: STEPS.findIndex(([name]) => name === step), since: now });
-    [...part("steps").children].forEach((line, i) => {
-      line.className = i < this.at ? "done" : i === this.at ? "now" : "";
-    });
     this.say();
   }
 
+  // How many faces the file has, which is known once it was looked through.
+  counts(faces) { this.faces = faces; }
+
   took(step, milliseconds) { this.times[step] = (this.times[step] ?? 0) + milliseconds; }
 
-  // The engine tells nothing while it works, so that the part of a step that is done is a guess.
+  // The seconds of each step: those of steps that are over are known.
+  guesses() {
+    const plain = STEPS.map(([step]) => 1e-6 * A_FACE[step] * this.faces + LEAST);
+    const over = STEPS.map(([step], i) => (i < this.at ? (this.times[step] ?? 0) / 1000 : null));
+    const spent = sum(over), wanted = sum(plain.filter((_, i) => over[i] !== null));
+    const slowness = spent > MEASURED ? spent / wanted : 1;
+    return plain.map((guess, i) => over[i] ?? slowness * guess);
+  }
+
   say() {
-    const now = performance.now(), { guesses, at } = this, own = guesses[at] ?? 1;
-    const done = 1 - Math.exp((-STEEPNESS * (now - this.since)) / 1000 / own);
-    const share = (sum(guesses.slice(0, Math.max(0, at))) + own * done) / sum(guesses);
-    part("share").value = Math.min(1, share);
-    part("doing-said").textContent = `${((now - this.begun) / 1000).toFixed(1)} s`;
+    const { at, faces, name, since } = this;
+    const state = (i) => (i < at ? "done" : i === at ? "now" : "");
+    const told = { name, steps: STEPS.map(([, said], i) => [said, state(i)]) };
+    if (faces === null || at < 0) {
+      sayDoing({ ...told, share: null, left: null });
+      return;
+    }
+    const guesses = this.guesses(), own = guesses[at], spent = (performance.now() - since) / 1000;
+    const rest = Math.max(own - spent, LAST * own);
+    const share = (sum(guesses.slice(0, at)) + own - rest) / sum(guesses);
+    const left = spent < own ? rest + sum(guesses.slice(at + 1)) : null;
+    sayDoing({ ...told, share, left });
   }
 
   end() {
     if (this.timer === null) return;
     this.begin("");
     clearInterval(this.timer);
+    hideDoing();
     this.timer = null;
     this.times.all = performance.now() - this.begun;
   }

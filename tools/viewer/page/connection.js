@@ -5,7 +5,7 @@ import { Fault } from "./fault.js";
 const HEAD = 20; // bytes before the replies: two times, two numbers of marked fronts, and a size
 
 const GONE = "The server doesn't answer any more, so ./viewer has ended. "
-  + "Start it again, and open the address that it prints.";
+  + "Start it again as before, and this page goes on from here.";
 const gone = () => new Fault(GONE, "", true);
 
 export class Connection {

@@ -78,7 +78,7 @@ class Page(Case):
 class Showing(Page):
     def test_an_obj_that_is_dropped_is_shown_as_the_program_shows_it(self) -> None:
         self.open()
-        self.assertFalse(self.value("document.getElementById('ask').hidden"))
+        self.assertFalse(self.value("document.getElementById('welcome').hidden"))
         self.drop(EXAMPLES / "asteroid.obj")
         self.shows("asteroid.obj")
         line = self.value("viewer.views.asked")
@@ -113,7 +113,7 @@ class Showing(Page):
         self.value("document.getElementById('sample').click()")
         self.page.until("!document.getElementById('doing').hidden")
         self.value("document.getElementById('cancel').click()")
-        self.assertFalse(self.value("document.getElementById('ask').hidden"))
+        self.assertFalse(self.value("document.getElementById('welcome').hidden"))
 
     def test_a_model_that_the_page_has_in_it(self) -> None:
         looked_at = model("ring_scan.obj")

@@ -4,6 +4,7 @@ import io
 import json
 import os
 import signal
+import socket
 import struct
 import subprocess
 import sys
@@ -14,10 +15,12 @@ from pathlib import Path
 from typing import Any, Dict, List, Optional, Tuple
 
 from browser import PATIENCE, Line
+from viewer import seat
+from viewer.page_files import FILES, PAGE
 from viewer.program import ALL_MOVES, Answer
-from viewer.server import FILES, PAGE, Server
+from viewer.server import Server
 
-from .common import STREAM, TOP, Case, model, program
+from .common import EXAMPLES, STREAM, TOP, Case, model, program
 
 HEAD = 20  # bytes of numbers before the replies
 # What plays a film is in the same folder, and isn't served.
@@ -141,6 +144,37 @@ class Serving(Case):
         about = json.loads(self.asked(f"{self.root}about")[1])
         self.assertEqual((about["name"], about["coloured"]), ("octahedron.vdpm", False))
 
+    def test_before_its_model_it_tells_how_far_that_is(self) -> None:
+        showing, self.server.showing = self.server.showing, None
+        self.server.progress.name = "octahedron.vdpm"
+        self.server.progress.begins("building")
+        told = json.loads(self.asked(f"{self.root}progress")[1])
+        self.assertEqual((told["isReady"], told["name"]), (False, "octahedron.vdpm"))
+        self.assertEqual([state for _, state in told["steps"]], ["done", "done", "now", "", ""])
+        self.assertEqual(self.asked(f"{self.root}")[0], 200)
+        for path in ("about", "stream", "flight", "talk"):
+            self.assertEqual(self.asked(self.root + path)[0], 503, path)
+        with self.assertRaises(ConnectionRefusedError):
+            self.line()
+        self.assertEqual(self.asked(f"{self.root}start", "1")[0], 404)
+        self.server.progress.fails("no", "do that")
+        told = json.loads(self.asked(f"{self.root}progress")[1])
+        self.assertEqual(told["fault"], {"reason": "no", "cure": "do that"})
+        self.server.showing = showing
+        self.assertTrue(json.loads(self.asked(f"{self.root}progress")[1])["isReady"])
+
+    def test_it_tells_how_many_pages_show_it(self) -> None:
+        alive = lambda: json.loads(self.asked(f"{self.root}alive")[1])["pages"]  # noqa: E731
+        self.assertEqual(alive(), 0)
+        line = self.line()
+        self.said(line, "m\n")
+        self.assertEqual(alive(), 1)
+        self.assertEqual(seat.pages_at(self.seat()), 1)
+        self.assertIsNone(seat.pages_at(self.seat()._replace(token="x" * 22)))
+
+    def seat(self) -> seat.Seat:
+        return seat.Seat(self.server.server_port, self.server.token, [])
+
     def test_a_program_that_ended_is_told_and_can_be_started_again(self) -> None:
         line = self.line()
         self.assertIn(b"fault 30", self.said(line, "v 0 0 0 70000 1\n"))
@@ -167,18 +201,54 @@ class Serving(Case):
 class Ending(Case):
     """`./viewer` itself, and the program under it."""
 
-    def started(self) -> "subprocess.Popen[str]":
+    def setUp(self) -> None:
+        self.settings = {**os.environ, "XDG_CACHE_HOME": str(self.folder())}
+
+    def started(self, *more: str) -> "subprocess.Popen[str]":
         words = [sys.executable, str(TOP / "viewer"), str(STREAM), "--program", str(program())]
         window = subprocess.Popen(
-            words, stdout=subprocess.PIPE, stderr=subprocess.DEVNULL, text=True,
-            preexec_fn=heed_signals,
+            [*words, *more], stdout=subprocess.PIPE, stderr=subprocess.DEVNULL, text=True,
+            preexec_fn=heed_signals, env=self.settings,
         )
         self.addCleanup(window.wait)
         self.addCleanup(window.kill)
         assert window.stdout is not None
         self.addCleanup(window.stdout.close)
-        self.assertRegex(window.stdout.readline(), r"^viewer: http://127\.0\.0\.1:\d+/\S{16,}/ ")
+        self.said = window.stdout.readline()
+        self.assertRegex(self.said, r"^viewer: http://127\.0\.0\.1:\d+/\S{16,}/ ")
         return window
+
+    def ended(self, window: "subprocess.Popen[str]") -> None:
+        """Ends a window by Ctrl-C, once it is told of that."""
+        window.send_signal(signal.SIGINT)
+        window.wait(PATIENCE)
+
+    def test_its_next_start_has_the_same_address(self) -> None:
+        window = self.started()
+        address = self.said
+        second = self.started()
+        self.assertEqual(second.wait(PATIENCE), 0)
+        self.assertEqual(self.said, address.replace("(Ctrl-C ends)", "shows it already"))
+        self.ended(window)
+        [place] = (Path(self.settings["XDG_CACHE_HOME"]) / "vdpm/windows").iterdir()
+        self.assertEqual(place.stat().st_mode & 0o77, 0)
+        again = self.started()
+        self.assertEqual(self.said, address)
+        other = self.started("--budget", "9")
+        self.assertNotEqual(self.said, address)
+        self.ended(again)
+        self.ended(other)
+
+    def test_a_port_that_is_taken_is_told_before_anything_is_built(self) -> None:
+        with socket.create_server(("127.0.0.1", 0)) as other:
+            port = str(other.getsockname()[1])
+            words = [sys.executable, str(TOP / "viewer"), str(EXAMPLES / "asteroid.obj")]
+            done = subprocess.run(
+                [*words, "--port", port, "--program", "nowhere"], capture_output=True, text=True,
+                check=False, env=self.settings,
+            )
+        self.assertEqual((done.returncode, done.stdout), (1, ""))
+        self.assertIn(f"port {port} can't be had", done.stderr)
 
     def children(self, number: int) -> List[Path]:
         """The processes that a process started (Linux)."""
@@ -188,8 +258,11 @@ class Ending(Case):
     def test_each_way_to_end_it_ends_the_program(self) -> None:
         for number in (signal.SIGHUP, signal.SIGTERM, signal.SIGINT, signal.SIGKILL):
             window = self.started()
-            children = self.children(window.pid)
-            self.assertEqual(len(children), 1)
+            end = time.monotonic() + PATIENCE
+            # (it is checked by a program that ends, before the one that shows it)
+            while len(children := self.children(window.pid)) != 1 or not is_live(children[0]):
+                self.assertLess(time.monotonic(), end, "no program is started")
+                time.sleep(0.01)
             os.kill(window.pid, number)
             window.wait(PATIENCE)
             end = time.monotonic() + PATIENCE
@@ -202,6 +275,14 @@ def heed_signals() -> None:
     """Heeds what a test passes over that runs under nohup, or behind a shell's back."""
     for number in (signal.SIGHUP, signal.SIGINT):
         signal.signal(number, signal.SIG_DFL)
+
+
+def is_live(process: Path) -> bool:
+    """Whether a process is the program that shows the model."""
+    try:
+        return b"\0live\0" in (process / "cmdline").read_bytes()
+    except OSError:
+        return False
 
 
 def is_running(process: Path) -> bool:

@@ -14,7 +14,7 @@ export class Tiles {
 
   // Chooses tiles for a camera, and asks for what isn't there yet.
   look(camera, picture, set, memory) {
-    const { focal } = picture, { tolerance, judged } = set, eye = camera.eye();
+    const { focal } = picture, { tolerance, outline, judged } = set, eye = camera.eye();
     const seen = JSON.stringify([eye, focal, tolerance]);
     if (seen !== this.seen) this.wanted = chosen(this.forest, eye, { focal, tolerance, memory });
     this.seen = seen;
@@ -22,7 +22,7 @@ export class Tiles {
     for (const name of this.wanted.open) {
       const own = camera.copy();
       own.target = plus(camera.target, -1, this.tile(name).offset);
-      this.ask(name, viewLine(own, picture, { tolerance, judged }), set);
+      this.ask(name, viewLine(own, picture, { tolerance, outline, judged }), set);
     }
     this.settle();
   }
@@ -30,18 +30,23 @@ export class Tiles {
   tile(name) { return this.forest.byName.get(name); }
 
   state(name) {
-    if (!this.states.has(name)) this.states.set(name, { asked: null, shown: null, counts: null });
+    if (!this.states.has(name)) {
+      this.states.set(name, { asked: null, shown: null, counts: null, left: 0 });
+    }
     return this.states.get(name);
   }
 
-  async ask(name, line, { glide }) {
-    const state = this.state(name);
-    if (state.busy || state.asked === line) return;
+  // Where a budget was spent before a view's end the same one goes on.
+  async ask(name, line, { glide, budget }) {
+    const state = this.state(name), isSpent = state.left > 0 && budget > 0;
+    if (state.busy || (state.asked === line && !isSpent)) return;
     Object.assign(state, { asked: line, busy: true });
     this.waiting++;
     try {
       const task = line === BASE ? { task: "base" } : { task: "view", line };
-      const { patch } = await this.work.ask({ ...task, name, glides: glide });
+      const asked = { ...task, name, glides: glide, budget };
+      const { patch, left } = await this.work.ask(asked);
+      state.left = left;
       state.counts = { faces: patch.faceCount, nodes: patch.nodeCount };
       state.shown = line;
       this.heard.framed(this.tile(name), patch);
@@ -65,6 +70,12 @@ export class Tiles {
       this.work.ask({ task: "forget", name });
       this.heard.dropped(name);
     }
+  }
+
+  // Whether a tile is shown as it was asked for last.
+  isShown(name) {
+    const state = this.states.get(name);
+    return Boolean(state?.shown) && state.left === 0;
   }
 
   get counts() {

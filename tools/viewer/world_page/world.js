@@ -1,43 +1,41 @@
 // The page of a world: tiles near the camera are open, each refined for where it looks, and far
-// ones are shown by a parent or as coarse as they can be.
+// ones are shown by a parent or as coarse as they can be. Bar and drawer are the window's, but for
+// what the engines of a world can't tell.
+import { isThere } from "./awaiting.js";
+import { toggle, watchMenu } from "./bar.js";
 import { boot } from "./boot.js";
-import { farther, focalOf, homeOf } from "./camera.js";
+import { homeOf } from "./camera.js";
 import { Controls } from "./controls.js";
 import { showFault } from "./faults.js";
-import { foldWhereNarrow, toggle } from "./folding.js";
 import { Glides } from "./glides.js";
-import { counted, rowOf } from "./panel.js";
-import { NO_FACE, Renderer, watchTheme } from "./renderer.js";
+import { chosenSize, copy, download } from "./keeping.js";
+import { restored, toldOf } from "./link.js";
+import * as panel from "./panel.js";
+import { NO_FACE, watchTheme } from "./renderer.js";
+import { returnWhenBack } from "./returning.js";
+import { Scene } from "./scene.js";
 import { Tiles } from "./tiles.js";
 import { Work } from "./work.js";
+import { asWorld } from "./world_bar.js";
 
 const SAY_AGAIN = 100; // milliseconds between two sayings of the counters
-const STEPS = 4;       // of the tolerance's slider, a doubling
+const CIRCLE = 0.25;   // radians a second of the turntable
 const DEEPEST = 40;    // splits below a root, at which a node's colour is the last one
+const { counted } = panel;
 const part = (name) => document.getElementById(name);
 const megabytes = (n) => `${counted(Math.round(n / 1e6))} MB`;
-const chosen = (name) => document.querySelector(`input[name=${name}]:checked`).value;
-const press = (name) => () => part(name).click();
-
-function settings() {
-  const isOn = (name) => part(name).checked;
-  return {
-    tolerance: 2 ** (part("tolerance").valueAsNumber / STEPS),
-    judged: chosen("judged"),
-    colour: chosen("colour"),
-    upright: isOn("upright") ? "y" : "z",
-    smooth: isOn("smooth"), edges: isOn("edges"), glide: isOn("glide"), freeze: isOn("freeze"),
-  };
-}
 
 class WorldViewer {
   constructor(canvas) {
     this.canvas = canvas;
-    this.renderer = new Renderer(canvas);
-    this.work = new Work(new Worker("world_worker.js", { type: "module" }));
+    this.scene = new Scene(canvas);
+    this.renderer = this.scene.renderer;
+    const worker = new Worker("world_worker.js", { type: "module" });
+    this.work = new Work(worker, ({ fault }) => this.fail(fault));
     const failed = (fault) => this.fail(fault);
     this.glides = new Glides({ land: (name) => this.land(name), failed });
-    Object.assign(this, { set: settings(), saidAt: 0, dirty: true, ended: false });
+    Object.assign(this, { set: panel.settings(), saidAt: 0, dirty: true, ended: false });
+    this.larger = null; // a picture of another size that is being made
   }
 
   async open() {
@@ -53,9 +51,10 @@ class WorldViewer {
       failed: (fault) => this.fail(fault),
     };
     this.tiles = new Tiles(this.about.tiles, this.work, heard);
-    part("name").textContent = document.title = this.about.name;
-    part("notice").hidden = this.about.proved;
+    asWorld(this.about);
     this.goHome();
+    const linked = restored(location.hash);
+    this.camera = linked ?? this.camera;
     this.takeHands();
     watchTheme((theme) => Object.assign(this, { theme, dirty: true }));
     requestAnimationFrame((now) => this.tick(now));
@@ -67,7 +66,8 @@ class WorldViewer {
   }
 
   takeHands() {
-    const choose = (colour) => press(colour);
+    const pressed = ["f", "e", "s", "g", "o", "y", "d", 1, 2, 3, 4];
+    const keys = Object.fromEntries(pressed.map((key) => [key, panel.KEYS[key]]));
     new Controls(this.canvas, {
       camera: () => this.camera,
       focal: () => this.picture().focal,
@@ -75,40 +75,41 @@ class WorldViewer {
       farthest: () => 30 * this.radius,
       moved: () => { this.dirty = true; },
       picked: () => {},
-      keys: {
-        f: press("freeze"), e: press("edges"), s: press("smooth"), g: press("glide"),
-        y: press("upright"), r: () => this.goHome(), 1: choose("stone"), 2: choose("depth"),
-        3: choose("own"), 4: choose("wire"),
-      },
+      keys: { ...keys, r: () => this.goHome(), p: () => this.savePicture(), h: toggle },
     });
-    part("panel").addEventListener("input", () => this.changed());
-    part("panel").addEventListener("submit", (event) => event.preventDefault());
-    part("home").onclick = () => this.goHome();
-    part("unhide").onclick = toggle;
+    panel.watchPanel((name) => this.changed(name));
+    panel.watchButtons({
+      home: () => this.goHome(), unhide: toggle, "copy-link": () => this.copyLink(),
+      "save-picture": () => this.savePicture(), "save-obj": () => this.saveMesh("obj"),
+      "save-ply": () => this.saveMesh("ply"), "save-glb": () => this.saveMesh("glb"),
+    });
     addEventListener("resize", () => { this.dirty = true; });
-    this.changed();
+    addEventListener("hashchange", () => {
+      this.camera = restored(location.hash) ?? this.camera;
+      this.changed("");
+    });
+    this.changed("");
   }
 
-  changed() {
-    const before = farther(this.picture()), was = this.set.upright;
-    this.set = settings();
-    this.camera.distance *= farther(this.picture()) / before;
-    part("tolerance-said").textContent = `${Number(this.set.tolerance.toFixed(2))} px`;
-    if (this.set.upright !== was) this.goHome();
+  changed(name) {
+    this.set = panel.settings();
+    panel.saySettings(this.set);
+    if (name === "up") this.goHome();
     this.dirty = true;
   }
 
-  picture() {
-    const width = Math.max(1, Math.round(innerWidth * devicePixelRatio));
-    const height = Math.max(1, Math.round(innerHeight * devicePixelRatio));
-    return { width, height, focal: focalOf(height) };
-  }
+  picture() { return this.scene.picture(); }
 
   tick(now) {
     if (this.ended) return;
-    const { tiles, set } = this;
-    const isFirst = tiles.wanted === null;
-    if (isFirst || !set.freeze) tiles.look(this.camera, this.picture(), set, this.about.memory);
+    const { tiles, set } = this, passed = Math.min(100, now - (this.tickedAt ?? now));
+    this.tickedAt = now;
+    if (set.round) {
+      this.camera.turn((passed / 1000) * CIRCLE, 0);
+      this.dirty = true;
+    }
+    const isFirst = tiles.wanted === null, picture = this.larger ?? this.picture();
+    if (isFirst || !set.freeze) tiles.look(this.camera, picture, set, this.about.memory);
     this.glides.end(now);
     if (this.dirty || this.glides.isOn(now)) this.draw();
     if (now - this.saidAt > SAY_AGAIN) this.say(now);
@@ -117,18 +118,14 @@ class WorldViewer {
 
   draw() {
     this.dirty = false;
-    const picture = this.picture(), { width, height } = picture, { canvas } = this;
-    const fits = canvas.width === width && canvas.height === height;
-    if (!fits) Object.assign(canvas, { width, height });
-    this.renderer.draw({
-      camera: this.camera,
-      picture,
-      parts: [{ names: this.tiles.drawn, left: 0, width }],
-      look: {
-        ...this.set, theme: this.theme, now: performance.now() / 1000, frozen: null,
-        reach: 2 * this.radius, deepest: DEEPEST, picked: NO_FACE, hit: null,
-      },
-    });
+    this.scene.draw(this.camera, this.look());
+  }
+
+  look() {
+    return {
+      ...this.set, names: this.tiles.drawn, theme: this.theme, now: performance.now() / 1000,
+      frozen: null, reach: 2 * this.radius, deepest: DEEPEST, picked: NO_FACE, hit: null,
+    };
   }
 
   framed(tile, patch) {
@@ -155,14 +152,16 @@ class WorldViewer {
     this.saidAt = now;
     const { faces, nodes, parents } = this.tiles.counts, { open, closed, held } = this.tiles.wanted;
     const rows = [
-      ["nodes", counted(nodes)], ["open tiles", `${open.length}`], ["closed", `${closed.length}`],
-      ["parents among them", `${parents}`],
+      ["vertices", counted(nodes)], ["parents shown", `${parents}`],
+      ["open tiles", `${open.length}`], ["closed", `${closed.length}`],
       ["memory of programs", `${megabytes(held)} of ${megabytes(this.about.memory)}`],
     ];
     part("faces-said").textContent = counted(faces);
-    part("all-said").textContent = `of ${counted(this.about.faces)} faces`;
-    part("rows").replaceChildren(...rows.map(rowOf));
-    part("mark").hidden = !this.set.freeze;
+    part("all-said").textContent = `of ${counted(this.about.faces)} triangles`;
+    part("rows").replaceChildren(...rows.map(panel.rowOf));
+    const isComing = faces === 0 ? "Opening the tiles that are seen" : "";
+    part("mark").textContent = this.set.freeze ? "LOD frozen: fly round it" : isComing;
+    part("mark").hidden = part("mark").textContent === "";
   }
 
   // Whether all is shown as it is asked for.
@@ -170,16 +169,52 @@ class WorldViewer {
     const { tiles } = this;
     if (!tiles?.wanted || tiles.waiting > 0 || !this.glides.isOver) return false;
     const names = [...tiles.wanted.open, ...tiles.wanted.closed];
-    return !this.dirty && names.every((name) => tiles.states.get(name)?.shown)
+    return !this.dirty && names.every((name) => tiles.isShown(name))
       && names.length === tiles.drawn.length;
   }
 
-  fail({ reason, cure }) {
+  // --- what a user takes away
+
+  async savePicture() {
+    const { picture, told } = chosenSize(this.picture(), this.scene.most);
+    const name = `${this.about.name}${told}.png`;
+    this.larger = picture;
+    await this.settled();
+    this.scene.drawAs(this.camera, this.look(), picture, 1);
+    // What was drawn is there until this task ends.
+    this.canvas.toBlob((blob) => download(name, blob), "image/png");
+    this.larger = null;
+    this.draw();
+    panel.tell(`Saved ${name}`);
+  }
+
+  async settled() {
+    do {
+      await new Promise((next) => { requestAnimationFrame(next); });
+    } while (!this.isSettled && !this.ended && !this.set.round);
+  }
+
+  async saveMesh(format) {
+    const { tiles, about: { name, unit, origin } } = this;
+    const drawn = tiles.drawn.map((each) => ({ name: each, offset: tiles.tile(each).offset }));
+    const { bytes, faces } = await this.work.ask({ task: "mesh", format, drawn, unit, origin });
+    download(`${name}-${faces}.${format}`, new Blob([bytes]));
+    panel.tell(`Saved ${name}-${faces}.${format}`);
+  }
+
+  async copyLink() {
+    await copy(`${location.href.replace(/#.*/, "")}#${toldOf(this.camera)}`);
+    panel.tell("The link is on the clipboard");
+  }
+
+  fail({ reason, cure, isLost = false }) {
     this.ended = true;
-    const again = () => location.reload();
-    showFault({ title: "The view has ended", reason, cure, again });
+    const again = () => { if (!isLost) location.reload(); };
+    const label = isLost ? "OK" : "Start it again";
+    showFault({ title: "The view has ended", reason, cure, again, label });
+    if (this.camera && isLost) returnWhenBack(() => toldOf(this.camera));
   }
 }
 
-foldWhereNarrow();
-boot((canvas) => new WorldViewer(canvas));
+watchMenu();
+if (await isThere()) boot((canvas) => new WorldViewer(canvas));

@@ -5,6 +5,7 @@ import { NO_PARENT, readHierarchy } from "./hierarchy.js";
 import { KeptMesh } from "./mesh.js";
 import { readReplies } from "./replies.js";
 import { answerBy, clock, startClock } from "./tasks.js";
+import { WRITERS } from "./writers.js";
 
 const TINTS = [
   [222, 184, 135], [143, 188, 143], [135, 160, 206], [205, 140, 149], [189, 183, 107],
@@ -13,6 +14,7 @@ const TINTS = [
 
 let connection = null;
 const followers = new Map(); // of open tiles, by name
+const bases = new Map();     // the frames of closed tiles
 
 // The same colour for all nodes of a tile, so that one sees which is which.
 function tint(name, count) {
@@ -40,16 +42,19 @@ const tasks = {
   // What is told of the world.
   async open({ pageOrigin }) {
     startClock(pageOrigin);
-    connection = new Connection();
+    connection = new Connection((fault) => postMessage({ news: { fault } }));
     await connection.open;
     return (await fetched("about")).json();
   },
 
   // What a view changes of an open tile.
-  async view({ name, line, glides }) {
+  async view({ name, line, glides, budget }) {
     const follower = await followerOf(name);
-    const { patch } = await follower.view(line, () => (glides ? clock() : null));
-    return { patch };
+    if (follower.budget !== budget) await talk(name, `b ${budget}\n`);
+    follower.budget = budget;
+    const { patch, replies } = await follower.view(line, () => (glides ? clock() : null));
+    const [word, , left] = replies[0];
+    return { patch, left: word === "spent" ? Number(left) : 0 };
   },
 
   // What a closed tile shows: a tile without a program, whose nodes are roots.
@@ -57,7 +62,18 @@ const tasks = {
     followers.delete(name);
     const text = new Uint8Array(await (await fetched(`base/${name}`)).arrayBuffer());
     const { frame } = readReplies(text), mesh = new KeptMesh(...baseOf(name, frame));
-    return { patch: mesh.take(mesh.front.changeTo(frame), null) };
+    bases.set(name, frame);
+    return { patch: mesh.take(mesh.front.changeTo(frame), null), left: 0 };
+  },
+
+  // The triangles of all tiles that are drawn as one mesh, as a file of another program.
+  async mesh({ format, drawn, unit, origin }) {
+    const frames = drawn.map(({ name, offset }) => {
+      const follower = followers.get(name);
+      return { offset, ...(follower ? follower.mesh.front.frame() : bases.get(name)) };
+    });
+    const level = joined(frames, { unit, middle: origin });
+    return { bytes: WRITERS[format](level), faces: level.corners.length / 3 };
   },
 
   // What becomes another of a tile where glides are over; no patch where it was left.
@@ -65,9 +81,28 @@ const tasks = {
 
   async forget({ name }) {
     followers.delete(name);
+    bases.delete(name);
     return {};
   },
 };
+
+// One mesh of the frames of tiles: vertices at the same place of the world are one.
+function joined(frames, grid) {
+  const numbers = new Map(), places = [], corners = [];
+  for (const { offset, nodes, places: own, corners: three } of frames) {
+    const joins = new Map();
+    nodes.forEach((node, i) => {
+      const place = offset.map((c, axis) => c + own[3 * i + axis]), key = place.join();
+      if (!numbers.has(key)) {
+        numbers.set(key, numbers.size);
+        places.push(...place);
+      }
+      joins.set(node, numbers.get(key));
+    });
+    for (const node of three) corners.push(joins.get(node));
+  }
+  return { places, corners: Uint32Array.from(corners), colours: null, grid };
+}
 
 // The hierarchy of a base mesh, which has no records, and its colours.
 function baseOf(name, frame) {
