@@ -141,7 +141,8 @@ class Films(Page):
             ups = self.value("film.looks.map(({ upright }) => upright)")
             self.assertEqual(ups, ["y"] * len(places))
             self.assertTrue(self.value(
-                "film.looks.every((_, at) => { film.show(at); return film.camera.axes().up[1] > 0; })"
+                "film.looks.every((_, at) => {"
+                " film.show(at); return film.camera.axes().up[1] > 0; })"
             ))
 
     def test_a_film_begins_as_the_window_does(self) -> None:

@@ -186,6 +186,55 @@ class Looking(WithWindow):
         self.assertEqual((self.names("wanted.open"), self.names("drawn")), ([], ["t"]))
         self.assertEqual(self.page.errors(), [])
 
+    def slide(self, name: str, to: int) -> None:
+        self.page.run(
+            f"{name}.value = {to}; {name}.dispatchEvent(new Event('input', {{ bubbles: true }}));"
+            "viewer.tick(performance.now()); 0"
+        )
+        self.page.until(SETTLED)
+
+    def test_the_bar_is_that_of_a_model_without_what_a_world_can_not_tell(self) -> None:
+        self.opened()
+        seen = "(name) => document.getElementById(name).closest('label').hidden"
+        names = ["beside", "picks", "draft", "edges", "outline", "budget"]
+        hidden = self.page.run(f"{names!r}.map({seen})")
+        self.assertEqual(hidden, [True, True, True, False, False, False])
+        self.assertIn("compare with the full model", self.page.run("notice.textContent"))
+
+    def test_outlines_and_budgets_lead_to_the_fronts_of_the_programs(self) -> None:
+        server = self.opened()
+        self.slide("outline", 4)
+        asked = self.page.run("[...viewer.tiles.states.values()].map(({ asked }) => asked)")
+        self.assertEqual({line.split()[0] for line in asked}, {"vds"})
+        self.slide("budget", 5)
+        self.look(300, -4)  # many views of 32 moves each lead there
+        counts = self.page.run("viewer.tiles.counts")
+        told = [server.showing.ask(name, "m\n").text.split() for name in self.names("drawn")]
+        self.assertEqual(sum(int(words[3]) for words in told), counts["faces"])
+        self.assertEqual(self.page.errors(), [])
+
+    def test_the_mesh_saved_is_one_of_all_tiles_that_are_drawn(self) -> None:
+        self.opened()
+        self.look(300, 8)
+        self.assertGreater(len(self.names("drawn")), 1)
+        faces = self.page.run("viewer.tiles.counts.faces")
+        self.page.run("document.getElementById('save-obj').click()")
+        name = f"{self.world.folder.resolve().name}-{faces}.obj"
+        lines = [line.split() for line in self.page.downloaded(name).decode().splitlines()]
+        places = [tuple(words[1:]) for words in lines if words[0] == "v"]
+        self.assertEqual(len(places), len(set(places)))
+        corners = [words[1:] for words in lines if words[0] == "f"]
+        self.assertEqual(len(corners), faces)
+        sides = [(c[i], c[(i + 1) % 3]) for c in corners for i in range(3)]
+        self.assertEqual(len(sides), len(set(sides)))
+        # Where tiles meet each side has its other one, so what is open is the world's outline.
+        twins = set(sides)
+        ends = [places[int(a) - 1] for a, b in sides if (b, a) not in twins]
+        x, y = ([float(place[axis]) for place in places] for axis in (0, 1))
+        outline = {min(x), max(x)}, {min(y), max(y)}
+        for place in ends:
+            self.assertTrue(float(place[0]) in outline[0] or float(place[1]) in outline[1])
+
     def test_faces_and_counts_are_those_of_the_frames(self) -> None:
         self.opened()
         self.look(900, 4)

@@ -83,7 +83,7 @@ class WorldViewer {
       "save-picture": () => this.savePicture(), "save-obj": () => this.saveMesh("obj"),
       "save-ply": () => this.saveMesh("ply"), "save-glb": () => this.saveMesh("glb"),
     });
-    addEventListener("resize", () => { this.dirty = true; });
+    new ResizeObserver(() => { this.dirty = true; }).observe(this.canvas);
     addEventListener("hashchange", () => {
       this.camera = restored(location.hash) ?? this.camera;
       this.changed("");
