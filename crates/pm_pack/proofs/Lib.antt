@@ -1,0 +1,4 @@
+pub mod GuessedLaws
+pub mod TextLaws
+pub mod PackLaws
+pub mod JudgeLaws

@@ -1,0 +1,330 @@
+//! What was seen of a stream text, and what it lets guess of the next word.
+ghost use Rattle.std.specs.Prelude.{◌≡◌, ◌+◌, ◌-◌, ◌==◌, ◌≤◌, ℕ, List, IfOk, get_or, slice_set, length};
+ghost use Rattle.std.specs.Prelude.{if◌then◌else◌, ◌++◌};
+ghost use Rattle.pm_pack.specs.Pasts.{node_at, end_of, root_made, first_child, second_child};
+ghost use Rattle.pm_pack.specs.Pasts.{nodes_made, word_kept, seen_after, input_guess, mirrored};
+ghost use Rattle.pm_pack.specs.Pasts.{root_guess, first_guess, second_guess, face_guess, word_guess};
+ghost use Rattle.pm_pack.specs.Pasts.{width_class, context_of, guess_of, split_node, word_at};
+ghost use Rattle.pm_pack.specs.Texts.{nothing_seen};
+
+use crate::OutOfMemory;
+use crate::fields::Spot;
+use crate::word::{Guess, ahead, moved_ahead};
+use std::alloc::Global;
+use std::marker::Model;
+
+// How many fields there are.
+const FIELDS: usize = 33;
+
+/// The place of a node as words, its first leaf, and how many it has.
+#[derive(Clone, Copy)]
+pub(crate) struct Node {
+    pub(crate) x: u32,
+    pub(crate) y: u32,
+    pub(crate) z: u32,
+    pub(crate) first: u32,
+    pub(crate) width: u32,
+}
+
+const NO_NODE: Node = Node {
+    x: 0,
+    y: 0,
+    z: 0,
+    first: 0,
+    width: 0,
+};
+
+impl Node {
+    // The leaf after those of the node.
+    fn end(self) -> u32
+        ensures { result ≡ end_of self }
+    {
+        self.first.saturating_add(self.width)
+    }
+}
+
+/// Where the text is, by field the last word of that field, and the nodes so far.
+#[derive(Drop)]
+pub(crate) struct Past {
+    spot: Spot,
+    words: Vec<u32>,
+    nodes: Vec<Node>,
+}
+
+impl Model for Past {
+    ghost use Rattle.pm_pack.specs.Pasts.{Seen};
+
+    ghost Value = { Seen };
+
+    ghost view = { λ p. record { spot = p.spot; words = p.words.items; nodes = p.nodes.items } };
+}
+
+impl Past {
+    /// Nothing was seen.
+    #[tactic(auto, unfolding(crate::specs::Texts::nothing_seen))]
+    pub(crate) fn new(alloc: Global) -> Result<Past, OutOfMemory>
+        ensures { IfOk result (λ p. p ≡ nothing_seen) }
+    {
+        Ok(Past {
+            spot: Spot::first(),
+            words: vec![in alloc; 0; FIELDS]?,
+            nodes: Vec::new(alloc),
+        })
+    }
+
+    /// The guess of the next word.
+    #[tactic(auto, unfolding(crate::specs::Pasts::guess_of))]
+    pub(crate) fn guess(&self) -> Guess
+        ensures value { result ≡ guess_of self.now }
+        ensures set { result.set ≤ 99 }
+    {
+        Guess {
+            word: self.word_guess(),
+            set: 3 * self.spot.field.min(33),
+            context: self.context(),
+        }
+    }
+
+    /// Takes the next word. O(1) time but for the growth of the nodes.
+    #[tactic(auto, unfolding(crate::specs::Pasts::seen_after))]
+    pub(crate) fn take(&mut self, word: u32) -> Result<(), OutOfMemory>
+        ensures { IfOk result (λ _. self.new ≡ seen_after self.old word) }
+    {
+        let field = self.spot.field;
+        self.keep(word);
+        self.make_nodes(field)
+    }
+
+    fn keep(&mut self, word: u32)
+        ensures { self.new ≡ word_kept self.old word }
+    {
+        set_word(&mut self.words, self.spot.field, word);
+        self.spot = self.spot.after(word);
+    }
+
+    // Makes the nodes of a unit that ends with this field.
+    fn make_nodes(&mut self, field: u32) -> Result<(), OutOfMemory>
+        ensures { IfOk result (λ _. self.new ≡ record {
+          spot = self.old.spot;
+          words = self.old.words;
+          nodes = self.old.nodes ++ nodes_made field self.old;
+        }) }
+    {
+        if field == 11 {
+            let root = self.root_made();
+            self.nodes.push(root)?;
+        } else if field == 26 {
+            let children = [self.first_child(), self.second_child()];
+            self.nodes.extend_from_slice(&children)?;
+        }
+        Ok(())
+    }
+
+    // The last word that is this field.
+    fn word(&self, field: u32) -> u32
+        ensures { result ≡ word_at self.now field }
+    {
+        word_at(&self.words, field)
+    }
+
+    // The node that the record splits.
+    fn split_node(&self) -> Node
+        ensures { result ≡ split_node self.now }
+    {
+        node_at(&self.nodes, self.word(16) as usize)
+    }
+
+    fn root_made(&self) -> Node
+        ensures { result ≡ root_made self.now }
+    {
+        let last = node_at(&self.nodes, self.nodes.len().saturating_sub(1));
+        Node {
+            x: self.word(7),
+            y: self.word(8),
+            z: self.word(9),
+            first: last.end(),
+            width: self.word(10),
+        }
+    }
+
+    fn first_child(&self) -> Node
+        ensures { result ≡ first_child self.now }
+    {
+        Node {
+            x: self.word(18),
+            y: self.word(19),
+            z: self.word(20),
+            first: self.split_node().first,
+            width: self.word(17),
+        }
+    }
+
+    fn second_child(&self) -> Node
+        ensures { result ≡ second_child self.now }
+    {
+        Node {
+            x: self.word(22),
+            y: self.word(23),
+            z: self.word(24),
+            first: self.first_child().end(),
+            width: self.second_width(),
+        }
+    }
+
+    fn second_width(&self) -> u32
+        ensures { result ≡ (split_node self.now).width - word_at self.now 17 }
+    {
+        self.split_node().width.saturating_sub(self.word(17))
+    }
+
+    #[tactic(auto, unfolding(crate::specs::Pasts::word_guess))]
+    fn word_guess(&self) -> u32
+        ensures { result ≡ word_guess self.now }
+    {
+        let field = self.spot.field;
+        if field < 16 {
+            self.root_guess(field)
+        } else if field < 22 {
+            self.first_guess(field)
+        } else if field < 27 {
+            self.second_guess(field)
+        } else {
+            self.face_guess(field)
+        }
+    }
+
+    #[tactic(auto, unfolding(crate::specs::Pasts::root_guess))]
+    fn root_guess(&self, field: u32) -> u32
+        ensures { result ≡ root_guess self.now field }
+    {
+        if field == 11 {
+            input_guess(self.word(10), self.word(11))
+        } else {
+            self.word(field)
+        }
+    }
+
+    #[tactic(auto, unfolding(crate::specs::Pasts::first_guess))]
+    fn first_guess(&self, field: u32) -> u32
+        ensures { result ≡ first_guess self.now field }
+    {
+        let split = self.split_node();
+        if field == 17 {
+            split.width
+        } else if field == 18 {
+            split.x
+        } else if field == 19 {
+            split.y
+        } else if field == 20 {
+            split.z
+        } else if field == 21 {
+            input_guess(self.word(17), self.word(21))
+        } else {
+            self.word(field)
+        }
+    }
+
+    #[tactic(auto, unfolding(crate::specs::Pasts::second_guess))]
+    fn second_guess(&self, field: u32) -> u32
+        ensures { result ≡ second_guess self.now field }
+    {
+        let split = self.split_node();
+        if field == 22 {
+            mirrored(split.x, self.word(18))
+        } else if field == 23 {
+            mirrored(split.y, self.word(19))
+        } else if field == 24 {
+            mirrored(split.z, self.word(20))
+        } else if field == 25 {
+            input_guess(self.second_width(), self.word(25))
+        } else {
+            3
+        }
+    }
+
+    #[tactic(auto, unfolding(crate::specs::Pasts::face_guess))]
+    fn face_guess(&self, field: u32) -> u32
+        ensures { result ≡ face_guess self.now field }
+    {
+        if field == 27 {
+            self.split_node().first
+        } else if field == 28 {
+            self.first_child().end()
+        } else if field == 29 {
+            self.split_node().first
+        } else {
+            self.word(field)
+        }
+    }
+
+    #[tactic(auto, unfolding(crate::specs::Pasts::context_of))]
+    fn context(&self) -> u32
+        ensures { result ≡ context_of self.now }
+    {
+        if self.spot.field < 17 {
+            0
+        } else {
+            16 * width_class(self.split_node().width) + width_class(self.word(17))
+        }
+    }
+}
+
+fn word_at(words: &[u32], field: u32) -> u32
+    ensures { result ≡ get_or words.now field 0 }
+{
+    if (field as usize) < words.len() {
+        words[field as usize]
+    } else {
+        0
+    }
+}
+
+fn node_at(nodes: &[Node], i: usize) -> Node
+    ensures { result ≡ node_at nodes.now i }
+{
+    if i < nodes.len() { nodes[i] } else { NO_NODE }
+}
+
+fn set_word(words: &mut Vec<u32>, field: u32, word: u32)
+    ensures { words.new.items ≡ slice_set words.old.items field word }
+{
+    if (field as usize) < words.len() {
+        words[field as usize] = word;
+    }
+}
+
+// The input word of a node: 0 where it has more than one leaf.
+fn input_guess(width: u32, last: u32) -> u32
+    ensures { result ≡ input_guess width last }
+{
+    if width == 1 {
+        last.saturating_add(1)
+    } else {
+        0
+    }
+}
+
+fn mirrored(over: u32, from: u32) -> u32
+    ensures { result ≡ mirrored over from }
+{
+    moved_ahead(over, ahead(from, over))
+}
+
+// How many leaves, roughly.
+#[tactic(auto, unfolding(crate::specs::Pasts::width_class))]
+fn width_class(width: u32) -> u32
+    ensures value { result ≡ width_class width }
+    ensures most { result ≤ 11 }
+{
+    if width < 8 {
+        width
+    } else if width < 32 {
+        8
+    } else if width < 256 {
+        9
+    } else if width < 4096 {
+        10
+    } else {
+        11
+    }
+}

@@ -1,0 +1,85 @@
+//! A table of slots, one for all questions that have one hash.
+ghost use Rattle.std.specs.Prelude.{◌≡◌, ◌<◌, IfOk, length};
+ghost use Rattle.pm_coder.specs.Questions.{question};
+ghost use Rattle.pm_pack.specs.Hashes.{mixed, first_context, slot_of, fresh_slots};
+
+use crate::OutOfMemory;
+use pm_coder::{NEW_SLOT, Predictor, slot_learned, slot_share};
+use std::alloc::Global;
+use std::marker::Model;
+
+/// Two questions may have one slot; that costs bits and nothing else.
+#[derive(Drop)]
+pub struct Slots {
+    slots: Vec<u32>,
+}
+
+impl Model for Slots {
+    ghost use Rattle.std.specs.Prelude.{◌<◌, ℕ, List, length};
+
+    ghost Value = { List ℕ };
+
+    ghost view = { λ s. s.slots.items };
+
+    ghost invariant = { λ s. 0 < length s.slots.items };
+}
+
+impl Slots {
+    /// Slots that have learnt nothing. Only this call takes memory, four bytes a slot.
+    #[tactic(auto, unfolding(crate::specs::Hashes::fresh_slots))]
+    pub(crate) fn new(alloc: Global, size: u32) -> Result<Slots, OutOfMemory>
+        requires { 0 < size }
+        ensures { IfOk result (λ s. s ≡ fresh_slots size) }
+    {
+        let slots = vec![in alloc; NEW_SLOT; size as usize]?;
+        Ok(Slots { slots })
+    }
+}
+
+impl Predictor for Slots {
+    ghost use Rattle.pm_pack.specs.Hashes.{share_in, learned_in};
+
+    ghost share = { share_in };
+
+    ghost learned = { learned_in };
+
+    #[tactic(auto, unfolding(crate::specs::Hashes::share_in))]
+    fn predict(&mut self, set: u32, contexts: &[u32], place: u32) -> u16 {
+        slot_share(self.slots[slot_of(self.slots.len(), set, contexts, place)])
+    }
+
+    #[tactic(auto, unfolding(crate::specs::Hashes::learned_in))]
+    fn learn(&mut self, set: u32, contexts: &[u32], place: u32, bit: bool) {
+        let i = slot_of(self.slots.len(), set, contexts, place);
+        self.slots[i] = slot_learned(self.slots[i], bit);
+    }
+}
+
+// The slot of a question in a table of so many.
+#[tactic(auto, unfolding(crate::specs::Hashes::slot_of))]
+fn slot_of(size: usize, set: u32, contexts: &[u32], place: u32) -> usize
+    requires { 0 < size }
+    ensures slot { result ≡ slot_of size (question set contexts.now place) }
+    ensures within { result < size }
+{
+    let hash = mixed(mixed(mixed(0, set), first_context(contexts)), place);
+    hash as usize % size
+}
+
+fn first_context(contexts: &[u32]) -> u32
+    ensures { result ≡ first_context contexts.now }
+{
+    match contexts {
+        [] => 0,
+        [first, ..] => *first,
+    }
+}
+
+// A hash with one more number in it.
+#[tactic(auto, unfolding(crate::specs::Hashes::mixed))]
+fn mixed(hash: u32, n: u32) -> u32
+    ensures { result ≡ mixed hash n }
+{
+    let product = hash.wrapping_add(n).wrapping_mul(2_654_435_761);
+    product % 131_072 * 32_768 + product / 131_072
+}
