@@ -10,16 +10,15 @@ use Rattle.pm_format.specs.Faults.{stream_fault}
 use Rattle.pm_format.specs.declared.taken.Taken.{Taken}
 use Rattle.pm_format.specs.Standing as standing
 use Rattle.pm_format.specs.Standing.{IsText, HasFaultAlready}
-use Rattle.pm_format.proofs.WholeLaws.{whole_text, no_longer}
+use Rattle.pm_format.proofs.WholeLaws.{no_longer}
 use Rattle.pm_pack.specs.declared.writing.PackFail.{PackFail}
 use Rattle.pm_pack.specs.declared.writing.PackFail.TheVariants as fails
+use Rattle.pm_pack.specs.declared.reading.UnpackFail.{UnpackFail}
+use Rattle.pm_pack.specs.declared.reading.UnpackFail.TheVariants as unpack
 use Rattle.pm_pack.specs.Packing.{IsFollowed, IsPackFail, Judged, IsSaid, refused}
-use Rattle.pm_pack.specs.Packed.{IsStream, IsPacked}
-
--- A stream text has no fault, whatever follows.
-stream-fine : (text more : List ℕ) → IsStream text → stream_fault (text ++ more) ≡ None
-stream-fine text more s =
-    rw s.is.text (whole_text s.digits s.h more s.is.few s.is.shape)
+use Rattle.pm_pack.specs.Packed.{head, slots, at_first, IsStream, IsPacked, PackedTextsAreOfOne}
+use Rattle.pm_pack.specs.Unpacking.{IsFailOf, IsFail}
+use Rattle.pm_pack.proofs.UnpackLaws.{stream-fine, said-one, fail-unsaid}
 
 -- A fault that the bytes have already.
 already : (text : List ℕ) (e : FormatError) → HasFaultAlready text e → e ≢ faults.OutOfMemory
@@ -74,6 +73,26 @@ fail-no_stream bytes fails.Trailing f other s =
     let length_none : length f.rest ≡ 0 = ap length none in
     absurd (omega (arith, length_none, f.some))
 fail-no_stream bytes fails.OutOfMemory f other s = other refl
+
+-- What follows the head.
+head-one : (packed c d : List ℕ) → packed ≡ head ++ c → packed ≡ head ++ d → c ≡ d
+head-one packed c d ec ed = ap (drop 5) (sym ec ∙ ed)
+
+pub packed-of_one : PackedTextsAreOfOne
+packed-of_one packed s t ps pt =
+    let code = head-one packed ps.code pt.code ps.head pt.head in
+    said-one slots at_first ps.code s t ps.stream pt.stream ps.says (rw code pt.says)
+
+-- A packed text that was refused is that of no text.
+pub fail-no_packed : (packed text : List ℕ) (e : UnpackFail) → IsFail packed e
+    → e ≢ unpack.OutOfMemory → ¬ IsPacked packed text
+fail-no_packed packed text e f other p =
+    elim f [
+      | inl begins ↦ begins.1 p.code p.head
+      | inr (code, is, why) ↦
+          fail-unsaid slots at_first code text e other why p.stream
+          (rw (head-one packed code p.code is p.head) p.says)
+    ]
 
 -- What was judged of bytes of which a decoder took a part.
 pub judged-ok : (text : List ℕ) (t : Taken) (r : Result (Unit {0}) PackFail)

@@ -1,4 +1,7 @@
 pub mod GuessedLaws
 pub mod TextLaws
+pub mod StepLaws
 pub mod PackLaws
+pub mod UnpackLaws
 pub mod JudgeLaws
+pub mod EndLaws

@@ -5,3 +5,4 @@ pub mod Pasts
 pub mod Texts
 pub mod Packed
 pub mod Packing
+pub mod Unpacking

@@ -40,3 +40,7 @@ pub record IsPacked (packed text : List ℕ) : Type 0 where
   pub head : packed ≡ head ++ code
   pub stream : IsStream text
   pub says : Says slots at_first code (words_of text)
+
+-- A packed text is that of one text alone.
+abbrev pub PackedTextsAreOfOne : Type 0
+PackedTextsAreOfOne = (packed s t : List ℕ) → IsPacked packed s → IsPacked packed t → s ≡ t

@@ -4,11 +4,17 @@
 mod fields;
 mod next;
 mod past;
+mod reading;
 mod slots;
+#[cfg(test)]
+mod tests;
 mod text;
+mod theory;
 mod word;
 mod writing;
 
+pub use reading::{UnpackFail, unpack};
+pub use theory::packed_texts_are_sound;
 pub use writing::{PackFail, pack};
 
 /// The answer for want of memory.

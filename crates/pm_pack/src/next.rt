@@ -45,6 +45,7 @@ impl<P: Predictor + Drop> Known<P> {
             (word_choices P.Predictor self.old w) (C.coding coder.new)) }
         ensures known { IfOk result (λ w. self.new ≡ known_after P.Predictor self.old w) }
         ensures wanted { IfOk result (λ w. IsWriting (C.coding coder.old) → w ≡ wanted) }
+        ensures below { IfOk result (λ w. w < 4294967296) }
         ensures cut { IfErr result (λ e. e ≡ Fault.Cut → (w : ℕ) → w < 4294967296
             → ¬ Can (C.coding coder.old) (word_choices P.Predictor self.old w)) }
     {
