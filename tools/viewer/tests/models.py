@@ -5,7 +5,7 @@ import sys
 import unittest.mock
 from pathlib import Path
 
-from viewer import kept
+from viewer import kept, progress
 from viewer.colours import PLAIN, coloured_vertices, packed
 from viewer.hierarchy import mean_colours, nodes_of
 from viewer.main import model_kept, programs_of
@@ -188,3 +188,44 @@ class Colours(Case):
         grey = mean_colours(octahedron, bytes([10, 20, 30] * 6))
         self.assertEqual(set(grey or []), {(10, 20, 30)})
         self.assertEqual(max(octahedron.depths), 1)
+
+
+class Telling(Case):
+    """How far a model is, by a clock of the test's own."""
+
+    def test_what_is_left_is_reckoned_by_the_steps_before(self) -> None:
+        now = 0.0
+        with unittest.mock.patch.object(progress.time, "monotonic", lambda: now):
+            told = progress.Progress("a.obj")
+            told.begins("reading")
+            self.assertEqual((told.told()["share"], told.told()["left"]), (None, None))
+            told.faces = 1_000_000
+            now += 1.3
+            told.begins("building")
+            self.assertAlmostEqual(number(told.told()["left"]), 12.1, delta=0.1)
+            now += 5
+            self.assertAlmostEqual(number(told.told()["left"]), 7.1, delta=0.1)
+            early = number(told.told()["share"])
+            now += 21  # longer than was reckoned, so that nothing is said of what is left
+            self.assertIsNone(told.told()["left"])
+            late = number(told.told()["share"])
+            self.assertTrue(0.2 < early < late < 1)
+            told.begins("checking")  # which takes longer too, as what was before it
+            self.assertAlmostEqual(number(told.told()["left"]), 5.1, delta=0.1)
+
+    def test_a_program_that_is_built_says_nothing_of_speed(self) -> None:
+        now = 0.0
+        with unittest.mock.patch.object(progress.time, "monotonic", lambda: now):
+            told = progress.Progress("a.obj")
+            told.faces = 1_000_000
+            told.begins("reading")
+            told.waits()
+            now += 100
+            self.assertIsNone(told.told()["left"])
+            told.begins("building")
+            self.assertAlmostEqual(number(told.told()["left"]), 12.1, delta=0.1)
+
+
+def number(told: object) -> float:
+    assert isinstance(told, float)
+    return told
