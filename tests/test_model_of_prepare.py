@@ -69,7 +69,8 @@ class Preparing(unittest.TestCase):
         points = "v 0 0 0\nv 10 0 0\nv 0 10 0\nv 5 0 0\nv 7 0 0\n"
         done = answer("prepare", [], (points + "f 1 2 4\nf 4 2 5\nf 1 2 3\n").encode())
         self.assertIn(b"f 1 4 2\nf 4 5 2\nf 1 2 3\n", done.output)
-        self.assertEqual(done.error, "prepare: 2 faces flipped for consistent winding\nprepare: 2 faces of zero area\n")
+        flipped = "prepare: 2 faces flipped for consistent winding\n"
+        self.assertEqual(done.error, flipped + "prepare: 2 faces of zero area\n")
 
     def test_a_closed_surface_of_which_a_face_is_turned_looks_outward(self) -> None:
         points = "v 0 0 0\nv 10 0 0\nv 0 10 0\nv 0 0 10\n"

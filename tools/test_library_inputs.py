@@ -47,7 +47,8 @@ class Inputs(unittest.TestCase):
             corners = [[int(n) - 1 for n in row[1:]] for row in rows if row[:1] == ["f"]]
             for node in frame.nodes:
                 self.assertEqual(list(session.place(int(node))), places[told.by_node[node]])
-            flat = [int(n) for n in getattr(frame.corner_nodes, "ravel", lambda: frame.corner_nodes)()]
+            named = frame.corner_nodes
+            flat = [int(n) for n in getattr(named, "ravel", lambda: named)()]
             for at, face in enumerate(frame.faces):
                 shown = [int(told.by_node[node]) for node in flat[3 * at : 3 * at + 3]]
                 self.assertEqual(shown, corners[told.by_face[face]])

@@ -198,7 +198,8 @@ class Obj(WithFolder):
 
     def test_what_is_passed_over_is_counted(self) -> None:
         soup = self.read(b"o x\nvt 1 1\nvt 0 0\nusemtl y\n" + self.TEXT + b"odd 1\n")
-        wanted = {"group lines": 1, "texture coordinates": 2, "material lines": 1, "unknown lines": 1}
+        wanted = {"group lines": 1, "texture coordinates": 2, "material lines": 1,
+                  "unknown lines": 1}
         self.assertEqual(soup.passed, wanted)
 
     def test_faults_are_named_by_line(self) -> None:

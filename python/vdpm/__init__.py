@@ -34,5 +34,6 @@ from .session import Session
 from .shapes import Bounds, Change, Frame, Hit, Inputs, Level, Moved, Shape, Sizes, Strips
 
 __all__ = ["Bounds", "Camera", "Change", "Fault", "Frame", "Hit", "Inputs", "Level", "LineFault",
-           "Moved", "NO_VERTEX", "NotMesh", "NotOpen", "Prepared", "Session", "Shape", "Sizes", "StreamFault", "Strips",
-           "TextFault", "Version", "build", "camera", "prepare", "simplify", "version"]
+           "Moved", "NO_VERTEX", "NotMesh", "NotOpen", "Prepared", "Session", "Shape", "Sizes",
+           "StreamFault", "Strips", "TextFault", "Version", "build", "camera", "prepare",
+           "simplify", "version"]

@@ -283,8 +283,8 @@ class Session:
         with self._lock:
             nodes, by_node = room_for("I", self.sizes().nodes)
             none, nowhere = room_for("I", 0)
-            status = self._library.vdpm_inputs(self._viewer, by_node, len(nodes), nowhere, len(none),
-                                               count)
+            status = self._library.vdpm_inputs(self._viewer, by_node, len(nodes), nowhere,
+                                               len(none), count)
             if status != NO_ROOM:
                 check(status)
             faces, by_face = room_for("I", count.value)

@@ -14,6 +14,7 @@ REASONS = {
     12: "no face is left",
     13: "the first word is garbled",
 }
+TOO_MANY_OUT = "more than 1,048,576 vertices come out"
 # What is said of things that were passed over, by their kind: of one, and of more.
 PASSED = {
     "weights": ("weight", "weights"),

@@ -22,6 +22,7 @@ from .mesh import (
 from .notes import (
     APART,
     REASONS,
+    TOO_MANY_OUT,
     Note,
     of_faces,
     of_others,
@@ -396,6 +397,6 @@ def answer(words: List[str], data: bytes) -> Answer:
         if not made.mesh.faces:
             raise Fault(NO_FACES)
     except Fault as fault:
-        reason = "more than 1,048,576 vertices come out" if str(fault) == "9" else REASONS[fault.number]
+        reason = TOO_MANY_OUT if str(fault) == "9" else REASONS[fault.number]
         return Answer(1, b"", f"prepare: fault {fault} ({reason})\n")
     return Answer(0, head_line(made).encode() + canonical_text(made.mesh, 0), notes_text(made))

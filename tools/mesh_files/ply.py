@@ -13,8 +13,9 @@ _LETTERS = {
 _ORDERS = {"ascii": "", "binary_little_endian": "<", "binary_big_endian": ">"}
 _INDICES = ("vertex_indices", "vertex_index")
 _KINDS = {
-    "normals": "nx ny nz", "vertex colours": "red green blue alpha r g b a diffuse_red diffuse_green"
-    " diffuse_blue", "texture coordinates": "s t u v texture_u texture_v texcoord texnumber",
+    "normals": "nx ny nz",
+    "vertex colours": "red green blue alpha r g b a diffuse_red diffuse_green diffuse_blue",
+    "texture coordinates": "s t u v texture_u texture_v texcoord texnumber",
 }
 _KIND_OF = {name: kind for kind, names in _KINDS.items() for name in names.split()}
 _LONGEST_HEAD = 65_536

@@ -149,8 +149,8 @@ fn add_inexact(text: &mut Vec<u8>, n: u32) -> Result<(), AllocError>
     )
 }
 
-/// Adds what is said of polygons, of vertices that were rounded as they were read, of triangles that
-/// rounding to the grid made flat or turned over, and of what was passed over.
+/// Adds what is said of polygons, of vertices that were rounded as they were read, of triangles
+/// that rounding to the grid made flat or turned over, and of what was passed over.
 #[tactic(auto, unfolding(crate::specs::Texts::line_notes))]
 pub(crate) fn add_line_notes(text: &mut Vec<u8>, counts: Counts) -> Result<(), AllocError>
     ensures { OnOk result (text.new.items ≡ text.old.items ++ line_notes counts) }

@@ -58,7 +58,8 @@ class Files(Case):
         cases = [
             (stream[:100], "fault 22 byte 100", "copy the file again"),
             (stream + b"w\n", "fault 29", "The stream"),
-            (b"v 0 0 0\nv 1 0 0\nv 0 1 0\nf 1 2 9\n", "prepare: fault 7 line 4 (there is no such vertex)", "isn't read yet"),
+            (b"v 0 0 0\nv 1 0 0\nv 0 1 0\nf 1 2 9\n",
+             "prepare: fault 7 line 4 (there is no such vertex)", "isn't read yet"),
         ]
         for data, reason, cure in cases:
             with self.assertRaises(ProgramEnded) as caught:

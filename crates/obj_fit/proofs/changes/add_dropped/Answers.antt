@@ -5,4 +5,5 @@ use Rattle.obj_fit.proofs.changes.add_dropped.Goals as goal
 pub returns : goal.returns
 unfolding dropped_notes
 returns c =
-    added_three _ _ _ _ _ _ _ c.in_ok-add_note.ensures c.in_ok-add_note-2.ensures c.in_ok-add_note-3.ensures
+    added_three _ _ _ _ _ _ _ c.in_ok-add_note.ensures c.in_ok-add_note-2.ensures
+    c.in_ok-add_note-3.ensures

@@ -8,5 +8,6 @@ use Rattle.pm_paint.proofs.inputs.write_vertices.Given as goal
 abbrev pub invariant-loop-node : goal.invariant-loop-node
 invariant-loop-node l = record {
   len : length l.by_node ≡ node_count l.h;
-  front : take l.node l.by_node ≡ map (λ v. vertex_told (input_of_node l.h v)) (range_with_len 0 l.node);
+  front : take l.node l.by_node
+      ≡ map (λ v. vertex_told (input_of_node l.h v)) (range_with_len 0 l.node);
 }
