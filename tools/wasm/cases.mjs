@@ -8,13 +8,30 @@ import { readFileSync } from "node:fs";
 
 import { Fault, Vdpm } from "./vdpm.mjs";
 
+/**
+ * @typedef {{ output: Buffer, fault: (number | null)[] | string | null }} Came what came of a case
+ *
+ * @typedef {object} Told a case, its bytes in base 64
+ * @property {string} name
+ * @property {"open" | "build" | "simplify" | "prepare"} function
+ * @property {{ faces?: number, digits?: number, keepBorder?: boolean, size?: number,
+ *     budget?: number }} asked
+ * @property {number} length how long the stream before a script is
+ * @property {string} given
+ * @property {string | null} output
+ * @property {string | null} digest of the output, where it isn't stored
+ * @property {string | null} notes
+ * @property {Came["fault"]} fault
+ */
+
 const [moduleName, casesName] = process.argv.slice(2);
 const LF = 10, QUIT = "q";
 const vdpm = await Vdpm.load(readFileSync(moduleName));
 
-const bytesOf = (text) => Buffer.from(text, "base64");
+const bytesOf = (/** @type {string} */ text) => Buffer.from(text, "base64");
 
-// The lines of a script; what follows the last LF is one where there is something.
+/** The lines of a script; what follows the last LF is one where there is something.
+ * @param {Buffer} script @returns {Buffer[]} */
 function linesOf(script) {
   const lines = [];
   for (let at = 0; at < script.length;) {
@@ -25,7 +42,8 @@ function linesOf(script) {
   return lines;
 }
 
-// The replies of a script up to its end, its first fault or a line `q`.
+/** The replies of a script up to its end, its first fault or a line `q`.
+ * @param {import("./vdpm.mjs").Session} session @param {Buffer[]} lines @returns {Came} */
 function played(session, lines) {
   const replies = [];
   for (const [i, line] of lines.entries()) {
@@ -40,6 +58,7 @@ function played(session, lines) {
   return { output: Buffer.concat(replies), fault: null };
 }
 
+/** @param {Told} told @param {Buffer} given @returns {Came} */
 function done({ function: name, asked, length, notes }, given) {
   if (name === "open") {
     const session = vdpm.open(given.subarray(0, length), asked);
@@ -49,20 +68,21 @@ function done({ function: name, asked, length, notes }, given) {
       session.close();
     }
   }
-  const made = vdpm[name](given, asked);
-  if (name !== "prepare") return { output: Buffer.from(made), fault: null };
+  if (name !== "prepare") return { output: Buffer.from(vdpm[name](given, asked)), fault: null };
+  const made = vdpm.prepare(given, asked);
   const said = made.notes.map((line) => `${line}\n`).join("");
   const same = notes === null || Buffer.from(said).equals(bytesOf(notes));
   return { output: Buffer.from(made.text), fault: same ? null : "other notes" };
 }
 
-// What is wrong with what came of a case; null where nothing is.
+/** What is wrong with what came of a case; null where nothing is.
+ * @param {Told} told @returns {string | null} */
 function wrong(told) {
   let got;
   try {
     got = done(told, bytesOf(told.given));
   } catch (fault) {
-    if (!(fault instanceof Fault)) return `threw ${fault.stack}`;
+    if (!(fault instanceof Fault)) return `threw ${fault instanceof Error ? fault.stack : fault}`;
     got = { output: Buffer.alloc(0), fault: [fault.number, fault.place] };
   }
   if (JSON.stringify(got.fault) !== JSON.stringify(told.fault)) {

@@ -10,7 +10,15 @@ const text = readFileSync(new URL("octahedron.obj", EXAMPLES));
 const stream = readFileSync(new URL("octahedron.vdpm", EXAMPLES));
 const vdpm = await Vdpm.load(readFileSync(process.env.VDPM_WASM));
 
-// Does something with a session, which is closed then.
+/** @typedef {import("./vdpm.mjs").Session} Session */
+
+/**
+ * Does something with a session, which is closed then.
+ * @template T
+ * @param {(session: Session) => T} doing
+ * @param {{ budget?: number }} asked
+ * @returns {T}
+ */
 function within(doing, asked = {}) {
   const session = vdpm.open(stream, asked);
   try {
@@ -20,9 +28,11 @@ function within(doing, asked = {}) {
   }
 }
 
+/** @type {(word: string, numbers: Uint32Array, threes: Uint32Array | Int32Array) => string[]} */
 const rows = (word, numbers, threes) => [...numbers].map((number, i) =>
   `${word} ${number} ${threes.slice(3 * i, 3 * i + 3).join(" ")}`);
 
+/** @type {(frame: import("./session.mjs").Frame) => string} */
 const spelled = ({ nodes, places, faces, cornerNodes }) => [
   `frame ${nodes.length} ${faces.length}`, ...rows("v", nodes, places),
   ...rows("f", faces, cornerNodes), "end"].join("\n");
@@ -69,9 +79,9 @@ test("nodes know their records, and leaves the nodes that show them", () => with
   const { records, leaves, nodes, digits } = session.counts();
   for (let record = 0; record < records; record++) session.split(record);
   const shown = [...session.frame().nodes];
-  const all = (count) => [...Array(count).keys()];
+  const all = (/** @type {number} */ count) => [...Array(count).keys()];
   assert.deepEqual(all(leaves).map((leaf) => session.ancestor(leaf)).sort((a, b) => a - b), shown);
-  const split = all(nodes).map((node) => session.splitter(node)).filter((it) => it !== null);
+  const split = all(nodes).flatMap((node) => session.splitter(node) ?? []);
   assert.deepEqual(split.sort((a, b) => a - b), all(records));
   assert.equal(session.maker(0), null);
   assert.equal(session.place(shown[0]).length, 3);
@@ -81,7 +91,7 @@ test("nodes know their records, and leaves the nodes that show them", () => with
 
 test("a ray meets a face or none, and strips have all corners", () => within((session) => {
   assert.equal(session.pick([0, 0, 30000], [0, 0, 1]), null);
-  assert.equal(typeof session.pick([0, 0, 30000], [0, 0, -1]).face, "number");
+  assert.equal(typeof session.pick([0, 0, 30000], [0, 0, -1])?.face, "number");
   assert.ok(session.strips().flat().length > session.counts().shownFaces);
 }));
 
@@ -94,6 +104,7 @@ test("what is made opens, and a text may be a string", () => {
 });
 
 test("a fault tells the line of the programs", () => {
+  /** @type {(doing: () => void, message: string) => void} */
   const thrown = (doing, message) => assert.throws(doing, (fault) =>
     fault instanceof Fault && fault.message === message);
   thrown(() => vdpm.open(stream.subarray(0, 30)), "fault 22 byte 30");

@@ -132,7 +132,8 @@ export class Session {
    * @param {number} record */
   collapse(record) { return this.said(`c ${record}`); }
 
-  /** A view makes at most so many moves from here on. @param {number} moves */
+  /** A view makes at most so many moves from here on.
+   * @param {number} moves */
   budget(moves) { this.line(`b ${moves}`); }
 
   /** Marks the front, from which `glide` and `change` go. */
@@ -223,16 +224,20 @@ export class Session {
     });
   }
 
-  /** The record that splits a node; null for a node of one leaf. @param {number} node */
+  /** The record that splits a node; null for a node of one leaf.
+   * @param {number} node */
   splitter(node) { return this.record("vdpm_splitter", node); }
 
-  /** The record that made a node; null for a root. @param {number} node */
+  /** The record that made a node; null for a root.
+   * @param {number} node */
   maker(node) { return this.record("vdpm_maker", node); }
 
-  /** The active node that has a leaf below it. @param {number} leaf @returns {number} */
+  /** The active node that has a leaf below it.
+   * @param {number} leaf @returns {number} */
   ancestor(leaf) { return this.told("vdpm_ancestor", numberTo(MOST, leaf, "leaf")); }
 
-  /** The coordinates of a node. @param {number} node @returns {Int32Array} */
+  /** The coordinates of a node.
+   * @param {number} node @returns {Int32Array} */
   place(node) {
     const { memory, handle } = this;
     return memory.within([12], (at) => {

@@ -42,7 +42,7 @@ export class Vdpm {
    * The stream of an OBJ text, as `vdpm build FACES --digits DIGITS` makes it. Throws Fault where
    * the program refuses the text.
    * @param {Text} text
-   * @param {{ faces?: number, digits?: number }} [asked]
+   * @param {{ faces?: number, digits?: number }} asked
    * @returns {Uint8Array}
    */
   build(text, { faces = 0, digits = 0 } = {}) {
@@ -55,7 +55,7 @@ export class Vdpm {
    * The same as `simplify FACES --digits DIGITS` makes it, by finer costs; with `keepBorder` each
    * frame of the stream shows the border of the mesh.
    * @param {Text} text
-   * @param {{ faces?: number, digits?: number, keepBorder?: boolean }} [asked]
+   * @param {{ faces?: number, digits?: number, keepBorder?: boolean }} asked
    * @returns {Uint8Array}
    */
   simplify(text, { faces = 0, digits = 0, keepBorder = false } = {}) {
@@ -70,7 +70,7 @@ export class Vdpm {
    * says of it. With a size, from 1 to 32,767, the longest axis of the box goes from -size to size;
    * without one points that fit the grid stand as they are.
    * @param {Text} text
-   * @param {{ size?: number }} [asked]
+   * @param {{ size?: number }} asked
    * @returns {{ text: Uint8Array, notes: string[] }}
    */
   prepare(text, { size } = {}) {
@@ -83,7 +83,7 @@ export class Vdpm {
   /**
    * Shows a stream. A view makes at most `budget` moves.
    * @param {Uint8Array} stream
-   * @param {{ budget?: number }} [asked]
+   * @param {{ budget?: number }} asked
    * @returns {Session}
    */
   open(stream, { budget } = {}) {
