@@ -12,10 +12,12 @@ import subprocess
 import tempfile
 import unittest
 from pathlib import Path
-from typing import Dict, Iterable, Iterator, List, Optional, Tuple
+from typing import Dict, Iterable, List, Optional, Tuple
 
 from follow import Mesh, Three
-from tried_library import TOP, Asked, cases_of, compiled, runs_that_fail, take_library
+from tried_library import (
+    TOP, Asked, all_asked, compiled, flat, runs_that_fail, stream_length, take_library,
+)  # fmt: skip
 
 import vdpm
 from vdpm.library import NO_ROOM
@@ -32,25 +34,6 @@ def setUpModule() -> None:
 
 def tearDownModule() -> None:
     folder.cleanup()
-
-
-def stream_length(data: bytes) -> int:
-    """How many bytes of a whole stream the data begins with (docs/FORMATS.md)."""
-    def word(at: int) -> int:
-        return int.from_bytes(data[at : at + 4], "little")
-    at = 8 if word(4) == 1 else 12
-    _, roots, bases, records = (word(at + 4 * i) for i in range(4))
-    at += 16 + 20 * roots + 16 * bases
-    for _ in range(records):
-        at += 44 + 24 * bin(word(at + 40)).count("1")
-    return at
-
-
-def all_asked() -> Iterator[Asked]:
-    """The scripts of `view` and `live`."""
-    for asked in cases_of("vdpm", "view", "live"):
-        if len(asked.words) == 2 and asked.words[1].isdigit():
-            yield asked
 
 
 class Scripts(unittest.TestCase):
@@ -120,8 +103,7 @@ class Arrays(unittest.TestCase):
     def spelled(self, session: vdpm.Session) -> str:
         """The frame text, by the arrays."""
         frame = session.frame()
-        flat = [[int(n) for n in getattr(it, "ravel", lambda: it)()] for it in frame]
-        nodes, places, faces, corners, corner_nodes = flat
+        nodes, places, faces, corners, corner_nodes = map(flat, frame)
         self.assertEqual([nodes[at] for at in corners], corner_nodes)
         rows = [f"frame {len(nodes)} {len(faces)}"]
         rows += ["v {} {} {} {}".format(v, *places[3 * i : 3 * i + 3]) for i, v in enumerate(nodes)]
@@ -137,8 +119,8 @@ class Arrays(unittest.TestCase):
             shown = [int(n) for n in session.frame().nodes]
             self.assertEqual(sorted(session.ancestor(x) for x in range(sizes.leaves)), shown)
             self.assertTrue(all(session.splitter(node) is None for node in shown))
-            split = [node for node in range(sizes.nodes) if session.splitter(node) is not None]
-            records = sorted(session.splitter(node) for node in split)
+            splitters = [session.splitter(node) for node in range(sizes.nodes)]
+            records = sorted(record for record in splitters if record is not None)
             self.assertEqual(records, list(range(sizes.records)))
             with self.assertRaises(IndexError):
                 session.ancestor(sizes.leaves)
@@ -150,11 +132,6 @@ class Arrays(unittest.TestCase):
             status = session._library.vdpm_frame(session._viewer, room, 3, signed, 64, room, 64,
                                                  room, 64, room, 64)
             self.assertEqual((status, set(room)), (NO_ROOM, {7}))
-
-
-def flat(array: Iterable[int]) -> List[int]:
-    """The numbers of an array."""
-    return [int(n) for n in getattr(array, "ravel", lambda: array)()]
 
 
 def by_number(numbers: Iterable[int], threes: Iterable[int]) -> Dict[int, Three]:

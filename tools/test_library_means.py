@@ -10,9 +10,9 @@ import subprocess
 import tempfile
 import unittest
 from pathlib import Path
-from typing import Iterable, List
+from typing import List
 
-from tried_library import TOP, cases_of, compiled, runs_that_fail, take_library
+from tried_library import TOP, cases_of, compiled, flat, runs_that_fail, take_library
 
 import vdpm
 from model.stream import read_stream
@@ -28,11 +28,6 @@ def setUpModule() -> None:
 
 def tearDownModule() -> None:
     folder.cleanup()
-
-
-def flat(array: Iterable[int]) -> List[int]:
-    """The numbers of an array."""
-    return [int(n) for n in getattr(array, "ravel", lambda: array)()]
 
 
 def means_of(stream: bytes, values: List[int], channels: int) -> List[int]:

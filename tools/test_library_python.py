@@ -2,22 +2,12 @@
 
 The bytes and arrays that it answers are compared in test_library.py and test_library_making.py.
 """
-import contextlib
-import doctest
-import importlib.util
-import io
-import os
 import pydoc
-import subprocess
-import sys
-import tempfile
-import threading
 import unittest
 from fractions import Fraction
-from pathlib import Path
-from typing import Any, Callable, List, Set
+from typing import Any, Callable, Dict, List, Tuple
 
-from tried_library import TOP, take_library
+from tried_library import TOP, flat, take_library
 
 import vdpm
 from vdpm.fields import multiples, pixels, plane
@@ -29,10 +19,6 @@ EYE = (0, -60000, 40000)
 
 def setUpModule() -> None:
     take_library()
-
-
-def flat(numbers: Any) -> List[int]:
-    return [int(it) for it in getattr(numbers, "ravel", lambda: numbers)()]
 
 
 def torus() -> vdpm.Session:
@@ -63,7 +49,7 @@ class Views(unittest.TestCase):
         self.assertLess(len(self.shown(1, 0.5)), len(self.shown(1, 0)))
 
     def test_what_is_out_of_range_is_refused_in_its_own_words(self) -> None:
-        for told, numbers, more in (
+        refused: List[Tuple[str, Tuple[Any, ...], Dict[str, Any]]] = [
             ("eye has 16777216", ((16777216, 0, 0), 1, 1), {}),
             ("eye has 0.5, and stands on whole units", ((0.5, 0, 0), 1, 1), {}),
             ("eye has 2 numbers", ((0, 0), 1, 1), {}),
@@ -74,7 +60,8 @@ class Views(unittest.TestCase):
             ("7 planes", (EYE, 1, 2, [(1, 0, 0, 0)] * 7), {}),
             (r"planes\[1\] has 3 numbers", (EYE, 1, 2, [(1, 0, 0, 0), (1, 0, 0)]), {}),
             (r"planes\[0\]: told in whole numbers", (EYE, 1, 2, [(40000, 0, 0, 0)]), {}),
-        ):
+        ]
+        for told, numbers, more in refused:
             with self.subTest(told), torus() as session:
                 with self.assertRaisesRegex(ValueError, told):
                     session.view(*numbers, **more)
@@ -136,7 +123,8 @@ class Told(unittest.TestCase):
                 session.split(record)
             flats = flat(session.frame().places)
             axes = [flats[axis::3] for axis in range(3)]
-            self.assertEqual(bounds, (tuple(map(min, axes)), tuple(map(max, axes))))
+            low, high = tuple(min(axis) for axis in axes), tuple(max(axis) for axis in axes)
+            self.assertEqual(bounds, (low, high))
         with vdpm.Session(vdpm.build("", allow_empty=True)) as session:
             with self.assertRaisesRegex(ValueError, "no vertices"):
                 session.bounds()
@@ -177,7 +165,8 @@ class Told(unittest.TestCase):
 
 class NotTexts(unittest.TestCase):
     def assert_told(self, told: str, given: Any, *makers: Callable[[Any], Any]) -> None:
-        for make in makers or (vdpm.prepare, vdpm.build, vdpm.simplify):
+        each: Tuple[Callable[[Any], Any], ...] = (vdpm.prepare, vdpm.build, vdpm.simplify)
+        for make in makers or each:
             with self.subTest(told, maker=make.__name__):
                 with self.assertRaisesRegex(vdpm.NotMesh, told):
                     make(given)
@@ -212,110 +201,6 @@ class NotTexts(unittest.TestCase):
             vdpm.build("v 0 0 0\nf 1 2 3\n")
         self.assertNotIsInstance(raised.exception, vdpm.NotMesh)
         self.assertTrue(issubclass(vdpm.TextFault, vdpm.Fault))
-
-
-class Threads(unittest.TestCase):
-    def run_all(self, works: List[Callable[[], None]]) -> None:
-        failed: List[BaseException] = []
-
-        def work(it: Callable[[], None]) -> None:
-            try:
-                it()
-            except BaseException as fault:  # pylint: disable=broad-except
-                failed.append(fault)
-
-        threads = [threading.Thread(target=work, args=(it,)) for it in works]
-        for thread in threads:
-            thread.start()
-        for thread in threads:
-            thread.join()
-        self.assertEqual(failed, [])
-
-    def test_three_threads_have_one_session(self) -> None:
-        with torus() as session:
-            seen: Set[bytes] = set()
-
-            def look() -> None:
-                for turn in range(60):
-                    session.view(EYE, 900, 1 + turn % 7)
-                    frame = session.frame()
-                    self.assertEqual(len(flat(frame.places)), 3 * len(frame.nodes))
-                    self.assertLess(max(flat(frame.corners)), len(frame.nodes))
-                    self.assertTrue(session.line("w").endswith(b"end\n"))
-                    seen.add(session.line("l").split()[0])
-                    session.change()
-
-            self.run_all([look] * 3)
-            self.assertEqual(seen, {b"level"})
-
-    def test_sixteen_threads_have_a_session_each(self) -> None:
-        stream, frames = vdpm.simplify(TORUS), set()
-
-        def look() -> None:
-            with vdpm.Session(stream) as session:
-                for turn in range(20):
-                    session.view((0, -3000, 100 * turn), 900, 1 + turn % 7)
-                frames.add(session.line("w"))
-
-        self.run_all([look] * 16)
-        self.assertEqual(len(frames), 1)
-
-    def test_a_session_may_be_closed_meanwhile(self) -> None:
-        session = torus()
-
-        def look() -> None:
-            with contextlib.suppress(vdpm.NotOpen):
-                for _ in range(200):
-                    session.view(EYE, 900, 3)
-                    session.frame()
-
-        self.run_all([look, look, session.close])
-        with self.assertRaises(vdpm.NotOpen):
-            session.frame()
-
-
-class Package(unittest.TestCase):
-    def test_the_page_says_what_is_answered(self) -> None:
-        before = os.getcwd()
-        os.chdir(TOP)
-        try:
-            with contextlib.redirect_stdout(io.StringIO()) as said:
-                done = doctest.testfile(str(TOP / "docs/LIBRARY.md"), module_relative=False)
-        finally:
-            os.chdir(before)
-        self.assertEqual(done.failed, 0, said.getvalue())
-        self.assertGreater(done.attempted, 5)
-
-    def test_a_caller_is_clean_under_mypy(self) -> None:
-        if importlib.util.find_spec("mypy") is None:
-            print("LEFT OUT: the types of a caller: there is no mypy")
-            self.skipTest("there is no mypy")
-        path = {"MYPYPATH": str(TOP / "python")}
-        with tempfile.TemporaryDirectory(prefix="mypy-") as room:
-            words = [sys.executable, "-m", "mypy", "--strict", "--cache-dir", room]
-            words += [str(TOP / "tools/library_callers/typed.py"), str(TOP / "python/vdpm")]
-            if importlib.util.find_spec("numpy") is None:
-                words.append("--ignore-missing-imports")
-            done = subprocess.run(words, env={**os.environ, **path}, capture_output=True, text=True,
-                                  check=False)
-        self.assertEqual(done.returncode, 0, done.stdout)
-
-    @unittest.skipUnless(importlib.util.find_spec("ensurepip"), "there is no ensurepip")
-    def test_pip_installs_it_without_a_network(self) -> None:
-        settings = {key: value for key, value in os.environ.items()
-                    if key not in ("PYTHONPATH", "VDPM_LIBRARY")}
-        with tempfile.TemporaryDirectory(prefix="venv-") as room:
-            subprocess.run([sys.executable, "-m", "venv", room], check=True, env=settings)
-            python = f"{room}/bin/python"
-            words = [python, "-m", "pip", "install", "--quiet", "--no-index", "--no-cache-dir",
-                     "--disable-pip-version-check", str(TOP)]
-            subprocess.run(words, check=True, env=settings)
-            asked = ("import vdpm, sys; it = vdpm.version(); print(it.path.startswith(sys.prefix),"
-                     " it.proved, bool(it.sources), vdpm.simplify(sys.stdin.read())[:4])")
-            done = subprocess.run([python, "-c", asked], cwd=room, input=OBJ.read_bytes(),
-                                  capture_output=True, check=True, env=settings)
-            self.assertTrue(list(Path(room).rglob("vdpm/py.typed")))
-        self.assertRegex(done.stdout.decode(), r"^True (True|False) True b'VDPM'$")
 
 
 if __name__ == "__main__":

@@ -6,7 +6,7 @@ from pathlib import Path
 
 from fake_kit import MAKER, make_cargo, write
 from quick_start.cargo import TO_INSTALL
-from test_quick_start import SCRIPT, Ended, OverTestKit
+from tried_quick_start import SCRIPT, Ended, OverTestKit
 
 NOTICE = "not proved on this machine yet, run-time checks are on; cargo built it"
 TOOLS = ("bash", "sh", "cat", "dirname", "sha256sum", "find", "grep", "cp", "chmod", "mkdir")

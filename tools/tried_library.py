@@ -9,7 +9,7 @@ import subprocess
 import sys
 import unittest
 from pathlib import Path
-from typing import Iterator, List, NamedTuple, Optional, Sequence, Tuple
+from typing import Iterable, Iterator, List, NamedTuple, Optional, Sequence, Tuple
 
 TOP = Path(__file__).resolve().parent.parent
 sys.path[:0] = [str(TOP / "tools"), str(TOP / "tests"), str(TOP / "python")]
@@ -119,3 +119,29 @@ def cases_of(program: str, *commands: str) -> Iterator[Asked]:
         asked = asked_of(case)
         if asked is not None and len(asked.given) < LONGEST:
             yield asked
+
+
+def stream_length(data: bytes) -> int:
+    """How many bytes of a whole stream the data begins with (docs/FORMATS.md)."""
+
+    def word(at: int) -> int:
+        return int.from_bytes(data[at : at + 4], "little")
+
+    at = 8 if word(4) == 1 else 12
+    _, roots, bases, records = (word(at + 4 * i) for i in range(4))
+    at += 16 + 20 * roots + 16 * bases
+    for _ in range(records):
+        at += 44 + 24 * bin(word(at + 40)).count("1")
+    return at
+
+
+def all_asked() -> Iterator[Asked]:
+    """The scripts of `view` and `live`."""
+    for asked in cases_of("vdpm", "view", "live"):
+        if len(asked.words) == 2 and asked.words[1].isdigit():
+            yield asked
+
+
+def flat(array: Iterable[int]) -> List[int]:
+    """The numbers of an array."""
+    return [int(n) for n in getattr(array, "ravel", lambda: array)()]

@@ -11,8 +11,7 @@ from typing import Any, Dict, Iterator, Optional
 TOP = Path(__file__).resolve().parent.parent.parent
 sys.path.insert(0, str(TOP / "tools"))
 
-from test_library import stream_length  # noqa: E402
-from tried_library import Asked, cases_of  # noqa: E402
+from tried_library import Asked, cases_of, stream_length  # noqa: E402
 
 # Faults that aren't of a stream's own text or rules: lines, and the length of a script.
 OF_SCRIPT = (30, 31, 32)
