@@ -21,9 +21,9 @@ from typing import Callable, Iterator, List, NamedTuple, Tuple
 TOP = Path(__file__).resolve().parent.parent
 sys.path.insert(0, str(TOP / "tools"))
 
-from drawing import cross, dot, minus  # noqa: E402
 from frames import read_frames  # noqa: E402
 from mesh_files.reading import read_soup  # noqa: E402
+from vectors import cross, dot, minus  # noqa: E402
 
 ALL_MOVES = 4294967295
 FEW = 4  # triangles of a box that isn't parted any more
@@ -37,7 +37,7 @@ class Mesh(NamedTuple):
     faces: List[Tuple[int, int, int]]
 
     def triangles(self) -> List[Triangle]:
-        return [tuple(self.points[c] for c in face) for face in self.faces]
+        return [(self.points[a], self.points[b], self.points[c]) for a, b, c in self.faces]
 
 
 def read_obj(path: Path) -> Mesh:

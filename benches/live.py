@@ -17,6 +17,7 @@ import subprocess
 import sys
 import time
 from io import BufferedReader
+from itertools import chain
 from math import cos, pi, sin
 from pathlib import Path
 from typing import Iterator, List, NamedTuple, Tuple
@@ -24,16 +25,13 @@ from typing import Iterator, List, NamedTuple, Tuple
 TOP = Path(__file__).resolve().parent.parent
 sys.path.insert(0, str(TOP / "tools"))
 
-from drawing import axes, dot, minus, unit  # noqa: E402
+from flight import planes  # noqa: E402
 
 FOCAL = 1000
 WIDTH, HEIGHT = 1280, 800
 REACH = 30000  # about half of the width of a model that fills its grid
-LARGEST = 32767
 ALL_MOVES = 4294967295
 BLOCK = 1 << 20
-
-Place = Tuple[float, float, float]
 
 
 class Step(NamedTuple):
@@ -85,21 +83,6 @@ class Session:
         self.child.wait()
 
 
-def plane(normal: Place, eye: Place) -> List[int]:
-    whole = [round(LARGEST * c) for c in unit(normal)]
-    return [*whole, -dot(whole, eye)]
-
-
-def planes(eye: Place, at: Place) -> Iterator[int]:
-    """The four sides of the picture."""
-    right, up, towards = axes(minus(eye, at), (0, 0, 1))
-    for side, reach in ((right, WIDTH / 2), (up, HEIGHT / 2)):
-        for sign in (1, -1):
-            yield from plane(
-                tuple(sign * FOCAL * s - reach * t for s, t in zip(side, towards)), eye
-            )
-
-
 def orbit(step: int) -> str:
     angle = 2 * pi * step / 1200
     eye = (round(2 * REACH * cos(angle)), round(2 * REACH * sin(angle)), REACH)
@@ -110,7 +93,8 @@ def flight(step: int) -> str:
     part = step / 200
     eye = (round(REACH * (1.2 * part - 0.9)), round(REACH * (0.6 * part - 0.6)), REACH // 2)
     at = (eye[0] + REACH / 2, eye[1] + REACH / 4, -REACH / 4)
-    return " ".join(str(c) for c in (*eye, *planes(eye, at)))
+    picture = argparse.Namespace(at=at, up=(0, 0, 1), focal=FOCAL, width=WIDTH, height=HEIGHT)
+    return " ".join(str(c) for c in (*eye, *chain.from_iterable(planes(eye, picture))))
 
 
 def view_line(word: str, place: str, tolerance: int) -> str:

@@ -1,4 +1,5 @@
 """Tries the tools of this folder on stored replies: python3 tools/test_frames.py"""
+import argparse
 import subprocess
 import sys
 import tempfile
@@ -7,13 +8,14 @@ import xml.etree.ElementTree as xml
 from pathlib import Path
 from typing import Iterable, List, Set, Tuple
 
-from drawing import FarCamera, dot, minus, painted
+from drawing import FarCamera, painted
 from flight import LARGEST, planes
 from frames import FrameFault, all_frames, file_names, read_frames
 from frames_to_obj import coordinate, obj_lines
 from frames_to_svg import eyes_of
 from mesh_files.obj import read_lines
 from mesh_files.reading import polygons_of
+from vectors import dot, minus
 
 TOOLS = Path(__file__).resolve().parent
 TOP = TOOLS.parent
@@ -142,12 +144,11 @@ class Drawing(unittest.TestCase):
 
 
 class Flying(unittest.TestCase):
-    class Asked:
-        at, up, focal, width, height = (0, 0, 0), (0, 0, 1), 1000, 800, 600
+    ASKED = argparse.Namespace(at=(0, 0, 0), up=(0, 0, 1), focal=1000, width=800, height=600)
 
     def test_planes_have_the_picture_inside(self) -> None:
         eye = (-9000, -7000, 3000)
-        for a, b, c, d in planes(eye, self.Asked):
+        for a, b, c, d in planes(eye, self.ASKED):
             self.assertTrue(max(abs(a), abs(b), abs(c)) <= LARGEST and abs(d) <= 2**42)
             self.assertTrue(d > 0, "the place that is looked at is inside")
             self.assertEqual(dot((a, b, c), eye) + d, 0)

@@ -3,12 +3,12 @@ import json
 import math
 import struct
 from array import array
-from typing import Callable, Dict, Iterator, List, Sequence, Tuple
+from typing import Callable, Dict, Iterator, List, Sequence
+
+from vectors import Triple, Vector, cross, minus, unit
 
 from .shown import Grid, Level
 
-Vector = Tuple[float, float, float]
-_NOTHING: Vector = (0.0, 0.0, 0.0)
 # glTF 2.0: numbers of its constants.
 _FLOAT, _UNSIGNED, _VERTICES, _INDICES, _TRIANGLES = 5126, 5125, 34962, 34963, 4
 
@@ -37,16 +37,9 @@ def ply(level: Level) -> bytes:
     return text + points + b"".join(struct.pack("<B3i", 3, *face) for face in level.faces)
 
 
-def normal_of(a: Vector, b: Vector, c: Vector) -> Vector:
+def normal_of(a: Vector, b: Vector, c: Vector) -> Triple:
     """The normal of a triangle, twice as long as its area is large."""
-    p = [y - x for x, y in zip(a, b)]
-    q = [y - x for x, y in zip(a, c)]
-    return p[1] * q[2] - p[2] * q[1], p[2] * q[0] - p[0] * q[2], p[0] * q[1] - p[1] * q[0]
-
-
-def unit(v: Vector) -> Vector:
-    length = math.sqrt(sum(c * c for c in v))
-    return (v[0] / length, v[1] / length, v[2] / length) if length else _NOTHING
+    return cross(minus(b, a), minus(c, a))
 
 
 def stl(level: Level) -> bytes:
@@ -58,7 +51,7 @@ def stl(level: Level) -> bytes:
     return b"".join(parts)
 
 
-def normals(points: Sequence[Vector], faces: Sequence[Sequence[int]]) -> Iterator[Vector]:
+def normals(points: Sequence[Vector], faces: Sequence[Sequence[int]]) -> Iterator[Triple]:
     """The normal at each vertex: those of its faces together, the larger with more weight. Where
     they come to nothing, one that looks up."""
     sums = [[0.0, 0.0, 0.0] for _ in points]
@@ -101,6 +94,11 @@ def _document(level: Level, points: Sequence[Vector], data: Sequence[bytes]) -> 
     }
     vertices: Dict[str, object] = {"componentType": _FLOAT, "count": len(points), "type": "VEC3"}
     corners = {"componentType": _UNSIGNED, "count": 3 * len(level.faces), "type": "SCALAR"}
+    accessors: List[Dict[str, object]] = [
+        {"bufferView": 0, **vertices, **box},
+        {"bufferView": 1, **vertices},
+        {"bufferView": 2, **corners},
+    ]
     return {
         "asset": {"version": "2.0", "generator": "vdpm"},
         "scene": 0,
@@ -109,11 +107,7 @@ def _document(level: Level, points: Sequence[Vector], data: Sequence[bytes]) -> 
         "meshes": [{"primitives": [{
             "attributes": {"POSITION": 0, "NORMAL": 1}, "indices": 2, "mode": _TRIANGLES,
         }]}],
-        "accessors": [
-            {"bufferView": 0, **vertices, **box},
-            {"bufferView": 1, **vertices},
-            {"bufferView": 2, **corners},
-        ],
+        "accessors": accessors,
         "bufferViews": [
             {"buffer": 0, "byteOffset": start, "byteLength": len(part), "target": target}
             for start, part, target in zip(starts, data, targets)
