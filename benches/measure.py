@@ -45,7 +45,8 @@ def run_once(program: str, words: List[str], source: Path, target: Path) -> Cost
     with open(source, "rb") as given, open(target, "wb") as put:
         process = subprocess.Popen([program, *words], stdin=given, stdout=put, stderr=quiet)
         _, status, usage = os.wait4(process.pid, 0)
-        process.returncode = os.waitstatus_to_exitcode(status)
+        stopped = os.WIFSIGNALED(status)
+        process.returncode = -os.WTERMSIG(status) if stopped else os.WEXITSTATUS(status)
     seconds = usage.ru_utime + usage.ru_stime
     return Cost(process.returncode, seconds, usage.ru_maxrss / 1024)
 

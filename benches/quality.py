@@ -33,7 +33,7 @@ TOP = HERE.parent
 PEERS = HERE / "peers"
 DEBIAN_PYTHON = "/usr/bin/python3"  # the one that sees the packages of Debian
 MODELS = ["sphere:71", "block:50", "towers:100", "terrain:100"]
-NOTHING = "/dev/null"
+NOTHING = Path("/dev/null")
 
 
 class Peer(NamedTuple):
@@ -119,7 +119,7 @@ def commands(room: Path, asked: argparse.Namespace) -> Dict[str, List[str]]:
     return found
 
 
-def cost_of(words: List[str], source: str, target: Path, runs: int) -> Cost:
+def cost_of(words: List[str], source: Path, target: Path, runs: int) -> Cost:
     """The least seconds and the greatest peak of so many runs."""
     seconds, memory = [], []
     for _ in range(runs):
@@ -136,7 +136,7 @@ def base_mesh(vdpm: Path, stream: Path) -> Path:
     script = stream.with_suffix(".script")
     written(script, lambda: stream.read_bytes() + b"w\nq\n")
     draw = [sys.executable, str(TOP / "tools" / "frames_to_obj.py"), str(stream)]
-    look = [vdpm, "view", "0"]
+    look = [str(vdpm), "view", "0"]
     with open(script, "rb") as given:
         with subprocess.Popen(look, stdin=given, stdout=subprocess.PIPE) as view:
             subprocess.run(draw, stdin=view.stdout, stdout=subprocess.DEVNULL, check=True)
@@ -151,7 +151,7 @@ def made_by(
     """The mesh simplified to so many faces."""
     target = obj.with_name(f"{obj.stem}.{name}.{faces}")
     if name in OURS:
-        cost = cost_of([*words, str(faces)], str(obj), target, asked.runs)
+        cost = cost_of([*words, str(faces)], obj, target, asked.runs)
         return Made(base_mesh(asked.vdpm, target), cost)
     return Made(target, cost_of([*words, str(obj), str(faces)], NOTHING, target, asked.runs))
 

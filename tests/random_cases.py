@@ -147,7 +147,7 @@ KINDS: List[Tuple[Callable[[Random], Case], int]] = [
 
 def random_case(seed: int, number: int) -> Case:
     rng = Random(f"{seed} {number}")
-    kinds, weights = zip(*KINDS)
+    kinds, weights = [kind for kind, _ in KINDS], [weight for _, weight in KINDS]
     [kind] = rng.choices(kinds, weights)
     return kind(rng)
 

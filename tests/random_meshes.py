@@ -4,7 +4,7 @@ A surface is a list of faces over vertex numbers; points are laid on it afterwar
 crowded and far-flung ones all come. All chance comes from the generator that is handed in.
 """
 from random import Random
-from typing import Callable, List, Tuple
+from typing import Callable, Dict, List, Tuple
 
 from model.mesh import GREATEST_COORDINATE, Corners, Mesh, Point, first_broken, is_oriented_manifold
 
@@ -54,7 +54,8 @@ def chain(count: int) -> Faces:
 
 def refined(faces: Faces) -> Faces:
     """Each face cut into four by the middles of its sides."""
-    middle, count = {}, 1 + max((corner for face in faces for corner in face), default=-1)
+    middle: Dict[Tuple[int, ...], int] = {}
+    count = 1 + max((corner for face in faces for corner in face), default=-1)
     finer = []
     for face in faces:
         sides = [tuple(sorted((face[i], face[(i + 1) % 3]))) for i in range(3)]

@@ -115,8 +115,8 @@ class Building(unittest.TestCase):
 
     def test_ties_go_by_the_numbers_of_the_pair(self) -> None:
         points = [(c, r, 0) for r in range(3) for c in range(3)]
-        corners = ["125", "154", "236", "265", "458", "487", "569", "598"]
-        faces = [tuple(int(digit) - 1 for digit in face) for face in corners]
+        faces = [(0, 1, 4), (0, 4, 3), (1, 2, 5), (1, 5, 4)]
+        faces += [(a + 3, b + 3, c + 3) for a, b, c in faces]
         log = run_to(Mesh(points, faces), 0)
         pairs = [(0, 1), (2, 5), (3, 4), (6, 7), (8, 10), (9, 11)]
         self.assertEqual([(entry.t, entry.u) for entry in log], pairs)

@@ -1,9 +1,10 @@
 """Tries the runner of the wrong bodies over a kit that only says it: tests/test_wrong_bodies.py"""
+import contextlib
 import os
-import sys
 import tempfile
 import unittest
 from pathlib import Path
+from typing import List
 from unittest import mock
 
 import wrong
@@ -111,16 +112,14 @@ class Runs(unittest.TestCase):
         self.put("said", SAID)
         self.put("bin/rt", KIT.format(room=self.room)).chmod(0o755)
         settings = {"TOP": self.top, "LIST": self.list, "RECORD": self.top / "docs/wrong.txt"}
+        patches = contextlib.ExitStack()
+        self.addCleanup(patches.close)
         for name, value in settings.items():
-            self.start(mock.patch.object(wrong, name, value))
+            patches.enter_context(mock.patch.object(wrong, name, value))
         path = f"{self.room}/bin:{os.environ['PATH']}"
-        self.start(mock.patch.dict(os.environ, {"PATH": path}))
-        self.start(mock.patch("builtins.print", self.keep))
-        self.told: "list[str]" = []
-
-    def start(self, patch: "mock._patch") -> None:  # type: ignore
-        patch.start()
-        self.addCleanup(patch.stop)
+        patches.enter_context(mock.patch.dict(os.environ, {"PATH": path}))
+        patches.enter_context(mock.patch("builtins.print", self.keep))
+        self.told: List[str] = []
 
     def put(self, name: str, text: str) -> Path:
         path = self.room / name
@@ -172,4 +171,4 @@ class Runs(unittest.TestCase):
 
 
 if __name__ == "__main__":
-    sys.exit(unittest.main())
+    unittest.main()

@@ -1,7 +1,7 @@
 """Worked values for the tests of the model: small meshes, their streams and frames as they were
 found by hand, and calls that take an answer apart."""
 import struct
-from typing import List, Sequence
+from typing import List, Sequence, Tuple
 
 from model import answer
 from model.hierarchy import Hierarchy, hierarchy_of_run
@@ -167,8 +167,13 @@ def chain_hierarchy(count: int) -> Hierarchy:
     return hierarchy_of_run(mesh, log)
 
 
+def three(fields: List[str]) -> Tuple[int, int, int]:
+    a, b, c = map(int, fields)
+    return a, b, c
+
+
 def octahedron() -> Mesh:
     lines = [line.split() for line in OCTAHEDRON.decode().splitlines()]
-    points = [tuple(map(int, fields)) for word, *fields in lines if word == "v"]
-    faces = [tuple(int(corner) - 1 for corner in fields) for word, *fields in lines if word == "f"]
-    return Mesh(points, faces)
+    points = [three(fields) for word, *fields in lines if word == "v"]
+    faces = [three(fields) for word, *fields in lines if word == "f"]
+    return Mesh(points, [(a - 1, b - 1, c - 1) for a, b, c in faces])

@@ -111,7 +111,8 @@ def batches(bodies: Sequence[Body]) -> List[List[Body]]:
         fits = (g for g in groups if all(other.function != body.function for other in g))
         group = next(fits, None)
         if group is None:
-            groups.append(group := [])
+            group = []
+            groups.append(group)
         group.append(body)
     return groups
 

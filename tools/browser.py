@@ -210,7 +210,7 @@ class Browser:
         self, start: Tuple[int, int], end: Tuple[int, int], button: str = "left",
         shift: bool = False,
     ) -> None:
-        held = {"button": button, "modifiers": SHIFT if shift else 0}
+        held: Dict[str, Any] = {"button": button, "modifiers": SHIFT if shift else 0}
         self.mouse("mousePressed", *start, clickCount=1, **held)
         for step in range(1, 5):
             x, y = (a + (b - a) * step / 4 for a, b in zip(start, end))

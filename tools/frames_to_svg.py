@@ -67,8 +67,8 @@ def arguments() -> argparse.Namespace:
     parser = argparse.ArgumentParser(description=told)
 
     def place(name: str, told: str, **settings: Any) -> None:
-        shape = {"type": float, "nargs": 3, "metavar": ("X", "Y", "Z")}
-        parser.add_argument(name, help=told, **shape, **settings)
+        of_each = ("X", "Y", "Z")
+        parser.add_argument(name, help=told, type=float, nargs=3, metavar=of_each, **settings)
 
     parser.add_argument("name", help="where to write: NAME-1.svg and so on")
     place("--from", "the direction of the eye", dest="towards", default=(1, -2, 1))

@@ -28,7 +28,7 @@ class OverClone(unittest.TestCase):
         self.home.mkdir()
         self.environment = {**os.environ, "HOME": str(self.home)}
 
-    def start(self, *words: str) -> subprocess.Popen:
+    def start(self, *words: str) -> "subprocess.Popen[str]":
         with open(self.top / "examples/octahedron.view", "rb") as given:
             return subprocess.Popen([self.top / words[0], *words[1:]], cwd=self.top, stdin=given,
                                     stdout=subprocess.PIPE, stderr=subprocess.PIPE, text=True,

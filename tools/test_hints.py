@@ -12,7 +12,9 @@ SCRIPT = (
 )
 
 
-def said(name: str, given: bytes, *words: str, pipe: bool = False) -> "subprocess.CompletedProcess":
+def said(
+    name: str, given: bytes, *words: str, pipe: bool = False
+) -> "subprocess.CompletedProcess[bytes]":
     command = ["bash", "-c", f"name={name}; top={TOP}; {SCRIPT}", name, *words]
     if pipe:
         return subprocess.run(command, input=given, capture_output=True, check=False)

@@ -137,7 +137,7 @@ class Installed(InRoom):
     def test_cmake_refuses_another_major_version(self) -> None:
         (self.room / "CMakeLists.txt").write_text(PROJECT.replace("@VERSION@", "99.0"),
                                                   encoding="ascii")
-        words = ["cmake", "-S", self.room, "-B", self.room / "work",
+        words = ["cmake", "-S", str(self.room), "-B", str(self.room / "work"),
                  f"-DCMAKE_PREFIX_PATH={self.prefix}"]
         done = subprocess.run(words, capture_output=True, check=False)
         self.assertNotEqual(done.returncode, 0)

@@ -10,7 +10,7 @@ import subprocess
 import tempfile
 import unittest
 from pathlib import Path
-from typing import Any, Dict, List
+from typing import Any, Dict, List, Optional
 
 from tried_library import TOP, Asked, cases_of, compiled, runs_that_fail, take_library
 
@@ -41,6 +41,10 @@ def asked_for(words: List[str]) -> Dict[str, Any]:
         else:
             told["faces"] = int(word)
     return told
+
+
+def text_prepared(text: bytes, size: Optional[int]) -> bytes:
+    return vdpm.prepare(text, size).text
 
 
 class Made(unittest.TestCase):
@@ -81,13 +85,13 @@ class Made(unittest.TestCase):
         for asked in cases_of("prepare"):
             if len(asked.words) > 1 or not all(it.isdigit() for it in asked.words):
                 continue
-            told = {"size": int(it) for it in asked.words}
-            if not all(1 <= it <= 32767 for it in told.values()):
+            size = int(asked.words[0]) if asked.words else None
+            if size is not None and not 1 <= size <= 32767:
                 continue
             with self.subTest(asked.name):
-                self.made_as_told(asked, lambda text, **told: vdpm.prepare(text, **told).text, told)
+                self.made_as_told(asked, text_prepared, {"size": size})
                 if asked.fault is None:
-                    notes = vdpm.prepare(asked.given, **told).notes
+                    notes = vdpm.prepare(asked.given, size).notes
                     self.assertEqual("".join(f"{it}\n" for it in notes).encode(), asked.errors)
             tried += 1
         self.assertGreater(tried, 30)
@@ -101,9 +105,9 @@ class Made(unittest.TestCase):
         for size in (0, -1, 32768):
             with self.subTest(size), self.assertRaises(ValueError):
                 vdpm.prepare(OCTAHEDRON.read_bytes(), size)
-        for told in ({"digits": 5}, {"digits": -1}, {"faces": -1}, {"faces": 2 ** 32}):
-            with self.subTest(told), self.assertRaises(ValueError):
-                vdpm.build(OCTAHEDRON.read_bytes(), **told)
+        for faces, digits in ((0, 5), (0, -1), (-1, 0), (2 ** 32, 0)):
+            with self.subTest(faces=faces, digits=digits), self.assertRaises(ValueError):
+                vdpm.build(OCTAHEDRON.read_bytes(), faces, digits)
 
 
 class Handles(unittest.TestCase):

@@ -55,7 +55,7 @@ class GivenBack(unittest.TestCase):
 
         def shown(closes: bool) -> bool:
             viewer, place = Handle(None, 0), ctypes.c_uint64()
-            status = library.vdpm_open(stream, len(stream), 0, viewer, place)
+            status: int = library.vdpm_open(stream, len(stream), 0, viewer, place)
             if closes:
                 library.vdpm_close(viewer)
             return status == DONE
@@ -68,7 +68,7 @@ class GivenBack(unittest.TestCase):
 
         def made(closes: bool) -> bool:
             handle, fault = Handle(None, 0), Told()
-            status = library.vdpm_prepare(text, len(text), 0, handle, fault)
+            status: int = library.vdpm_prepare(text, len(text), 0, handle, fault)
             if closes:
                 library.vdpm_made_close(handle)
             return status == DONE

@@ -1,5 +1,6 @@
 """Tries the making of releases, by a cargo that makes nothing: python3 tools/test_release.py"""
 import base64
+import contextlib
 import hashlib
 import io
 import os
@@ -120,11 +121,11 @@ class Building(unittest.TestCase):
         cargo.write_text(CARGO, encoding="ascii")
         cargo.chmod(0o755)
         path = f"{cargo.parent}:{os.environ['PATH']}"
-        for patch in (mock.patch.dict(os.environ, {"PATH": path}),
-                      mock.patch.object(building, "has_musl", return_value=False),
-                      mock.patch.object(building, "archive_of", lambda code, room: code[0])):
-            patch.start()
-            self.addCleanup(patch.stop)
+        patches = contextlib.ExitStack()
+        self.addCleanup(patches.close)
+        patches.enter_context(mock.patch.dict(os.environ, {"PATH": path}))
+        patches.enter_context(mock.patch.object(building, "has_musl", return_value=False))
+        patches.enter_context(mock.patch.object(building, "archive_of", lambda code, _: code[0]))
 
     def test_programs_are_static_and_the_library_is_linked_with_a_glibc(self) -> None:
         (self.top / "old").mkdir()

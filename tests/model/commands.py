@@ -1,6 +1,6 @@
 """What each command of `vdpm` answers, and `simplify`, by its words and its input."""
 import re
-from typing import List, Optional, Type
+from typing import List, Optional, Set, Type
 
 from .faults import Answer, Fault, failed, not_understood
 from .fine import FINE
@@ -89,7 +89,8 @@ def view_lines(h: Hierarchy, n: int) -> List[str]:
     """The middle view, the corner view and the middle view again, from the front before."""
     middle = View((50 * n, 50 * n, 2000), 1000, 40, 40, [])
     corner = View((0, 0, 500), 1000, 20, 20, [((1, 0, 0), -50 * n)])
-    split, lines = set(), []
+    split: Set[int] = set()
+    lines = []
     for i, one in enumerate((middle, corner, middle)):
         moves = plan(split, target_of(h, one))
         split = after(split, moves)

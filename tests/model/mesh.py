@@ -4,7 +4,7 @@ A face is its three corners, which are vertex numbers from 0. Side i of face f r
 the next corner and has the number 3 f + i.
 """
 from math import isqrt
-from typing import Dict, List, NamedTuple, Optional, Tuple
+from typing import Dict, List, NamedTuple, Optional, Set, Tuple
 
 Point = Tuple[int, int, int]
 Corners = Tuple[int, int, int]
@@ -80,7 +80,7 @@ def twins(faces: Faces) -> Dict[int, int]:
 
 def first_repeating(faces: List[Corners]) -> Optional[int]:
     """The least face with a directed side that an earlier face has."""
-    seen = set()
+    seen: Set[Tuple[int, int]] = set()
     for face, (a, b, c) in enumerate(faces):
         own = {(a, b), (b, c), (c, a)}
         if own & seen:

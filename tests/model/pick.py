@@ -15,7 +15,9 @@ def weights(a: Point, b: Point, c: Point, met: Tuple[Fraction, ...]) -> List[Fra
     """The parts of the corners in a place of the face's plane. Their sum is 1."""
     n = normal(a, b, c)
     rims = [(b, c), (c, a), (a, b)]
-    return [Fraction(dot(n, cross(minus(p, met), minus(q, met)))) / dot(n, n) for p, q in rims]
+    # (these take fractions as they take whole numbers)
+    sums = [dot(n, cross(minus(p, met), minus(q, met))) for p, q in rims]  # type: ignore[arg-type]
+    return [Fraction(sum) / dot(n, n) for sum in sums]
 
 
 def hits_of(h: Hierarchy, ray: Ray) -> List[Tuple[Fraction, int, int, int]]:

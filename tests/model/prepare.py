@@ -184,7 +184,7 @@ def volume(faces: List[Corners], places: Dict[int, Point]) -> int:
 def area(face: Corners, places: Dict[int, Point]) -> int:
     """Twice the areas of what a face shows along the three axes, added up."""
     a, b, c = [places[v] for v in face]
-    return sum(map(abs, normal(a, b, c)))
+    return sum(abs(n) for n in normal(a, b, c))
 
 
 class Turning(NamedTuple):
@@ -231,7 +231,7 @@ def turned(faces: List[Corners], flags: List[bool]) -> List[Corners]:
     return [(a, c, b) if flag else (a, b, c) for (a, b, c), flag in zip(faces, flags)]
 
 
-def runs(faces: Faces) -> "Counter[Tuple[int, int]]":
+def runs(faces: Faces) -> Dict[Tuple[int, int], int]:
     """How many sides run from one vertex to another."""
     return Counter(ends(faces, side) for side in sides(faces))
 

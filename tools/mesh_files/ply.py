@@ -1,6 +1,7 @@
 """Reads PLY 1.0: ascii, and binary of both orders of bytes."""
 import re
 import struct
+from dataclasses import dataclass
 from typing import BinaryIO, Iterator, List, NamedTuple, Optional, Tuple, Union
 
 from .soup import MeshFault, Soup, finite
@@ -28,7 +29,8 @@ class Property(NamedTuple):
     counter: str = ""  # of the count before a list
 
 
-class Element(NamedTuple):
+@dataclass(frozen=True)
+class Element:
     name: str
     count: int
     properties: List[Property]
@@ -120,7 +122,14 @@ def _judge(elements: List[Element]) -> None:
 Row = List[Union[Number, Tuple[Number, ...]]]
 
 
-class _Text:
+class _Rows:
+    """The rows of an element, each with its place in the file."""
+
+    def rows(self, element: Element) -> Iterator[Tuple[str, Row]]:
+        raise NotImplementedError
+
+
+class _Text(_Rows):
     """Rows of an ascii file, an element a line."""
 
     def __init__(self, file: BinaryIO, lines: int) -> None:
@@ -187,7 +196,7 @@ def _number(field: bytes, letter: str) -> Number:
     return float(field)
 
 
-class _Binary:
+class _Binary(_Rows):
     """Rows of a binary file of so many bytes."""
 
     def __init__(self, file: BinaryIO, order: str, size: int) -> None:
@@ -215,7 +224,7 @@ class _Binary:
     def _row(self, element: Element, k: int) -> Row:
         row: Row = []
         for one in element.properties:
-            count = 1
+            count: Number = 1
             if one.counter:
                 (count,) = self._numbers(one.counter, 1, element, k)
                 if count < 0:

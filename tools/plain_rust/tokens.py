@@ -146,7 +146,8 @@ def after_angles(tokens: Tokens, at: int) -> int:
 
 def split(tokens: Tokens, mark: str) -> Iterator[List[Token]]:
     """The parts between these marks that stand in no bracket; none that is empty."""
-    depth, part = 0, []
+    depth = 0
+    part: List[Token] = []
     for token in tokens:
         if token.kind == "mark":
             depth += (token.text in OPENING or token.text == "<")

@@ -21,6 +21,7 @@ from pathlib import Path
 from typing import IO, Dict, Generator, Iterator, List, Optional, Sequence, TextIO, Tuple
 
 from . import library
+from .joining import stop_without_tools
 from .kit import Kit, find_kit
 from .progress import Watch, open_crate, open_goals
 from .record import is_current, path_of, read_record, write_record
@@ -95,6 +96,7 @@ def ran(words: List[str], folder: Path,
     """The lines that a command of `rt` prints, each put in the log too, and then its status."""
     with subprocess.Popen(words, cwd=folder, stdin=subprocess.DEVNULL, stdout=subprocess.PIPE,
                           stderr=subprocess.STDOUT, text=True, errors="replace") as process:
+        assert process.stdout is not None
         try:
             for line in lines_of(process.stdout):
                 if line is not None:
@@ -111,7 +113,8 @@ def ran(words: List[str], folder: Path,
 
 def whole_run(words: List[str], folder: Path, log: TextIO) -> Tuple[int, List[str]]:
     """The status of a command of `rt`, and the lines that it printed."""
-    running, lines = ran(words, folder, log), []
+    running = ran(words, folder, log)
+    lines: List[str] = []
     while True:
         try:
             line = next(running)
@@ -226,7 +229,7 @@ def prove(top: Path, names: Sequence[str]) -> bool:
     """Proves and builds these, or all programs, and returns whether that was done."""
     kit, rows = find_kit(), crate_rows(top)
     if LIBRARY in names:
-        library.stop_without_tools()
+        stop_without_tools()
     with opened_log(top) as log:
         named = [Program(top, name) for name in dict.fromkeys(names or PROGRAMS)]
         programs = [program for program in named if not is_done(program, kit)]

@@ -57,9 +57,10 @@ def commit_of(top: Path) -> str:
     """The commit that is checked out, and whether the sources differ from it."""
 
     def git(*words: str) -> str:
-        quiet = {"stdin": subprocess.DEVNULL, "stderr": subprocess.DEVNULL}
-        return subprocess.run(["git", *words], cwd=top, stdout=subprocess.PIPE, text=True,
-                              check=True, **quiet).stdout.strip()
+        quiet = subprocess.DEVNULL
+        done = subprocess.run(["git", *words], cwd=top, stdin=quiet, stdout=subprocess.PIPE,
+                              stderr=quiet, text=True, check=True)
+        return done.stdout.strip()
 
     try:
         head = git("rev-parse", "--short=12", "HEAD")
