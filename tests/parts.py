@@ -9,6 +9,8 @@
                 library's tests
     documents   names, links and length of all pages, by tests/pages.py, the width of all lines, by
                 tests/widths.py, and the commands that pages print, by tools/try_document.py
+    lint        the style and types of the Python and of the modules for browsers, by tests/lint.py,
+                as far as flake8, mypy and tsc are installed
 
 `./test wrong [CRATE..]` tries the wrong bodies of tests/wrong_bodies instead, by tests/wrong.py: it
 takes hours, so that it is no part of the others.
@@ -211,11 +213,17 @@ def with_path(line: str, given: Dict[str, Path]) -> str:
     return line
 
 
+def lint(given: Dict[str, Path], room: Path) -> Count:
+    run = ran([sys.executable, "tests/lint.py"])
+    left_out = tuple(re.findall(r"^LEFT OUT: (.*)", run.text, re.MULTILINE))
+    return counted(run, LAST_LINE).plus(Count(0, 0, left_out))
+
+
 # What a part does with the programs that were proved, by name, and a folder for its files.
 Part = Callable[[Dict[str, Path], Path], Count]
 PARTS: Dict[str, Part] = {
     "proofs": proofs, "rows": rows, "tools": tools, "random": random, "rust": rust,
-    "documents": documents,
+    "documents": documents, "lint": lint,
 }  # fmt: skip
 
 

@@ -47,9 +47,9 @@ class Counting(unittest.TestCase):
 
 
 class Rust(unittest.TestCase):
-    def told(self, answers: List[Run], cargo: Optional[str] = "/bin/cargo") -> Tuple[Count, List]:
+    def told(self, answers: List[Run], cargo: Optional[str] = "/bin/cargo") -> Tuple[Count, List[List[str]]]:
         """What the part counts where its commands end so, and those commands."""
-        with mock.patch.object(parts.shutil, "which", return_value=cargo):
+        with mock.patch("shutil.which", return_value=cargo):
             with mock.patch.object(parts, "ran", side_effect=answers) as ran:
                 count = parts.rust({}, Path("/r"))
         return count, [call.args[0] for call in ran.call_args_list]
