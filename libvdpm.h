@@ -18,7 +18,7 @@
  * or made it, if a lock or a join orders their calls. Different ones are independent, each on any
  * thread. No function is called from a signal handler.
  *
- * Memory comes from malloc and goes back to free. Nothing aborts: want of memory is the answer
+ * Memory comes from malloc and goes back to free. Nothing aborts: out of memory is the answer
  * VDPM_NO_MEMORY. That doesn't hold of the stack: a thread that calls has 128 KB, whatever the size
  * of the mesh; with less it may end by SIGSEGV.
  *
@@ -50,7 +50,7 @@ enum {
     VDPM_DONE = 0,
     VDPM_FAULTY = 1,       /* the text has a fault, which is told beside the answer */
     VDPM_OUT_OF_RANGE = 2, /* a number that was asked for is out of its range; nothing was done */
-    VDPM_NO_MEMORY = 5,  /* memory was wanting */
+    VDPM_NO_MEMORY = 5,  /* out of memory */
     VDPM_NOT_SO = 6,     /* the handle isn't open, and nothing was written; what opens or makes: it
                           * is open already */
     VDPM_NO_ROOM = 7,    /* an array has less room than is needed; nothing was written */
@@ -77,7 +77,7 @@ typedef struct vdpm_sizes {
     uint32_t shown_nodes; /* active nodes: the vertices of the mesh shown */
     uint32_t shown_faces; /* its faces */
     uint32_t nodes;       /* nodes in all */
-    uint32_t leaves;      /* leaves: the vertices of the full mesh */
+    uint32_t leaves;      /* leaves: the vertices of the complete mesh */
     uint32_t records;     /* records: each is a vertex split */
     uint32_t digits;      /* decimals of a coordinate, 0 to 4 */
 } vdpm_sizes;
@@ -162,7 +162,7 @@ uint32_t vdpm_ancestor(vdpm_viewer *viewer, uint32_t leaf, uint32_t *node);
  */
 uint32_t vdpm_place(vdpm_viewer *viewer, uint32_t node, int32_t *out, size_t room);
 
-/* Writes what all nodes have of numbers of the full mesh's vertices, as the parts of their colours:
+/* Writes what all nodes have of numbers by vertex of the complete mesh, as the parts of colours:
  * in each channel the whole number nearest to the mean over the leaves under a node, halves up.
  * With C = channels, and leaves and nodes as vdpm_counts tells them:
  * `by_vertex`  C leaves numbers: those of the first vertex of the text that the stream was made of,

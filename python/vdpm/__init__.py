@@ -15,8 +15,8 @@ Showing: a `Session` shows a stream, `Session.view` adapts it to a view, and `Se
 `Session.change` answer arrays: numpy's where numpy is there, else flat `array.array`s.
 
 Units: coordinates are whole numbers of units of 10 to the power of minus `Session.sizes().digits`;
-`Prepared.scale` leads back from what `prepare` made. Pixels are those of the picture that the focal
-length is told in. Nodes, faces, leaves and records are counted from 0.
+`Prepared.scale` gives coordinates back for what `prepare` made. Pixels are those of the picture
+that the focal length is told in. Nodes, faces, leaves and records are counted from 0.
 
 Faults: each is a `Fault`: `StreamFault`, `LineFault`, `TextFault` or `NotMesh`. Other refusals are
 `ValueError`, `TypeError`, `IndexError`, `NotOpen` and `MemoryError`.

@@ -47,8 +47,8 @@ def multiples(numbers: Sequence[Fraction]) -> List[int]:
 
 
 def pixels(focal: Number, tolerance: Number, outline: Optional[Number]) -> List[int]:
-    """Focal length, tolerance and tolerance of outlines, as the whole numbers that mean the same: a
-    view asks for their proportion alone."""
+    """Focal length, tolerance and tolerance of silhouettes, as the whole numbers that mean the
+    same: a view asks for their proportion alone."""
     names = ("focal", "tolerance", "outline")
     told = [exact(it, name) for it, name in zip((focal, tolerance, outline), names)
             if it is not None]

@@ -96,7 +96,7 @@ class Session:
         focal: the focal length, in pixels.
         tolerance: how far off a surface may look (its screen-space error), in pixels.
         planes: up to six groups a, b, c, o; what has a x + b y + c z + o below 0 isn't refined.
-        outline: a tolerance for outlines, in pixels, at most the other.
+        outline: a tolerance for silhouettes, in pixels, at most the other.
         by_deviation: judges nodes by how far their faces are from the surface, and not vertices.
 
         Fractions are told exactly: a float is the decimal that it prints as, and a view asks for
@@ -167,7 +167,7 @@ class Session:
         return int(self._library.vdpm_change(self._viewer, *pairs, sizes))
 
     def pick(self, origin: Sequence[Number], direction: Sequence[Number]) -> Optional[Hit]:
-        """The face of the full mesh that a ray meets first; None where it meets none.
+        """The face of the complete mesh that a ray meets first; None where it meets none.
 
         origin: in whole units. direction: whole numbers, at most 32,767 away from 0, not all 0.
         """
@@ -201,7 +201,7 @@ class Session:
         return Frame(*in_threes([room for room, _ in rooms], (1, 3, 4)))
 
     def bounds(self) -> Bounds:
-        """The box of the full mesh, whatever is shown. The first call looks at each node, which
+        """The box of the complete mesh, whatever is shown. The first call looks at each node, which
         takes some seconds for a million; the session keeps the answer.
 
         Raises ValueError where there are no vertices.
@@ -252,8 +252,8 @@ class Session:
         return out[0], out[1], out[2]
 
     def means(self, values: Any, channels: int = 1) -> "NDArray[uint16]":
-        """What each node has, by number, of what the vertices of the full mesh have: the rounded
-        mean over the leaves under it, in each channel. It is the same whatever is shown:
+        """What each node has, by number, of what the vertices of the complete mesh have: the
+        rounded mean over the leaves under it, in each channel. It is the same whatever is shown:
         `means(colours, 3)[frame.nodes]` are the colours of a frame's vertices.
 
         values: so many whole numbers from 0 to 65,535 as channels for each vertex of the mesh that

@@ -17,8 +17,8 @@ class Sizes(NamedTuple):
     """How large the mesh shown and the hierarchy are.
 
     shown_nodes, shown_faces: vertices and faces of the mesh shown. nodes: of the hierarchy, in all.
-    leaves: vertices of the full mesh. records: vertex splits. digits: decimals of a coordinate, so
-    that a unit is 10 to the power of -digits.
+    leaves: vertices of the complete mesh. records: vertex splits. digits: decimals of a coordinate,
+    so that a unit is 10 to the power of -digits.
     """
 
     shown_nodes: int
@@ -133,7 +133,7 @@ class Level(NamedTuple):
 
 
 class Bounds(NamedTuple):
-    """The box of the full mesh: the least and the greatest of each coordinate, in units."""
+    """The box of the complete mesh: the least and the greatest of each coordinate, in units."""
 
     least: Place
     greatest: Place
