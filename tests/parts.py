@@ -12,8 +12,9 @@
     lint        the style and types of the Python and of the modules for browsers, by tests/lint.py,
                 as far as flake8, mypy and tsc are installed
 
-`./test wrong [CRATE..]` tries the wrong bodies of tests/wrong_bodies instead, by tests/wrong.py: it
-takes hours, so that it is no part of the others.
+`./test wrong [CRATE..]` tries the wrong bodies of tests/wrong_bodies instead, by tests/wrong.py,
+and `./test worlds SEED COUNT` random fronts of so many random worlds, by tests/random_worlds.py:
+they take hours and minutes, so that they are no part of the others.
 
 Each part tells how many passed and failed. What can't be run here is said aloud. The last line is
 `N passed, M failed` over all parts, and the status is 0 exactly where something passed and nothing
@@ -245,8 +246,9 @@ def part(name: str, given: Dict[str, Path], room: Path) -> Count:
 
 
 def main(names: List[str]) -> int:
-    if names[:1] == ["wrong"]:
-        return ran([sys.executable, "tests/wrong.py", *names[1:]]).status
+    if names[:1] in (["wrong"], ["worlds"]):
+        file = "tests/wrong.py" if names[0] == "wrong" else "tests/random_worlds.py"
+        return ran([sys.executable, file, *names[1:]]).status
     unknown: Optional[str] = next((name for name in names if name not in PARTS), None)
     if unknown is not None:
         print(f"test: `{unknown}` is no part\n\n{__doc__}", file=sys.stderr)
