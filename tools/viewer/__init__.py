@@ -13,6 +13,7 @@
     library     the same by the library, in this process
     arrays      what it tells as arrays, and not as lines
     showing     a model and its program, which may be started anew
+    address     where that is served
     server      the page, and what it asks for
     page_files  which files that page has
     websocket   the server's end of the line over which scripts come

@@ -218,7 +218,7 @@ def window(asked: argparse.Namespace) -> None:
     for name in ("SIGHUP", "SIGTERM"):
         if hasattr(signal, name):
             signal.signal(getattr(signal, name), _stop)
-    serving = threading.Thread(target=server.serve_forever, args=(0.05,), daemon=True)
+    serving = threading.Thread(target=server.serve_forever, daemon=True)
     serving.start()
     try:
         print(f"viewer: {server.address} (Ctrl-C ends)", flush=True)
@@ -232,7 +232,7 @@ def window(asked: argparse.Namespace) -> None:
     finally:
         server.shutdown()
         server.server_close()
-        if server.showing is not None:
+        if server.is_ready:
             server.showing.close()
 
 

@@ -14,19 +14,16 @@ Arrays may stand behind them (arrays.py). What went wrong goes back as a text.
 """
 import hmac
 import json
-import os
-import secrets
-import signal
 import struct
 import time
-from http.server import BaseHTTPRequestHandler, ThreadingHTTPServer
+from http.server import BaseHTTPRequestHandler
 from pathlib import Path
-from typing import Callable, Dict, Optional, Tuple, Type
+from typing import Callable, Dict, Optional, Tuple
 
+from .address import Address
 from .arrays import packed
 from .page_files import FILES, PAGE
 from .program import ALL_MOVES, Answer, BadScript, ProgramEnded
-from .progress import Progress
 from .showing import Showing
 from .websocket import WebSocket, accepted
 
@@ -35,8 +32,6 @@ Content = Tuple[str, Callable[[], bytes]]  # its kind, and what gives it
 LONGEST_BODY = 1 << 10
 BYTES = "application/octet-stream"
 JSON = "application/json"
-WAITS = 3.0      # seconds after its last question that a page counts as one that waits
-LONG_AGO = 1e9
 TEXT = "text/plain; charset=utf-8"
 SAFETY = {
     "Cache-Control": "no-store",
@@ -48,47 +43,6 @@ SAFETY = {
 
 def is_budget(text: str) -> bool:
     return text.isascii() and text.isdigit() and int(text) <= ALL_MOVES
-
-
-class Address(ThreadingHTTPServer):
-    """An address of this machine alone, which only who knows its token can use."""
-
-    daemon_threads = True
-
-    def __init__(self, port: int, handler: Type["Page"], token: Optional[str] = None) -> None:
-        super().__init__(("127.0.0.1", port), handler)
-        self.token = token or secrets.token_urlsafe(16)
-        self.progress = Progress()
-        self.talks = 0            # pages that are connected
-        self.awaited = -LONG_AGO  # when a page asked last how far the model is
-        self.hosts = {f"{name}:{self.server_port}" for name in ("127.0.0.1", "localhost")}
-
-    @property
-    def is_ready(self) -> bool:
-        """Whether there is something to look at."""
-        raise NotImplementedError
-
-    @property
-    def is_awaited(self) -> bool:
-        """Whether a page waits for the model."""
-        return time.monotonic() - self.awaited < WAITS
-
-    @property
-    def policy(self) -> str:
-        """What the page may load: nothing but what is here."""
-        lines = " ".join(f"ws://{host}" for host in sorted(self.hosts))
-        return (
-            f"default-src 'self'; connect-src 'self' {lines}; img-src 'self' blob: data:; "
-            "base-uri 'none'; form-action 'none'; frame-ancestors 'none'"
-        )
-
-    def cancel(self) -> None:
-        """Ends the way to a model, as Ctrl-C does."""
-        os.kill(os.getpid(), signal.SIGTERM)
-
-    @property
-    def address(self) -> str:
-        return f"http://127.0.0.1:{self.server_port}/{self.token}/"
 
 
 class Page(BaseHTTPRequestHandler):
@@ -273,11 +227,21 @@ class Server(Address):
         self, showing: Optional[Showing], port: int = 0, token: Optional[str] = None
     ) -> None:
         super().__init__(port, Handler, token)
-        self.showing = showing
+        self._showing = showing
 
     @property
     def is_ready(self) -> bool:
-        return self.showing is not None
+        return self._showing is not None
+
+    @property
+    def showing(self) -> Showing:
+        if self._showing is None:
+            raise ProgramEnded("the model isn't there yet")
+        return self._showing
+
+    @showing.setter
+    def showing(self, showing: Showing) -> None:
+        self._showing = showing
 
 
 class Handler(Page):
@@ -285,7 +249,7 @@ class Handler(Page):
     files = {**{name: PAGE / name for name in FILES}, "": PAGE / "index.html"}
 
     def content(self, path: str) -> Optional[Content]:
-        showing = self._showing()
+        showing = self.server.showing
         contents: Dict[str, Content] = {
             "about": (JSON, lambda: json.dumps(showing.about()).encode()),
             "stream": (BYTES, lambda: showing.model.stream),
@@ -294,14 +258,9 @@ class Handler(Page):
         }
         return contents.get(path)
 
-    def _showing(self) -> Showing:
-        if self.server.showing is None:
-            raise ProgramEnded("the model isn't there yet")
-        return self.server.showing
-
     def answer(self, script: str) -> Answer:
-        return self._showing().ask(script)
+        return self.server.showing.ask(script)
 
     def started(self, budget: int) -> Optional[bytes]:
-        self._showing().start(budget)
-        return json.dumps(self._showing().about()).encode()
+        self.server.showing.start(budget)
+        return json.dumps(self.server.showing.about()).encode()

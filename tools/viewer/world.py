@@ -11,10 +11,11 @@ from worlds.form import Tile, World, WorldFault, box_of, read_world
 from worlds.parents import error_of, told_path
 
 from . import manual
+from .address import Address
 from .model import needed, run, tell
-from .program import ALL_MOVES, Answer, BadScript, Program, ProgramEnded, replies_to
 from .page_files import FILES, PAGE
-from .server import BYTES, JSON, TEXT, Address, Content
+from .program import ALL_MOVES, Answer, BadScript, Program, ProgramEnded, replies_to
+from .server import BYTES, JSON, TEXT, Content
 from .server import Page as ServedPage
 
 WORLD_PAGE = Path(__file__).resolve().parent / "world_page"
@@ -147,11 +148,21 @@ class WorldServer(Address):
         self, showing: Optional[WorldShowing], port: int = 0, token: Optional[str] = None
     ) -> None:
         super().__init__(port, WorldHandler, token)
-        self.showing = showing
+        self._showing = showing
 
     @property
     def is_ready(self) -> bool:
-        return self.showing is not None
+        return self._showing is not None
+
+    @property
+    def showing(self) -> WorldShowing:
+        if self._showing is None:
+            raise ProgramEnded("the world isn't there yet")
+        return self._showing
+
+    @showing.setter
+    def showing(self, showing: WorldShowing) -> None:
+        self._showing = showing
 
 
 class WorldHandler(ServedPage):
@@ -163,13 +174,8 @@ class WorldHandler(ServedPage):
         "": PAGE / "index.html",
     }
 
-    def _showing(self) -> WorldShowing:
-        if self.server.showing is None:
-            raise ProgramEnded("the world isn't there yet")
-        return self.server.showing
-
     def content(self, path: str) -> Optional[Content]:
-        showing = self._showing()
+        showing = self.server.showing
         if path == "about":
             return JSON, lambda: json.dumps(showing.about()).encode()
         what, _, name = path.partition("/")
@@ -184,7 +190,7 @@ class WorldHandler(ServedPage):
         head, _, rest = script.partition("\n")
         if not head.startswith(_HEAD):
             raise BadScript("the first line names a tile")
-        return self._showing().ask(head[len(_HEAD):], rest)
+        return self.server.showing.ask(head[len(_HEAD):], rest)
 
 
 def showing_of(path: Path, file: Path, memory: int) -> WorldShowing:

@@ -145,7 +145,8 @@ class Serving(Case):
         self.assertEqual((about["name"], about["coloured"]), ("octahedron.vdpm", False))
 
     def test_before_its_model_it_tells_how_far_that_is(self) -> None:
-        showing, self.server.showing = self.server.showing, None
+        showing = self.server.showing
+        setattr(self.server, "showing", None)
         self.server.progress.name = "octahedron.vdpm"
         self.server.progress.begins("building")
         told = json.loads(self.asked(f"{self.root}progress")[1])
