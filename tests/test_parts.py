@@ -47,7 +47,9 @@ class Counting(unittest.TestCase):
 
 
 class Rust(unittest.TestCase):
-    def told(self, answers: List[Run], cargo: Optional[str] = "/bin/cargo") -> Tuple[Count, List[List[str]]]:
+    def told(
+        self, answers: List[Run], cargo: Optional[str] = "/bin/cargo"
+    ) -> Tuple[Count, List[List[str]]]:
         """What the part counts where its commands end so, and those commands."""
         with mock.patch("shutil.which", return_value=cargo):
             with mock.patch.object(parts, "ran", side_effect=answers) as ran:
@@ -81,7 +83,7 @@ class Rust(unittest.TestCase):
         answers = [Run(0, ""), Run(0, ""), tests, cases, units, units, *[units] * 2]
         with mock.patch.object(parts, "web_module", return_value=parts.NONE):
             count, commands = self.told(answers)
-        self.assertEqual(count, Count(52, 0))
+        self.assertEqual(count, Count(57, 0))
         self.assertEqual(commands[3][2:4], ["--vdpm", "/r/target/checked/vdpm"])
 
 
