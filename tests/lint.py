@@ -1,6 +1,6 @@
 """Looks over the Python and the modules of JavaScript: python3 tests/lint.py [PROGRAM..]
 
-    flake8   names that nothing defines or uses, and the style; settings in .flake8
+    flake8   names that nothing defines or uses, and the width; settings in .flake8
     mypy     the types of the Python; settings in pyproject.toml
     tsc      the types of the modules; settings in tsconfig.json
 

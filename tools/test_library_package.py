@@ -13,8 +13,6 @@ from pathlib import Path
 
 from tried_library import TOP, take_library
 
-import vdpm
-
 OBJ = TOP / "examples/octahedron.obj"
 
 

@@ -9,12 +9,12 @@ import tempfile
 import time
 from pathlib import Path
 
-from .joining import glibc_of, join, put_link, stop_without_tools
+from .joining import join, put_link, stop_without_tools
 from .kit import Kit, find_kit, stop_where_it_lacks
 from .module import NotCaught, REFUSAL, first_lines, output_of, try_words
 from .record import path_of, write_record
 from .running import run_tool, say, telling_time
-from .sources import CODE, LINK, SHARED, Program, sum_of_sources
+from .sources import CODE, Program, sum_of_sources
 from .stopped import Stopped
 from .unproved import FLAGS, way_at_hand
 from .way import Way

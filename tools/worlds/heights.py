@@ -11,7 +11,7 @@ from array import array
 from dataclasses import dataclass
 from math import inf, isfinite, isnan, nan
 from pathlib import Path
-from typing import BinaryIO, Callable, Dict, Iterator, List, NamedTuple, Tuple
+from typing import BinaryIO, Callable, Dict, Iterator, NamedTuple, Tuple
 
 from .form import WorldFault
 
