@@ -23,7 +23,7 @@ def inputs_of(stream: bytes) -> Tuple[List[int], List[int]]:
     """The vertex of each node and the face of each face, as the stream's words tell them."""
     h = read_stream(stream).hierarchy
     vertices = [it.input - 1 if it.width() == 1 else vdpm.NO_VERTEX for it in h.nodes]
-    return vertices, [it.input - 1 for it in h.faces]
+    return vertices, [number - 1 for number in h.face_inputs]
 
 
 class Inputs(unittest.TestCase):
@@ -47,8 +47,8 @@ class Inputs(unittest.TestCase):
             corners = [[int(n) - 1 for n in row[1:]] for row in rows if row[:1] == ["f"]]
             for node in frame.nodes:
                 self.assertEqual(list(session.place(int(node))), places[told.by_node[node]])
-            named = frame.corner_nodes
-            flat = [int(n) for n in getattr(named, "ravel", lambda: named)()]
+            given = frame.corner_nodes
+            flat = [int(n) for n in getattr(given, "ravel", lambda: given)()]
             for at, face in enumerate(frame.faces):
                 shown = [int(told.by_node[node]) for node in flat[3 * at : 3 * at + 3]]
                 self.assertEqual(shown, corners[told.by_face[face]])

@@ -1,5 +1,5 @@
 -- Which vertices and faces of the input nodes and faces are, as arrays tell it.
-use Rattle.std.specs.Prelude.{◌≡◌, ℕ, ◌*◌, ◌≤◌, List, take, drop}
+use Rattle.std.specs.Prelude.{◌≡◌, ℕ, ◌≤◌, List, take, drop}
 use Rattle.pm_forest.specs.Forest.{Hierarchy, node_count}
 use Rattle.pm_forest.specs.Faces.{face_count}
 use Rattle.pm_paint.specs.Inputs.{vertices_by_node, faces_by_face}
