@@ -161,17 +161,22 @@ class Exports(Rule):
     def test_a_function_with_pointers_stands_over_a_plain_one(self) -> None:
         got = source(
             "/// It.\n#[unsafe(no_mangle)]\npub extern \"C\" fn f(\n    alloc: Global,\n"
-            "    s: &[u8],\n    out: &mut [u32],\n    n: &mut u64,\n    k: u32,\n) -> u32\n"
-            "    requires { p }\n{\n    1\n}\n"
+            "    s: &[u8],\n    out: &mut [u32],\n    n: &mut u64,\n    k: u32,\n    l: &L,\n"
+            ") -> u32\n    requires { p }\n{\n    1\n}\n"
         )
         self.assertIn("/// ```\npub fn f(\n    alloc: Global,\n    s: &[u8],", got.text)
         self.assertNotIn("extern", got.text)
         [made] = got.exports
         self.assertIn("#[no_mangle]\npub unsafe extern \"C\" fn f(\n    s: *const u8,\n"
                       "    s_len: usize,\n    out: *mut u32,\n    out_len: usize,\n"
-                      "    n: *mut u64,\n    k: u32,\n) -> u32 {\n", made)
-        self.assertIn("super::m::f(Global, array(s, s_len), array_mut(out, out_len), &mut *n, k)",
-                      made)
+                      "    n: *mut u64,\n    k: u32,\n    l: *const L,\n) -> u32 {\n", made)
+        self.assertIn(
+            "super::m::f(Global, array(s, s_len), array_mut(out, out_len), &mut *n, k, &*l)", made)
+
+    def test_a_function_of_nothing_takes_nothing(self) -> None:
+        got = source("#[unsafe(no_mangle)]\npub extern \"C\" fn f() -> u32\n{\n    1\n}\n")
+        [made] = got.exports
+        self.assertIn("\npub extern \"C\" fn f() -> u32 {\n    super::m::f()\n}\n", made)
 
 
 class Stops(unittest.TestCase):

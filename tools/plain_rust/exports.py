@@ -22,6 +22,13 @@ pub unsafe extern "C" fn {name}(
 {body}
 }}
 """
+OF_NOTHING = """
+/// `libvdpm.h` tells of it.
+#[no_mangle]
+pub extern "C" fn {name}(){answer} {{
+    super::{module}::{name}()
+}}
+"""
 COLUMNS = 100
 
 
@@ -68,6 +75,8 @@ def function_of_c(tokens: Tokens, start: int, module: str) -> str:
     body = next(at for at in range(end, len(tokens)) if tokens[at].is_mark("{"))
     answer = joined(only_code(tokens[end:body])).replace("->", " -> ")
     takes = [text for each in given for text in each.takes]
+    if not given:
+        return OF_NOTHING.format(name=name, answer=answer, module=module)
     return FUNCTION.format(
         name=name, takes=",\n    ".join(takes), answer=answer,
         body=call_of(f"super::{module}::{name}", [each.passes for each in given]),
@@ -96,6 +105,8 @@ def parameter(part: Tokens) -> Parameter:
         return Parameter([pointer, f"{name}_len: usize"], f"{array}({name}, {name}_len)")
     if is_mut and len(kind) == 3:
         return Parameter([f"{name}: *mut {kind[2]}"], f"&mut *{name}")
+    if kind[:1] == ["&"] and len(kind) == 2:
+        return Parameter([f"{name}: *const {kind[1]}"], f"&*{name}")
     if len(kind) == 1:
         return Parameter([f"{name}: {kind[0]}"], name)
     raise Refusal(code[0].line, f"a parameter that C can't give: {name}: {''.join(kind)}")
