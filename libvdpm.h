@@ -105,6 +105,38 @@ uint32_t vdpm_reply_length(vdpm_viewer *viewer, size_t *length);
  * the rest stays as it was. The reply stays until the next line. */
 uint32_t vdpm_reply(vdpm_viewer *viewer, uint8_t *out, size_t room);
 
+/* A view: where the eye stands, how fine the mesh is to be, and by what nodes are judged. */
+typedef struct vdpm_look {
+    int32_t eye[3];      /* x, y, z, in units, each at most 16,777,215 away from 0 */
+    uint32_t focal;      /* the focal length, in pixels, at most 65,535 */
+    uint32_t tolerance;  /* how far off a surface may look, in pixels, at most 65,535 */
+    uint32_t silhouette; /* the same at outlines, at most `tolerance`; that for a view without */
+    uint32_t measure;    /* VDPM_BY_ERROR or VDPM_BY_DEVIATION */
+} vdpm_look;
+
+/* By what a view judges a node: by how far the vertices under it are from its place, or the faces
+ * from the surface, which keeps fewer on flat ground. */
+#define VDPM_BY_ERROR 0
+#define VDPM_BY_DEVIATION 1
+
+/* What a view came to. */
+typedef struct vdpm_moved {
+    uint32_t moves; /* how many splits and collapses were made */
+    uint32_t left;  /* how many are left, for a view that the budget cut; 0 where none are */
+} vdpm_moved;
+
+/* Adapts the mesh to a view, as the lines `v`, `vs`, `vd` and `vds` do; the reply to the last line
+ * stays. With pixels as the unit of `focal` and the tolerances, only their proportion counts, so
+ * that 2,000 and 1 are 1,000 and a half.
+ * `planes`  planes_length numbers, four for each of at most six planes: a, b and c, at most 32,767
+ *           away from 0, and o, at most 4,398,046,511,104 away from it; o is in units, times those
+ *           of a, b and c. What has a x + b y + c z + o below 0 isn't refined.
+ * Answers VDPM_DONE, with what it came to in *moved; VDPM_OUT_OF_RANGE, where a number is out of
+ * its range, or planes_length above 24 or not a multiple of 4; or VDPM_NOT_SO. Nothing is done,
+ * and *moved is as it was, where it isn't VDPM_DONE. */
+uint32_t vdpm_view(vdpm_viewer *viewer, const vdpm_look *look, const int64_t *planes,
+                   size_t planes_length, vdpm_moved *moved);
+
 /* Tells how large the hierarchy and the mesh shown are, so that the caller can make room for a
  * frame. */
 uint32_t vdpm_counts(vdpm_viewer *viewer, vdpm_sizes *sizes);

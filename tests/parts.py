@@ -161,7 +161,7 @@ def rust(given: Dict[str, Path], room: Path) -> Count:
     programs = {name: built / name for name in PROGRAMS}
     count = count.plus(counted(ran([sys.executable, "tests/run.py", *paths(programs)]), LAST_LINE))
     for name in ("test_library.py", "test_library_making.py", "test_library_means.py",
-                 "test_library_inputs.py"):
+                 "test_library_inputs.py", "test_library_views.py"):
         count = count.plus(unit_tests(TOP / "tools" / name, {}, str(built / "libvdpm.so")))
     return count.plus(web_module(package))
 

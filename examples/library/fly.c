@@ -54,19 +54,15 @@ static uint32_t fetch_mesh(vdpm_viewer *viewer, mesh *it) {
 
 /* Goes to a view from (x, y, HEIGHT), and prints what came of it. */
 static uint32_t look_from(vdpm_viewer *viewer, int32_t x, int32_t y) {
-    char line[128], reply[64];
-    int n = snprintf(line, sizeof line, "v %" PRId32 " %" PRId32 " %d %d %d", x, y, HEIGHT, FOCAL,
-                     TOLERANCE);
-    uint32_t status = vdpm_line(viewer, (const uint8_t *)line, (size_t)n);
-    size_t length = 0;
-    if (status == VDPM_DONE) status = vdpm_reply_length(viewer, &length);
-    if (status == VDPM_DONE) status = vdpm_reply(viewer, (uint8_t *)reply, sizeof reply);
+    vdpm_look look = {{x, y, HEIGHT}, FOCAL, TOLERANCE, TOLERANCE, VDPM_BY_ERROR};
+    vdpm_moved moved;
+    uint32_t status = vdpm_view(viewer, &look, NULL, 0, &moved);
     if (status != VDPM_DONE) return status;
     mesh shown = {0};
     status = fetch_mesh(viewer, &shown);
     if (status == VDPM_DONE)
-        printf("%6" PRId32 " %6" PRId32 ": %.*s, %u vertices, %u faces\n", x, y, (int)length - 1,
-               reply, shown.node_count, shown.face_count);
+        printf("%6" PRId32 " %6" PRId32 ": %u moves, %u vertices, %u faces\n", x, y, moved.moves,
+               shown.node_count, shown.face_count);
     drop_mesh(&shown);
     return status;
 }

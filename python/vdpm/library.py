@@ -14,11 +14,13 @@ Text = Union[str, bytes, bytearray, memoryview]
 FAULTY, OUT_OF_RANGE = 1, 2
 DONE, NO_MEMORY, NOT_SO, NO_ROOM, NO_SUCH, QUIT = 0, 5, 6, 7, 8, 9
 BAD_LINE, NO_RECORD = 30, 31
+BY_ERROR, BY_DEVIATION = 0, 1
 NONE = MOST_NUMBER = 0xFFFFFFFF
 BYTES = ctypes.POINTER(ctypes.c_uint8)
 NUMBERS = ctypes.POINTER(ctypes.c_uint32)
 SIGNED = ctypes.POINTER(ctypes.c_int32)
 SHORT = ctypes.POINTER(ctypes.c_uint16)
+LONG = ctypes.POINTER(ctypes.c_int64)
 
 
 class Handle(ctypes.Structure):
@@ -31,6 +33,20 @@ class Told(ctypes.Structure):
     """The fault of a text."""
 
     _fields_ = [("number", ctypes.c_uint32), ("place", ctypes.c_uint64)]
+
+
+class Look(ctypes.Structure):
+    """A view, but for its planes."""
+
+    _fields_ = [("eye", ctypes.c_int32 * 3), ("focal", ctypes.c_uint32),
+                ("tolerance", ctypes.c_uint32), ("silhouette", ctypes.c_uint32),
+                ("measure", ctypes.c_uint32)]
+
+
+class Moves(ctypes.Structure):
+    """What a view came to."""
+
+    _fields_ = [("moves", ctypes.c_uint32), ("left", ctypes.c_uint32)]
 
 
 class Version(NamedTuple):
@@ -94,6 +110,7 @@ def load(path: Optional[str] = None) -> ctypes.CDLL:
         "line": [handle, text, size],
         "reply_length": [handle, count],
         "reply": [handle, BYTES, size],
+        "view": [handle, ctypes.POINTER(Look), LONG, size, ctypes.POINTER(Moves)],
         "counts": [handle, NUMBERS],
         "frame": [handle, NUMBERS, size, SIGNED, size, NUMBERS, size, NUMBERS, size, NUMBERS, size],
         "change": [handle, NUMBERS, size, NUMBERS, size, NUMBERS, size, SIGNED, size, NUMBERS, size,

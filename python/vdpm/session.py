@@ -4,7 +4,8 @@ import threading
 from typing import TYPE_CHECKING, Any, List, Optional, Sequence
 
 from .fields import MOST_OF_EYE, MOST_WAY, Number, pixels, planes_of, whole
-from .library import (MOST_NUMBER, NO_ROOM, NONE, Handle, Text, bytes_of, check, load, number_to)
+from .library import (BY_DEVIATION, BY_ERROR, MOST_NUMBER, NO_ROOM, NONE, Handle, Look, Moves, Text,
+                      bytes_of, check, load, number_to)
 from .rooms import copied, in_rows, in_threes, room_for, rooms_for_change, values_in_room
 from .shapes import Bounds, Change, Frame, Hit, Inputs, Level, Moved, Place, Shape, Sizes, Strips
 
@@ -104,10 +105,15 @@ class Session:
         above 65,535, where the eye isn't on whole units, and where a number is out of its range.
         `camera` gives eye, focal length and planes of a picture.
         """
-        word = "v" + ("d" if by_deviation else "") + ("" if outline is None else "s")
-        numbers = [*whole(eye, 3, MOST_OF_EYE, "eye"), *pixels(focal, tolerance, outline)]
-        words = self._words(word, numbers + planes_of(planes))
-        return Moved(int(words[1]), int(words[2]) if words[0] == b"spent" else 0)
+        place = whole(eye, 3, MOST_OF_EYE, "eye")
+        length, size, *more = pixels(focal, tolerance, outline)
+        measure = BY_DEVIATION if by_deviation else BY_ERROR
+        look = Look(tuple(place), length, size, *(more or [size]), measure)
+        numbers = planes_of(planes)
+        told, moved = (ctypes.c_int64 * len(numbers))(*numbers), Moves()
+        with self._lock:
+            check(self._library.vdpm_view(self._viewer, look, told, len(numbers), moved))
+        return Moved(moved.moves, moved.left)
 
     def split(self, record: int) -> str:
         """Splits a record: "ok", or "not active" or "blocked F" where that is not legal."""

@@ -47,6 +47,25 @@ static void texts_of_nothing(void) {
     told("vdpm_made_bytes", vdpm_made_bytes(&made, NULL, 0), VDPM_NOT_SO);
 }
 
+/* A view of nothing: its planes may be NULL, and numbers out of range are refused. */
+static void views_by_numbers(vdpm_viewer *viewer) {
+    vdpm_look look = {{16777215, -16777215, 0}, 65535, 65535, 65535, VDPM_BY_DEVIATION};
+    const int64_t plane[4] = {32767, -32767, 0, INT64_C(4398046511104)};
+    vdpm_moved moved = {7, 7};
+    told("vdpm_view", vdpm_view(viewer, &look, NULL, 0, &moved), VDPM_DONE);
+    told("no moves", moved.moves, 0);
+    told("none left", moved.left, 0);
+    told("vdpm_view", vdpm_view(viewer, &look, plane, 4, &moved), VDPM_DONE);
+    told("vdpm_view", vdpm_view(viewer, &look, plane, 3, &moved), VDPM_OUT_OF_RANGE);
+    look.measure = 2;
+    told("vdpm_view", vdpm_view(viewer, &look, NULL, 0, &moved), VDPM_OUT_OF_RANGE);
+    look.measure = VDPM_BY_ERROR;
+    look.silhouette = 65536;
+    moved.moves = 7;
+    told("vdpm_view", vdpm_view(viewer, &look, NULL, 0, &moved), VDPM_OUT_OF_RANGE);
+    told("nothing told", moved.moves, 7);
+}
+
 static void views_of_nothing(vdpm_viewer *viewer) {
     vdpm_sizes sizes;
     vdpm_change_sizes changes;
@@ -87,6 +106,7 @@ int main(void) {
     told("vdpm_open again", vdpm_open(stream, length, 0, &viewer, &place), VDPM_NOT_SO);
     free(stream);
     views_of_nothing(&viewer);
+    views_by_numbers(&viewer);
     vdpm_close(&viewer);
     vdpm_close(&viewer);
     told("vdpm_reply", vdpm_reply(&viewer, NULL, 0), VDPM_NOT_SO);

@@ -23,7 +23,7 @@ from .way import Way
 MAIN = """
 use crate::made_slot::MadeSlot;
 use crate::slot::Slot;
-use crate::tables::{ChangeCounts, Counts, Handle, MadeHandle, NO_FAULT};
+use crate::tables::{ChangeCounts, Counts, Handle, Look, MadeHandle, Moved, NO_FAULT};
 use std::rt::HostRuntime;
 
 fn main(rt: HostRuntime) {
@@ -52,6 +52,11 @@ fn main(rt: HostRuntime) {
     nodes::vdpm_place(alloc, &mut handle, 0, &mut signed);
     means::vdpm_means(alloc, &mut handle, 0, &[0u16; 1], &mut [0u16; 1]);
     inputs::vdpm_inputs(alloc, &mut handle, &mut a, &mut b, &mut number);
+    let look = Look {
+        eye_x: 0, eye_y: 0, eye_z: 0, focal: 0, tolerance: 0, silhouette: 0, measure: 0,
+    };
+    let mut moved = Moved { moves: 0, left: 0 };
+    looking::vdpm_view(alloc, &mut handle, &look, &[0i64; 1], &mut moved);
     version::vdpm_version();
     exports::vdpm_close(alloc, &mut handle);
     let Handle { slot: _slot, open: _open } = handle;

@@ -9,7 +9,7 @@ ghost use Rattle.pm_forest.specs.Places.{place_of_node};
 ghost use Rattle.pm_front.specs.Shown.{active_nodes, kept_faces};
 ghost use Rattle.pm_arrays.specs.Arrays.{place_array, position_array, node_array};
 ghost use Rattle.pm_change.specs.Arrays.{sizes_of_change, ChangeFits, BeginWith, LeavesBehind};
-ghost use Rattle.pm_session.specs.Script.{now_marked};
+ghost use Rattle.pm_session.specs.Script.{now_marked, now_split, adapted_to, after_view};
 ghost use Rattle.pm_session.specs.Session.{LineEnds, change_since};
 ghost use Rattle.pm_viewer.specs.Viewing.{live_deed, viewer_state, FrameFits, FrameLeaves};
 
@@ -19,7 +19,9 @@ use crate::reply::{LEAST_ROOM, Reply};
 use pm_base::{NodeId, Point};
 use pm_change::ChangeSizes;
 use pm_forest::Hierarchy;
+use pm_refine::Adapted;
 use pm_session::{Grammar, LineFail, Next, Session};
+use pm_view::View;
 use std::alloc::{AllocError, Global};
 use std::marker::Model;
 
@@ -99,6 +101,20 @@ impl Viewer {
         let ended = self.session.line(text, &mut self.reply);
         self.reply.invariant();
         ended
+    }
+
+    /// Adapts the mesh to a view, as its line does, and answers how many moves were made and how
+    /// many are left. The reply stays.
+    pub fn look(&mut self, view: &View) -> Adapted
+        ensures adapted { result ≡ adapted_to self.old.shown.h self.old.shown.budget
+            (set_of self.old.shown.flags) view.now }
+        ensures after { viewer_state self.new ≡ now_split (viewer_state self.old)
+            (after_view self.old.shown.h self.old.shown.budget (set_of self.old.shown.flags)
+            view.now) }
+        ensures same { (self.new.shown.h ≡ self.old.shown.h) × (self.new.digits ≡ self.old.digits)
+            × (self.new.reply ≡ self.old.reply) }
+    {
+        self.session.look(view)
     }
 
     /// The reply to the last line, which stays until the next.

@@ -2,3 +2,4 @@ pub mod Values
 pub mod SlotValues
 pub mod MadeValues
 pub mod MadeLaws
+pub mod LookingLaws

@@ -1,3 +1,4 @@
 pub mod Held
 pub mod Border
+pub mod Looking
 pub mod Making

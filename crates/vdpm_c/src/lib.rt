@@ -7,6 +7,7 @@ mod exports;
 mod holding;
 mod inputs;
 mod inside;
+mod looking;
 mod loose;
 mod made;
 mod made_slot;

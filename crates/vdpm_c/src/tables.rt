@@ -25,6 +25,31 @@ pub struct Counts {
     pub digits: u32,
 }
 
+/// A view, but for its planes.
+#[repr(C)]
+#[derive(Clone, Copy)]
+pub struct Look {
+    /// Where the eye stands, in units.
+    pub eye_x: i32,
+    pub eye_y: i32,
+    pub eye_z: i32,
+    /// The focal length, in pixels.
+    pub focal: u32,
+    /// The tolerance, and that for silhouettes, which isn't above it, in pixels.
+    pub tolerance: u32,
+    pub silhouette: u32,
+    /// 0 where nodes are judged by their errors, and 1 where by their deviations.
+    pub measure: u32,
+}
+
+/// How many moves a view made, and how many are left.
+#[repr(C)]
+#[derive(Clone, Copy)]
+pub struct Moved {
+    pub moves: u32,
+    pub left: u32,
+}
+
 /// How many entries each list of a change has.
 #[repr(C)]
 #[derive(Clone, Copy)]

@@ -28,6 +28,11 @@ impl<T: Copy, const N: usize> ArrayVec<T, N> {
     }
 
     #[inline]
+    pub fn is_full(&self) -> bool {
+        self.len == N
+    }
+
+    #[inline]
     pub fn remaining_capacity(&self) -> usize {
         N - self.len
     }
