@@ -29,7 +29,7 @@ class Level(NamedTuple):
 
     places: List[Tuple[int, int, int]]  # on the grid
     grid: Grid
-    faces: List[Tuple[int, ...]]  # corners by place, from 0
+    faces: List[Tuple[int, int, int]]  # corners by place, from 0
     error: float  # no vertex is farther from those that it stands for
     deviation: float  # nor from the planes of their faces
 
