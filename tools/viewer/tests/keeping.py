@@ -77,7 +77,7 @@ class Keeping(Page):
         data = self.page.downloaded(f"asteroid-{wide}x{high}.png")
         self.assertEqual(struct.unpack(">II", data[16:24]), (wide, high))
         self.settle()
-        views = [answer.text for answer in self.answers[-2:]]
+        views = [answer.text for answer in self.answers if b"change " in answer.text][-2:]
         counts = [int(view.split(b"change ")[1].split()[1]) for view in views]
         self.assertGreater(counts[0], faces)
         self.assertEqual((self.asked(), counts[1], self.faces()), (asked, faces, faces))
