@@ -147,7 +147,7 @@ def random_front(rng: Random, records: int) -> bytes:
         for _ in range(rng.randint(1, 3)):
             eye = [rng.randrange(-3000, 3000) for _ in range(3)]
             numbers = [*eye, 1000, rng.choice((0, 20, 200, 2000))]
-            lines.append(rng.choice(("v ", "vd ")) + " ".join(map(str, numbers)))
+            lines.append("v " + " ".join(map(str, numbers)))
     elif records:
         tries = rng.randrange(4 * records + 1)
         lines = [f"{rng.choice('sssc')} {rng.randrange(records)}" for _ in range(tries)]
