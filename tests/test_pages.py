@@ -9,6 +9,7 @@ from unittest import mock
 
 import pages
 import sources
+import words as vocabulary
 from sources import Function
 
 LIB = """//! A crate.
@@ -184,7 +185,7 @@ class Pages(unittest.TestCase):
             "tools/quick_start/usage/vdpm": "the glue",
             "tools/a.py": "say(f'no glue {1}')\nraise BadFault('glue it')\nuse('glue it')\n",
         }
-        with mock.patch.object(pages.vocabulary, "SEARCHED", {"weld": "docs/WORDS.md"}):
+        with mock.patch.object(vocabulary, "SEARCHED", {"weld": "docs/WORDS.md"}):
             told = faults(files)
         fault = "`glue` is no word of docs/WORDS.md"
         wanted = [f"README.md: {fault.replace('glue', 'glues on')}"]
@@ -194,7 +195,7 @@ class Pages(unittest.TestCase):
     def test_a_search_that_leads_nowhere_is_told(self) -> None:
         files = {"docs/WORDS.md": "# Words\n", "docs/A.md": "an isolated\nVertex\n"}
         searched = {"isolated vertex": "docs/A.md", "LOD": "docs/A.md", "weld": "docs/B.md"}
-        with mock.patch.object(pages.vocabulary, "SEARCHED", searched):
+        with mock.patch.object(vocabulary, "SEARCHED", searched):
             told = faults(files)
         wanted = ["docs/A.md: a search for LOD doesn't lead here"]
         self.assertEqual(told, wanted + ["docs/B.md: a search for weld doesn't lead here"])

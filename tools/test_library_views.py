@@ -7,8 +7,7 @@ import random
 import unittest
 from typing import Iterator, List, NamedTuple, Tuple
 
-from test_library import all_asked, stream_length
-from tried_library import TOP, take_library
+from tried_library import TOP, all_asked, stream_length, take_library
 
 import vdpm
 from vdpm.library import BY_DEVIATION, BY_ERROR, DONE, NOT_SO, OUT_OF_RANGE, Look, Moves

@@ -33,16 +33,16 @@ APART = "what was cut can come apart at coarser levels: simplify --keep-border h
 class Note(NamedTuple):
     """How many of something, and what was done to it."""
 
-    count: int
+    number: int
     one: str
     many: str
     what: str
 
     def line(self) -> str:
         """The line, which is empty where there is nothing to tell."""
-        if self.count == 0:
+        if self.number == 0:
             return ""
-        return f"prepare: {self.count} {self.one if self.count == 1 else self.many}{self.what}\n"
+        return f"prepare: {self.number} {self.one if self.number == 1 else self.many}{self.what}\n"
 
 
 def of_faces(count: int, what: str, kind: str = "face") -> Note:

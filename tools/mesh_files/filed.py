@@ -4,6 +4,7 @@ import mmap
 import os
 import tempfile
 from array import array
+from itertools import chain
 from typing import BinaryIO, Iterable, Iterator, List, Optional
 
 BLOCK = 3 << 14  # numbers that are in memory at a time; whole places and faces
@@ -26,6 +27,9 @@ class Filed:
 
     def __len__(self) -> int:
         return self._before + len(self._last)
+
+    def __iter__(self) -> Iterator[float]:
+        return chain.from_iterable(self.blocks())
 
     def extend(self, numbers: Iterable[float]) -> None:
         self._last.extend(numbers)

@@ -3,7 +3,7 @@ corners, but for those that are moved so that no tile touches itself (parting)."
 from array import array
 from itertools import chain, compress, islice, repeat
 from operator import not_
-from typing import Callable, Container, Dict, Iterable, Iterator, List, NamedTuple, Set, Tuple
+from typing import Callable, Container, Dict, Iterable, Iterator, List, Set, Tuple
 
 from mesh_files.ears import triangles_of
 from mesh_files.filed import Filed

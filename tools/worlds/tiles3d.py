@@ -18,7 +18,7 @@ from lods.shown import Grid, Level, levels_shown
 from lods.written import glb
 
 from .earth import on_earth, sagitta
-from .form import Place, Tile, World, WorldFault, moved
+from .form import Tile, World, WorldFault, moved
 from .fronts import needed
 from .parents import error_of
 from .progress import Work
