@@ -17,7 +17,7 @@ pub extern "C" fn vdpm_inputs(
     handle: &mut Handle,
     by_node: &mut [u32],
     by_face: &mut [u32],
-    face_count: &mut u32,
+    faces: &mut u32,
 ) -> u32
     requires { IsSound handle.old }
     ensures kept { (v : Viewed) → Has handle.old v → Has handle.new v }
@@ -25,18 +25,18 @@ pub extern "C" fn vdpm_inputs(
         → (result ≡ 0) ↔ InputsFit v.shown.h (length by_node.old) (length by_face.old) }
     ensures told { (v : Viewed) → Has handle.old v → result ≡ 0
         → AreInputsOf v.shown.h by_node.old by_face.old by_node.new by_face.new }
-    ensures counted { (v : Viewed) → Has handle.old v → face_count.new ≡ face_count v.shown.h }
+    ensures counted { (v : Viewed) → Has handle.old v → faces.new ≡ face_count v.shown.h }
     ensures no_room { (v : Viewed) → Has handle.old v → result ≢ 0
         → (result ≡ 7) × (by_node.new ≡ by_node.old) × (by_face.new ≡ by_face.old) }
     ensures not_so { handle.old.open ≢ 1 → (result ≡ 6) × (handle.new ≡ handle.old)
         × (by_node.new ≡ by_node.old) × (by_face.new ≡ by_face.old)
-        × (face_count.new ≡ face_count.old) }
+        × (faces.new ≡ faces.old) }
 {
     if handle.open != 1 {
         return NOT_SO;
     }
     let viewer = take(alloc, handle);
-    *face_count = viewer.faces();
+    *faces = viewer.faces();
     let told = viewer.inputs(by_node, by_face);
     put(handle, viewer);
     match told {
