@@ -104,15 +104,21 @@ pub first_told : (numbers : List ℤ) (z : ℤ) (plane : Plane) → 4 ≤ length
       d = to_z w64 (of_z w64 (get_or numbers 3 z));
     }
     → planes_told numbers ≡ option_map (λ ps. plane ∷ ps)
-        (planes_told (take (length numbers - 4) (drop 4 numbers)))
+    (planes_told (take (length numbers - 4) (drop 4 numbers)))
 unfolding planes_told
 first_told [] z plane four fa fb fc fd is = absurd (omega arith)
 first_told (a ∷ []) z plane four fa fb fc fd is = absurd (omega arith)
 first_told (a ∷ b ∷ []) z plane four fa fb fc fd is = absurd (omega arith)
 first_told (a ∷ b ∷ c ∷ []) z plane four fa fb fc fd is = absurd (omega arith)
 first_told (a ∷ b ∷ c ∷ d ∷ rest) z plane four fa fb fc fd is =
-    rw (is, to_z-of_z w64 a fa, to_z-of_z w64 b fb, to_z-of_z w64 c fc, to_z-of_z w64 d fd,
-    rest_is a b c d rest) refl
+    rw (
+      is,
+      to_z-of_z w64 a fa,
+      to_z-of_z w64 b fb,
+      to_z-of_z w64 c fc,
+      to_z-of_z w64 d fd,
+      rest_is a b c d rest,
+    ) refl
 
 pub first_bad : (numbers : List ℤ) (z : ℤ) → 4 ≤ length numbers
     → FitsSigned w64 (get_or numbers 0 z) → FitsSigned w64 (get_or numbers 1 z)
