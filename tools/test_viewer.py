@@ -14,7 +14,8 @@ from browser import NAMES
 TOOLS = Path(__file__).resolve().parent
 SUBJECTS = (
     "programs", "models", "serving", "films", "looking", "controls", "settings", "following",
-    "gliding", "judging", "keeping", "playing", "arrays", "libraries", "worlds", "alone",
+    "gliding", "judging", "keeping", "playing", "arrays", "libraries", "worlds", "draping",
+    "alone",
 )
 NO_BROWSER = "no Chromium"
 

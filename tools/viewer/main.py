@@ -1,7 +1,7 @@
 """Shows a mesh in a window of the browser: what is refined follows the camera.
 
     ./viewer MODEL [--open] [--fresh] [--budget N] [--memory MB] [--program PATH] [--library]
-        [--port P]
+        [--port P] [--drape IMAGE [WEST SOUTH EAST NORTH]]
     ./viewer --film FLIGHT MODEL [--budget N] [--program PATH] > film.html
     ./viewer --page [MODEL] [--module FILE] > page.html
 
@@ -10,7 +10,8 @@ it isn't fit; or the world.json of a world of tiles (docs/WORLDS.md). The page's
 and --open opens it; Ctrl-C ends all. With --film the script FLIGHT is played, and its frames are
 written as one page that needs no server. With --page the window itself is written as one page
 that needs no server: it shows MODEL, or what is dropped on it, by the engine as a WebAssembly
-module, which FILE has or else is built. Needs Python 3.8 and a browser with WebGL 2, and no
+module, which FILE has or else is built. With --drape a picture lies over a terrain, by where its
+edges are in the file's coordinates or by a world file beside it. Needs Python 3.8 and a browser with WebGL 2, and no
 network.
 
 Ends with status 1 where the model or the module can't be had, or the program can't be started or
@@ -27,6 +28,7 @@ from typing import List, Optional, Union
 
 from . import kept, progress, seat
 from .alone import page_of
+from .drape import BadDrape, Drape, drape_of
 from .film import BadFlight, film_page
 from .library import NOT_BUILT, TO_BUILD, built_library
 from .model import MAGIC, Model, Programs, model_of, tell
@@ -66,6 +68,8 @@ def arguments(words: Optional[List[str]] = None) -> argparse.Namespace:
     add("--film", type=Path, metavar="FLIGHT", help="write a page that plays this script")
     add("--page", action="store_true", help="write the window as a page that needs no server")
     add("--module", type=Path, metavar="FILE", help="the page's engine, if not the one built here")
+    edges = "a picture over a terrain, with its west, south, east and north, or a world file's"
+    add("--drape", nargs="+", metavar=("IMAGE", "EDGE"), help=edges)
     add("--fresh", action="store_true", help="build a model anew that was built before")
     asked = parser.parse_args(words)
     if asked.model is None and not asked.page:
@@ -196,11 +200,15 @@ def _stop(number: int, frame: Optional[FrameType]) -> None:
     raise KeyboardInterrupt
 
 
-def fill(server: Union[Server, WorldServer], asked: argparse.Namespace) -> None:
+def fill(
+    server: Union[Server, WorldServer], asked: argparse.Namespace, drape: Optional[Drape]
+) -> None:
     """Gives the server what it shows. Where there is nothing the page is told so before all
     ends."""
     try:
-        server.showing = showing_for(asked)  # type: ignore[assignment]
+        showing = showing_for(asked)
+        showing.drape = drape
+        server.showing = showing  # type: ignore[assignment]
     except ProgramEnded as fault:
         server.progress.fails(fault.reason, fault.cure)
         if server.is_awaited:
@@ -212,7 +220,10 @@ def window(asked: argparse.Namespace) -> None:
     """Serves until Ctrl-C, the end of the terminal or a request to end; then ends the program
     too."""
     try:
+        drape = drape_of(asked.drape) if asked.drape else None
         server = listening(asked)
+    except BadDrape as bad:
+        sys.exit(f"viewer: {bad}")
     except OSError as fault:
         sys.exit(f"viewer: {asked.model} can't be read: {fault.strerror}")
     for name in ("SIGHUP", "SIGTERM"):
@@ -224,7 +235,7 @@ def window(asked: argparse.Namespace) -> None:
         print(f"viewer: {server.address} (Ctrl-C ends)", flush=True)
         if asked.open:
             threading.Thread(target=webbrowser.open, args=(server.address,), daemon=True).start()
-        fill(server, asked)
+        fill(server, asked, drape)
         serving.join()
     except KeyboardInterrupt:
         if not server.is_ready:

@@ -6,7 +6,7 @@ PAGE = Path(__file__).resolve().parent / "page"
 FILES = (
     "index.html", "bar.css", "style.css", "arrays.js", "awaiting.js", "bar.js", "bends.js",
     "boot.js", "camera.js", "cells.js", "connection.js", "controls.js", "coordinate.js",
-    "divider.js", "doing.js", "fault.js", "faults.js", "fitting.js", "follower.js",
+    "divider.js", "doing.js", "drape.js", "fault.js", "faults.js", "fitting.js", "follower.js",
     "front.js", "glides.js", "hands.js", "hierarchy.js", "keeping.js", "late.js", "layout.js",
     "leaving.js", "link.js", "main.js", "matrices.js", "mesh.js", "normals.js", "panel.js",
     "picking.js", "renderer.js", "replies.js", "returning.js", "scene.js", "session.js",

@@ -22,6 +22,7 @@ from typing import Callable, Dict, Optional, Tuple
 
 from .address import Address
 from .arrays import packed
+from .drape import Drape
 from .page_files import FILES, PAGE
 from .program import ALL_MOVES, Answer, BadScript, ProgramEnded
 from .showing import Showing
@@ -220,6 +221,10 @@ class Page(BaseHTTPRequestHandler):
         """Says nothing: a view is asked for many times a second."""
 
 
+def drape_content(drape: Optional[Drape]) -> Dict[str, Content]:
+    return {"drape": (drape.kind, lambda: drape.data)} if drape else {}
+
+
 class Server(Address):
     """The window of one model, which may be on its way."""
 
@@ -255,6 +260,7 @@ class Handler(Page):
             "stream": (BYTES, lambda: showing.model.stream),
             "colours": (BYTES, lambda: showing.model.colours or b""),
             "flight": (TEXT, showing.flight),
+            **drape_content(showing.drape),
         }
         return contents.get(path)
 

@@ -4,6 +4,7 @@ from pathlib import Path
 from typing import Dict, Optional, Union
 
 from .arrays import parted
+from .drape import Drape, rows_over
 from .library import LibraryProgram, is_proved
 from .model import Model
 from .program import ALL_MOVES, Answer, Program, ProgramEnded
@@ -17,6 +18,7 @@ class Showing:
         self, path: Path, model: Model, budget: int = ALL_MOVES, library: Optional[Path] = None
     ) -> None:
         self.path, self.model, self.budget, self.library = path, model, budget, library
+        self.drape: Optional[Drape] = None
         self._lock = threading.Lock()
         self._program: Optional[Union[Program, LibraryProgram]] = self._started(budget)
         self._flight = bytearray()
@@ -41,6 +43,7 @@ class Showing:
             "scale": scale,
             "notes": model.notes,
             "coloured": model.colours is not None,
+            "drape": rows_over(self.drape, model) if self.drape else None,
             "opening": program.opening if program else None,
         }
 

@@ -12,10 +12,11 @@ from worlds.parents import error_of, told_path
 
 from . import manual
 from .address import Address
+from .drape import Drape
 from .model import needed, run, tell
 from .page_files import FILES, PAGE
 from .program import ALL_MOVES, Answer, BadScript, Program, ProgramEnded, replies_to
-from .server import BYTES, JSON, TEXT, Content
+from .server import BYTES, JSON, TEXT, Content, drape_content
 from .server import Page as ServedPage
 
 WORLD_PAGE = Path(__file__).resolve().parent / "world_page"
@@ -32,6 +33,7 @@ class WorldShowing:
 
     def __init__(self, path: Path, world: World, memory: int) -> None:
         self.path, self.world, self.memory = path, world, memory
+        self.drape: Optional[Drape] = None
         self.tiles = usable(world)
         self.proved = self._is_proved()
         self._lock = threading.Lock()
@@ -53,6 +55,7 @@ class WorldShowing:
             "proved": self.proved,
             "faces": sum(tile.faces for tile in self.world.level(0)),
             "tiles": [self._told(tile) for tile in self.tiles.values()],
+            "drape": self.drape and self.drape.rows(self.world.unit, self.world.origin),
         }
 
     def _told(self, tile: Tile) -> Dict[str, object]:
@@ -178,6 +181,8 @@ class WorldHandler(ServedPage):
         showing = self.server.showing
         if path == "about":
             return JSON, lambda: json.dumps(showing.about()).encode()
+        if path == "drape":
+            return drape_content(showing.drape).get(path)
         what, _, name = path.partition("/")
         tile = showing.tiles.get(name)
         if tile is None:

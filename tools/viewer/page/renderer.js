@@ -1,5 +1,6 @@
 // Draws the frames that the graphics processor has, from any camera, and the pyramid of a frozen
 // one.
+import { Drape } from "./drape.js";
 import { rows } from "./layout.js";
 import { clipMatrix, plus, scaled, unit } from "./matrices.js";
 import {
@@ -9,7 +10,7 @@ import { Texture } from "./textures.js";
 
 export class NoGraphics extends Error {}
 
-export const COLOURS = { stone: 0, depth: 1, wire: 2, own: 3 };
+export const COLOURS = { stone: 0, depth: 1, wire: 2, own: 3, drape: 4 };
 export const NO_FACE = 0xffffffff; // no face has this number
 const MARK = [1, 0.71, 0.33], HIT = [1, 0.3, 0.1, 1];
 const EDGES = 0.62; // how dark edges are
@@ -44,6 +45,7 @@ export class Renderer {
     this.mesh = linked(gl, MESH_VERTEX, MESH_FRAGMENT);
     this.lines = linked(gl, LINES_VERTEX, LINES_FRAGMENT);
     this.sky = linked(gl, SKY_VERTEX, SKY_FRAGMENT);
+    this.drape = new Drape(gl);
     this.empty = gl.createVertexArray();
     this.line = { array: gl.createVertexArray(), buffer: gl.createBuffer() };
     gl.bindVertexArray(this.line.array);
@@ -109,6 +111,7 @@ export class Renderer {
     const { gl, mesh: { program, at } } = this;
     gl.useProgram(program);
     mesh.bind(at);
+    this.drape.bind(at, mesh.offset);
     gl.uniformMatrix4fv(at.toClip, false, toClip);
     gl.uniform3fv(at.eye, eye);
     gl.uniform3fv(at.light, unit(along(axes, ...KEY_LIGHT)));

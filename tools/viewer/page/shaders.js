@@ -15,6 +15,8 @@ export const MESH_VERTEX = `#version 300 es
   uniform float now;        // in seconds; below 0 where nothing glides
   uniform float deepest;
   uniform uint picked;
+  uniform vec4 across, down; // where a place is in the drape, by x, y, z and 1
+  out vec2 spot;            // of the drape
   out vec3 seen;            // the place less the eye
   out vec3 nearness;        // 1 at one corner and 0 at the others
   out vec3 normal;
@@ -40,6 +42,7 @@ export const MESH_VERTEX = `#version 300 es
       place = mix(start.xyz, place, smoothstep(0.0, ${GLIDE.toFixed(2)}, now - start.w));
     }
     seen = place - eye;
+    spot = vec2(dot(across, vec4(place, 1.0)), dot(down, vec4(place, 1.0)));
     nearness = vec3(which == 0, which == 1, which == 2);
     if (bent) {
       uvec4 three = texelFetch(bends, cell(face), 0);
@@ -57,10 +60,12 @@ export const MESH_FRAGMENT = `#version 300 es
   precision highp float;
   uniform vec3 light, fill, above, paper, ink;
   uniform float side;       // 1 of a closed mesh, -1 of one inside out, 0 of one that isn't closed
-  uniform int colour;       // 0 stone, 1 by depth, 2 edges alone, 3 the input's
+  uniform int colour;       // 0 stone, 1 by depth, 2 edges alone, 3 the input's, 4 the drape
+  uniform sampler2D drape;
   uniform bool smoothly;
   uniform float edges;
   in vec3 seen, nearness, normal, own;
+  in vec2 spot;
   in float depth;
   flat in float isPicked;
   out vec4 shown;
@@ -104,7 +109,10 @@ export const MESH_FRAGMENT = `#version 300 es
     vec3 across = facing < 0.0 ? normalize(n - facing * v) : n;
     n = normalize(mix(across, smoothly ? -n : n, back));
     float line = edge();
-    vec3 base = colour == 0 ? vec3(.60, .57, .53) : pow(colour == 1 ? ramp(depth) : own, vec3(2.2));
+    vec3 laid = texture(drape, spot).rgb, stone = vec3(.60, .57, .53);
+    bool isBare = colour == 0 || colour == 4 && spot != clamp(spot, 0.0, 1.0);
+    vec3 told = colour == 1 ? ramp(depth) : colour == 4 ? laid : own;
+    vec3 base = isBare ? stone : pow(told, vec3(2.2));
     if (colour == 2) {
       shown = vec4(mix(paper * (0.85 + 0.2 * dot(n, light)), ink, line * 0.9), 1.0);
     } else {

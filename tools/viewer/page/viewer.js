@@ -1,6 +1,7 @@
 // The window: asks for the view of the camera, again and again, and draws what came last. It is the
 // same over a server and over an engine in the page: what differs is its worker.
 import { Divider } from "./divider.js";
+import { layDrape } from "./drape.js";
 import { showFault } from "./faults.js";
 import { Keeping } from "./keeping.js";
 import { Glides } from "./glides.js";
@@ -72,6 +73,7 @@ export class Viewer {
     this.controls = takeHands(this);
     watchTheme((theme) => this.change({ theme }), this.leaving.signal);
     panel.saySettings(this.set);
+    if (about.drape) await layDrape(this.scene.renderer, about.drape);
   }
 
   // The camera that a link tells, whose settings are taken; null where it tells of none.

@@ -6,6 +6,7 @@ import { toggle, watchMenu } from "./bar.js";
 import { boot } from "./boot.js";
 import { homeOf } from "./camera.js";
 import { Controls } from "./controls.js";
+import { layDrape } from "./drape.js";
 import { showFault } from "./faults.js";
 import { Glides } from "./glides.js";
 import { chosenSize, copy, download } from "./keeping.js";
@@ -58,6 +59,7 @@ class WorldViewer {
     this.takeHands();
     watchTheme((theme) => Object.assign(this, { theme, dirty: true }));
     requestAnimationFrame((now) => this.tick(now));
+    if (this.about.drape) await layDrape(this.renderer, this.about.drape);
   }
 
   goHome() {
