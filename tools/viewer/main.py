@@ -11,8 +11,8 @@ and --open opens it; Ctrl-C ends all. With --film the script FLIGHT is played, a
 written as one page that needs no server. With --page the window itself is written as one page
 that needs no server: it shows MODEL, or what is dropped on it, by the engine as a WebAssembly
 module, which FILE has or else is built. With --drape a picture lies over a terrain, by where its
-edges are in the file's coordinates or by a world file beside it. Needs Python 3.8 and a browser with WebGL 2, and no
-network.
+edges are in the file's coordinates or by a world file beside it. Needs Python 3.8 and a browser
+with WebGL 2, and no network.
 
 Ends with status 1 where the model or the module can't be had, or the program can't be started or
 ends early.

@@ -1,5 +1,5 @@
-// A picture that lies over a terrain. Where a place is in it is a sum of products each way, so it is
-// right at each level of detail, while nodes glide, and in each tile.
+// A picture that lies over a terrain. Where a place is in it is a sum of products each way, so it
+// is right at each level of detail, while nodes glide, and in each tile.
 const PLACE = 6; // of its texture, behind those of a mesh
 
 export class Drape {
