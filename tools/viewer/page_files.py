@@ -6,10 +6,11 @@ PAGE = Path(__file__).resolve().parent / "page"
 FILES = (
     "index.html", "bar.css", "style.css", "arrays.js", "awaiting.js", "bar.js", "bends.js",
     "boot.js", "camera.js", "cells.js", "connection.js", "controls.js", "coordinate.js",
-    "divider.js", "doing.js", "drape.js", "fault.js", "faults.js", "fitting.js", "follower.js",
-    "front.js", "glides.js", "hands.js", "hierarchy.js", "keeping.js", "late.js", "layout.js",
-    "leaving.js", "link.js", "main.js", "matrices.js", "mesh.js", "normals.js", "panel.js",
-    "picking.js", "renderer.js", "replies.js", "returning.js", "scene.js", "session.js",
-    "shaders.js", "shape.js", "slots.js", "steering.js", "surface.js", "tasks.js", "textures.js",
-    "upright.js", "viewer.js", "views.js", "work.js", "worker.js", "working.js", "writers.js",
+    "divider.js", "doing.js", "drape.js", "draping.js", "fault.js", "faults.js", "fitting.js",
+    "follower.js", "front.js", "glides.js", "hands.js", "hierarchy.js", "keeping.js", "late.js",
+    "layout.js", "leaving.js", "link.js", "main.js", "matrices.js", "mesh.js", "normals.js",
+    "panel.js", "picking.js", "renderer.js", "replies.js", "returning.js", "scene.js",
+    "session.js", "shaders.js", "shape.js", "slots.js", "steering.js", "surface.js", "tasks.js",
+    "textures.js", "upright.js", "viewer.js", "views.js", "work.js", "worker.js", "working.js",
+    "writers.js",
 )

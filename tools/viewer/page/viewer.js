@@ -1,7 +1,7 @@
 // The window: asks for the view of the camera, again and again, and draws what came last. It is the
 // same over a server and over an engine in the page: what differs is its worker.
 import { Divider } from "./divider.js";
-import { layDrape } from "./drape.js";
+import { layDrape } from "./draping.js";
 import { showFault } from "./faults.js";
 import { Keeping } from "./keeping.js";
 import { Glides } from "./glides.js";

@@ -15,16 +15,18 @@ APART = """((reach) => {
   const { gl } = viewer.scene.renderer, sky = [1, 0, 1];
   const { theme } = viewer;
   viewer.theme = { ...theme, low: sky, high: sky };
-  viewer.draw(performance.now());
-  viewer.theme = theme;
-  const width = gl.drawingBufferWidth / 2, height = gl.drawingBufferHeight;
-  const covered = (left) => {
+  const width = gl.drawingBufferWidth, height = gl.drawingBufferHeight, { cut } = viewer.divider;
+  const covered = (front) => {
+    viewer.divider.cut = front; // of the picture, that the level of detail has
+    viewer.draw(performance.now());
     const pixels = new Uint8Array(4 * width * height);
-    gl.readPixels(left, 0, width, height, gl.RGBA, gl.UNSIGNED_BYTE, pixels);
+    gl.readPixels(0, 0, width, height, gl.RGBA, gl.UNSIGNED_BYTE, pixels);
     const isSky = (i) => pixels[i] > 250 && pixels[i + 1] < 5 && pixels[i + 2] > 250;
     return Array.from({ length: width * height }, (_, i) => !isSky(4 * i));
   };
-  const both = [covered(0), covered(width)];
+  const both = [covered(1), covered(0)];
+  Object.assign(viewer.divider, { cut });
+  viewer.theme = theme;
   const around = (other, i, d) => {
     const x = i % width, y = Math.floor(i / width);
     for (let v = Math.max(0, y - d); v <= Math.min(height - 1, y + d); v++) {

@@ -6,7 +6,7 @@ import { toggle, watchMenu } from "./bar.js";
 import { boot } from "./boot.js";
 import { homeOf } from "./camera.js";
 import { Controls } from "./controls.js";
-import { layDrape } from "./drape.js";
+import { layDrape } from "./draping.js";
 import { showFault } from "./faults.js";
 import { Glides } from "./glides.js";
 import { chosenSize, copy, download } from "./keeping.js";

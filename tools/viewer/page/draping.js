@@ -1,0 +1,22 @@
+// Brings the server's picture, which films and pages without a server haven't.
+// The picture, no larger than the graphics processor takes.
+async function pictureFor(gl, url) {
+  const whole = await createImageBitmap(await (await fetch(url)).blob());
+  const most = gl.getParameter(gl.MAX_TEXTURE_SIZE), { width, height } = whole;
+  const share = Math.min(1, most / Math.max(width, height));
+  if (share === 1) return whole;
+  const resizeWidth = Math.floor(width * share), resizeHeight = Math.floor(height * share);
+  return createImageBitmap(whole, { resizeWidth, resizeHeight });
+}
+
+// Lays the server's picture over what a renderer draws, and adds it to the colours, chosen.
+export async function layDrape({ gl, drape }, rows) {
+  drape.show(await pictureFor(gl, "drape"), rows);
+  const stone = document.querySelector("input[name=colour][value=stone]").closest("label");
+  const label = stone.cloneNode(true), choice = label.querySelector("input");
+  Object.assign(choice, { id: "", value: "drape", checked: true });
+  label.title = "The picture that lies over the terrain";
+  label.querySelector("span").textContent = "Image";
+  stone.after(label);
+  choice.dispatchEvent(new Event("input", { bubbles: true }));
+}
