@@ -21,7 +21,7 @@ from quick_start.record import is_current  # noqa: E402
 from quick_start.sources import LIBRARY, Program  # noqa: E402
 from quick_start.stopped import Stopped  # noqa: E402
 
-FAULT = re.compile(rb"^\w+: fault (\d+)(?: \w+ (\d+))?$", re.M)
+FAULT = re.compile(rb"^\w+: fault (\d+)(?: \w+ (\d+))?(?: \(.*\))?$", re.M)
 LONGEST = 1_000_000
 
 
