@@ -204,7 +204,8 @@ class Stops(unittest.TestCase):
             "fn f() ensures { x", "#[inline\nfn f() {}", "fn f() ensures { x } where T: Copy {}",
             "use ::std::io;", "mod b;", "fn f() { x.drop(Drop) }", "fn f() { `x` }",
             "#[test]\nfn f(a: u8) {}", "#[test]\npub fn f() {}", "extern \"C\" fn f() {}",
-            "#[unsafe(no_mangle)] pub extern \"C\" fn f(a: &u8) {}", "#[error(\"x\")]\nstruct S;",
+            "#[unsafe(no_mangle)] pub extern \"C\" fn f(a: Vec<u8>) {}",
+            "#[error(\"x\")]\nstruct S;",
             "#[derive(Error)] enum E { A }", "#[derive(Error)] enum E { #[error(transparent)] A }",
         ])  # fmt: skip
 
