@@ -3,14 +3,14 @@ pub mod SumsBounds
 pub mod FineLaws
 pub mod LeastLaws
 mod Balance
-mod CutLaws
+pub mod CutLaws
 mod CramerBounds
 mod CramerLaws
 mod FoundLaws
 mod FourthPlaces
 mod FourthRows
 mod LevelLaws
-mod NearLaws
+pub mod NearLaws
 mod NormalLaws
 mod QuotientLaws
 mod Products

@@ -11,21 +11,21 @@ use crate::terms::add_three;
 
 /// The numbers on and above the diagonal of a symmetric matrix.
 #[derive(Clone, Copy)]
-pub(crate) struct Matrix {
-    pub(crate) xx: i128,
-    pub(crate) xy: i128,
-    pub(crate) xz: i128,
-    pub(crate) yy: i128,
-    pub(crate) yz: i128,
-    pub(crate) zz: i128,
+pub struct Matrix {
+    pub xx: i128,
+    pub xy: i128,
+    pub xz: i128,
+    pub yy: i128,
+    pub yz: i128,
+    pub zz: i128,
 }
 
 /// Three numbers.
 #[derive(Clone, Copy)]
-pub(crate) struct Vector {
-    pub(crate) x: i128,
-    pub(crate) y: i128,
-    pub(crate) z: i128,
+pub struct Vector {
+    pub x: i128,
+    pub y: i128,
+    pub z: i128,
 }
 
 /// Half of an even number.
@@ -37,7 +37,7 @@ pub(crate) fn half(v: i128) -> i128
 }
 
 /// How many binary digits a number has above its last `keep`.
-pub(crate) fn digits_above(keep: u32, n: u128) -> u32
+pub fn digits_above(keep: u32, n: u128) -> u32
     requires some { 0 < keep }
     ensures value { result ≡ digits_above keep n }
     ensures small { result < 128 }
@@ -48,7 +48,7 @@ pub(crate) fn digits_above(keep: u32, n: u128) -> u32
 }
 
 /// A number without its last digits, rounded down.
-pub(crate) fn short(v: i128, digits: u32) -> i128
+pub fn short(v: i128, digits: u32) -> i128
     requires { digits < 128 }
     ensures value { result ≡ int_shr v digits }
     ensures within { (m : ℕ) → unsigned_abs v ≤ m * 2 ^ digits → unsigned_abs result ≤ m }
@@ -99,7 +99,7 @@ fn row(a: i128, b: i128, c: i128, u: &Vector) -> i128
 
 impl Matrix {
     /// How many digits to drop, so that the diagonal keeps at most 33.
-    pub(crate) fn digits(&self) -> u32
+    pub fn digits(&self) -> u32
         ensures value { result ≡ matrix_digits self.now }
         ensures small { result < 128 }
         ensures xx { unsigned_abs self.now.xx ≤ 2 ^ 33 * 2 ^ result }
@@ -113,7 +113,7 @@ impl Matrix {
     }
 
     /// Its numbers without their last digits.
-    pub(crate) fn short(&self, digits: u32) -> Matrix
+    pub fn short(&self, digits: u32) -> Matrix
         requires { digits < 128 }
         ensures value { result ≡ short_matrix digits self.now }
         ensures within { (m : ℕ) → IsMatrixWithin (m * 2 ^ digits) self.now
@@ -130,7 +130,7 @@ impl Matrix {
     }
 
     /// The cofactors.
-    pub(crate) fn cofactors(&self) -> Matrix
+    pub fn cofactors(&self) -> Matrix
         requires { IsMatrixWithin (2 ^ 33) self.now }
         ensures value { result ≡ cofactors_of self.now }
         ensures small { IsMatrixWithin (2 ^ 67) result }
@@ -146,7 +146,7 @@ impl Matrix {
     }
 
     /// The determinant, by its cofactors.
-    pub(crate) fn determinant(&self, cofactors: &Matrix) -> i128
+    pub fn determinant(&self, cofactors: &Matrix) -> i128
         requires own { IsMatrixWithin (2 ^ 33) self.now }
         requires cofactors { cofactors.now ≡ cofactors_of self.now }
         requires small { IsMatrixWithin (2 ^ 67) cofactors.now }
@@ -162,7 +162,7 @@ impl Matrix {
     }
 
     /// Its product with a vector.
-    pub(crate) fn times(&self, u: &Vector) -> Vector
+    pub fn times(&self, u: &Vector) -> Vector
         requires own { IsMatrixWithin (2 ^ 67) self.now }
         requires vector { IsVectorWithin (2 ^ 52 - 1) u.now }
         ensures { result ≡ times_of self.now u.now }
@@ -177,7 +177,7 @@ impl Matrix {
 
 impl Vector {
     /// The numbers without their last digits.
-    pub(crate) fn short(&self, digits: u32) -> Vector
+    pub fn short(&self, digits: u32) -> Vector
         requires { digits < 128 }
         ensures { result ≡ short digits self.now }
     {
@@ -189,7 +189,7 @@ impl Vector {
     }
 
     /// Whether no number is further from 0 than `most`.
-    pub(crate) fn is_within(&self, most: u128) -> bool
+    pub fn is_within(&self, most: u128) -> bool
         ensures value { result ≡ is_within most self.now }
         ensures bounds { result ≡ true → IsVectorWithin most self.now }
     {
@@ -199,7 +199,7 @@ impl Vector {
     }
 
     /// The other way.
-    pub(crate) fn reversed(&self) -> Vector
+    pub fn reversed(&self) -> Vector
         requires { IsVectorWithin (2 ^ 52 - 1) self.now }
         ensures value { result ≡ reversed self.now }
         ensures small { IsVectorWithin (2 ^ 52 - 1) result }

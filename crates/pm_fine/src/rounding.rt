@@ -151,7 +151,7 @@ pub(crate) fn near(a: i64, b: u64, inverse: u64) -> i64
 }
 
 /// The same of numbers that need not fit in 64 bits.
-pub(crate) fn near_wide(a: i128, b: u64) -> i128
+pub fn near_wide(a: i128, b: u64) -> i128
     requires a_small { unsigned_abs a ≤ 2 ^ 72 }
     requires some { 0 < b }
     ensures value { result ≡ near a b }
