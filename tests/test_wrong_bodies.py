@@ -152,8 +152,14 @@ class Runs(unittest.TestCase):
             self.assertIn("some: leaves the sum out: doesn't apply", self.told)
 
     def test_a_crate_without_bodies_fails(self) -> None:
-        self.assertEqual(wrong.main(["low"]), 1)
-        self.assertEqual(self.told[-1], "0 passed, 1 failed")
+        for name in ("low", "--unknown"):
+            self.assertEqual(wrong.main([name]), 2)
+            self.assertIn(f"no body of a crate `{name}`", self.told[-1])
+        self.assertFalse(wrong.RECORD.exists())
+
+    def test_help_tries_nothing(self) -> None:
+        self.assertEqual(wrong.main(["--help"]), 0)
+        self.assertFalse(wrong.RECORD.exists())
 
     def test_a_library_has_to_be_proved(self) -> None:
         (self.top / "crates/low/out/rlib/stamp").unlink()

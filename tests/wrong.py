@@ -252,12 +252,20 @@ def with_run(record: str, crate: str, commit: str, minutes: float, done: List[Ou
 
 
 def main(names: List[str]) -> int:
+    if "--help" in names:
+        print(__doc__, end="")
+        return 0
     try:
         bodies = bodies_in(LIST.read_text(encoding="utf-8"))
     except ListFault as fault:
         print(f"{LIST.name}: {fault}")
         return 1
-    crates = names or sorted({body.crate for body in bodies})
+    known = sorted({body.crate for body in bodies})
+    unknown = [name for name in names if name not in known]
+    if unknown:
+        print(f"{LIST.name} has no body of a crate `{unknown[0]}`")
+        return 2
+    crates = names or known
     passed = failed = 0
     with tempfile.TemporaryDirectory(prefix="wrong-") as room:
         top = Path(room) / "top"
@@ -273,7 +281,7 @@ def main(names: List[str]) -> int:
                 print(f"{crate}: {one.body.name}: {one.told}", flush=True)
                 done.append(one)
             passed += sum(one.passed for one in done)
-            failed += sum(not one.passed for one in done) + (not own)
+            failed += sum(not one.passed for one in done)
             minutes = (time.monotonic() - began) / 60
             old = RECORD.read_text(encoding="utf-8") if RECORD.is_file() else ""
             RECORD.write_text(with_run(old, crate, commit_of(TOP), minutes, done))
