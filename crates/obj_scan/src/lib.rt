@@ -15,7 +15,7 @@ mod theory;
 pub use fault::{ScanFail, ScanFault};
 pub use passed::PassedOver;
 pub use polygons::push_polygon;
-pub use scan::{Scan, scan_obj};
+pub use scan::{Scan, scan_obj, scan_obj_after};
 pub use theory::scans_are_sound;
 
 /// The answer for want of memory.

@@ -1,5 +1,6 @@
 //! Reads a text to its end.
 ghost use Rattle.std.specs.Prelude.{◌≡◌, false, Ok, IfOk, IfErr, OnOk, IfSome};
+ghost use Rattle.std.specs.Io.KnownBytes.{prepend_known};
 ghost use Rattle.pm_io.specs.Bytes.{AtEnd};
 ghost use Rattle.pm_io.specs.Causes.{HasCause};
 ghost use Rattle.obj_scan.specs.Fails.{ExplainsScan, scanned_of};
@@ -9,7 +10,7 @@ ghost use Rattle.obj_scan.specs.Refusals.{of_source};
 use crate::fault::ScanFail;
 use crate::passed::PassedOver;
 use crate::scanner::Scanner;
-use obj_lines::{TextFail, read_lines};
+use obj_lines::{TextFail, read_lines_after};
 use obj_prepare::ExactPoint;
 use pm_base::Corners;
 use pm_ears::Polygon;
@@ -57,8 +58,27 @@ pub fn scan_obj<S: Source>(alloc: Global, source: &mut S) -> Result<Scan, ScanFa
     ensures err { IfErr result (λ e. ExplainsScan e (S.left source.old) (S.left source.new)) }
     ensures cause { HasCause (S.faults source.old) (S.faults source.new) (of_source result) }
 {
+    scan_obj_after(alloc, &[], source)
+}
+
+/// Reads bytes that were taken from a source, and then the source to its end, as `scan_obj` reads
+/// all of them.
+pub fn scan_obj_after<S: Source>(
+    alloc: Global,
+    first: &[u8],
+    source: &mut S,
+) -> Result<Scan, ScanFail>
+    requires { S.ended source.old ≡ false }
+    ensures ok { IfOk result (λ s. IfSome (prepend_known first.now (S.left source.old))
+        (λ bytes. scan_meaning_of bytes ≡ Ok (scanned_of s))) }
+    ensures within { IfOk result (λ s. IsWithinLimits (scanned_of s)) }
+    ensures end { OnOk result (AtEnd (S.left source.new)) }
+    ensures err { IfErr result
+        (λ e. ExplainsScan e (prepend_known first.now (S.left source.old)) (S.left source.new)) }
+    ensures cause { HasCause (S.faults source.old) (S.faults source.new) (of_source result) }
+{
     let mut scanner = Scanner::new(alloc);
-    match read_lines(alloc, source, &mut scanner) {
+    match read_lines_after(alloc, first, source, &mut scanner) {
         Ok(_) => Ok(scanner.scan),
         Err(TextFail::Fault(why)) => Err(ScanFail::Fault {
             fault: why.fault,
