@@ -1,0 +1,6 @@
+mod ClampLaws
+mod PlaceLaws
+mod TotalLaws
+mod RangeLaws
+mod NumberLaws
+mod FitLaws

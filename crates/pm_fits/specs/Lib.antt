@@ -1,0 +1,5 @@
+pub mod Fits
+pub mod Sums
+pub mod Ranges
+pub mod Faults
+pub mod Laws

@@ -1,0 +1,19 @@
+//! What each node of the vertex forest has of a number that goes with places, as a place in a
+//! texture: that of the linear map which fits the numbers of its leaves best, at its own place.
+#![tactic(auto)]
+
+mod faults;
+mod fits;
+mod numbers;
+mod places;
+mod ranges;
+mod theory;
+mod weights;
+
+pub use faults::FitFault;
+pub use fits::fits_of;
+pub use numbers::GREATEST_NUMBER;
+pub use theory::fits_are_sound;
+
+/// The answer for want of memory.
+pub type OutOfMemory = std::alloc::AllocError;
