@@ -1,18 +1,17 @@
 -- Where the reading of a packed text begins and ends.
-use Rattle.std.proofs.Common.{◌≡◌, ◌≢◌, ℕ, ◌==◌, ◌<◌, List, [], ◌∷◌, ◌++◌, length, take, drop}
-use Rattle.std.proofs.Common.{nat_eq, true, false, Some, refl, sym, ◌∙◌, ap, arith}
+use Rattle.std.proofs.Common.{◌≡◌, ◌≢◌, ℕ, ◌==◌, ◌<◌, List, [], ◌++◌, length, take, drop}
+use Rattle.std.proofs.Common.{nat_eq, true, false, refl, sym, ◌∙◌, ap, arith}
 use Rattle.std.proofs.lemmas.List.{take-append-drop}
 use Rattle.std.specs.Cmp.Lexicographic.{pointwise, same_text, other_text}
 use Rattle.pm_coder.specs.declared.predictor.Predictor as predictor
 use Rattle.pm_coder.specs.Coding.{Progress}
 use Rattle.pm_coder.specs.RoundTrips.{first}
-use Rattle.pm_format.specs.declared.fault.FormatError.TheVariants as faults
 use Rattle.pm_format.specs.Words.{spelled}
 use Rattle.pm_format.specs.Faults.{stream_fault, magic_is_bad}
 use Rattle.pm_format.specs.Reading.{forest_at, header_at, digits_at}
 use Rattle.pm_format.specs.Standing.{Decoding, IsDecoderAfter}
 use Rattle.pm_pack.specs.Texts.{Known}
-use Rattle.pm_pack.specs.Packed.{head, slots, at_first, IsStream, IsPacked}
+use Rattle.pm_pack.specs.Packed.{head, slots, at_first, IsPacked}
 use Rattle.pm_pack.specs.Unpacking.{IsCut, ReadsOn, ReadsAll, CutsOff, GoesOn, SaysStream}
 use Rattle.pm_pack.proofs.TextLaws.{known-none}
 use Rattle.pm_pack.proofs.StepLaws.{reads-none, short-untold}

@@ -1,12 +1,12 @@
 -- Words by guesses.
-use Rattle.std.proofs.Common.{◌≡◌, ◌≢◌, ℕ, ◌+◌, ◌-◌, ◌*◌, ◌/◌, ◌%◌, ◌==◌, ◌<◌, ◌≤◌, ◌⊎◌, inl, inr}
-use Rattle.std.proofs.Common.{Bool, true, false, List, [], ◌∷◌, refl, sym, ◌∙◌, ap, arith}
+use Rattle.std.proofs.Common.{◌≡◌, ◌≢◌, ℕ, ◌+◌, ◌-◌, ◌*◌, ◌/◌, ◌%◌, ◌<◌, ◌≤◌, ◌⊎◌, inl, inr}
+use Rattle.std.proofs.Common.{Bool, true, false, [], ◌∷◌, refl, sym, ◌∙◌, ap, arith}
 use Rattle.std.proofs.lemmas.Bool.{false≢true}
-use Rattle.std.proofs.lemmas.Bool.Decides.{eqb_tells, nat_tests}
+use Rattle.std.proofs.lemmas.Bool.Decides.{eqb_tells}
 use Rattle.pm_coder.specs.declared.predictor.Predictor as predictor
 use Rattle.pm_coder.specs.Intervals.{choice}
-use Rattle.pm_coder.specs.Coders.{Coding, IsWriting, May, made, Can}
-use Rattle.pm_coder.specs.Questions.{Answer, answer, question}
+use Rattle.pm_coder.specs.Coders.{Coding, May, made, Can}
+use Rattle.pm_coder.specs.Questions.{answer, question}
 use Rattle.pm_coder.specs.Guesses.{told, Tells, Differ, number_answers}
 use Rattle.pm_coder.proofs.IntervalLaws.{at_least}
 use Rattle.pm_coder.proofs.CoderLaws.{can-first, can-rest, writer-can, made-writing, one_choice}

@@ -1,7 +1,7 @@
 -- Which bytes are packed, and what packed texts are.
-use Rattle.std.proofs.Common.{◌≡◌, ◌≢◌, ℕ, ◌<◌, ◌≤◌, ◌⊎◌, inl, inr, List, [], ◌∷◌, ◌++◌}
+use Rattle.std.proofs.Common.{◌≡◌, ◌≢◌, ℕ, ◌<◌, ◌≤◌, inl, inr, List, [], ◌++◌}
 use Rattle.std.proofs.Common.{length, take, drop, Some, None, refl, sym, ◌∙◌, ap, arith}
-use Rattle.std.proofs.Common.{true, false, Result, Ok, Err, IfErr, OnOk}
+use Rattle.std.proofs.Common.{false, Result, Ok, Err, IfErr, OnOk}
 use Rattle.std.proofs.lemmas.List.{append-nil, take_all, take-append-drop, length-drop}
 use Rattle.pm_forest.specs.Forest.{Hierarchy}
 use Rattle.pm_format.specs.declared.fault.FormatError.{FormatError}
@@ -17,7 +17,7 @@ use Rattle.pm_pack.specs.declared.reading.UnpackFail.{UnpackFail}
 use Rattle.pm_pack.specs.declared.reading.UnpackFail.TheVariants as unpack
 use Rattle.pm_pack.specs.Packing.{IsFollowed, IsPackFail, Judged, IsSaid, refused}
 use Rattle.pm_pack.specs.Packed.{head, slots, at_first, IsStream, IsPacked, PackedTextsAreOfOne}
-use Rattle.pm_pack.specs.Unpacking.{IsFailOf, IsFail}
+use Rattle.pm_pack.specs.Unpacking.{IsFail}
 use Rattle.pm_pack.proofs.UnpackLaws.{stream-fine, said-one, fail-unsaid}
 
 -- A fault that the bytes have already.

@@ -1,11 +1,11 @@
 -- Writing packed texts.
-use Rattle.std.proofs.Common.{◌≡◌, ℕ, List, [], ◌∷◌, ◌++◌, length, refl, sym, ◌∙◌, ap, arith}
+use Rattle.std.proofs.Common.{◌≡◌, ℕ, List, [], ◌∷◌, ◌++◌, refl, sym, ◌∙◌, ap}
 use Rattle.std.proofs.Common.{append_assoc}
 use Rattle.std.proofs.lemmas.List.{append-nil}
 use Rattle.std.specs.Int.{w32, to_be_bytes}
 use Rattle.pm_coder.specs.declared.predictor.Predictor as predictor
 use Rattle.pm_coder.specs.Coding.{Progress, ended}
-use Rattle.pm_coder.specs.Coders.{Coding, Writing, Reading, Makes}
+use Rattle.pm_coder.specs.Coders.{Writing, Makes}
 use Rattle.pm_coder.specs.RoundTrips.{first}
 use Rattle.pm_coder.proofs.CoderLaws.{makes-none, made-are_read}
 use Rattle.pm_pack.specs.Texts.{Known, word_choices, words_choices, known_after, all_known}

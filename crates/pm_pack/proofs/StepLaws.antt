@@ -1,6 +1,6 @@
 -- One more word of a packed text.
-use Rattle.std.proofs.Common.{◌≡◌, ◌≢◌, ◌⊎◌, ℕ, ◌+◌, ◌*◌, ◌<◌, ◌≤◌, inl, inr, List, [], ◌∷◌, ◌++◌}
-use Rattle.std.proofs.Common.{Bool, length, take, Option, Some, None, refl, sym, ◌∙◌, ap, arith}
+use Rattle.std.proofs.Common.{◌≡◌, ◌≢◌, ℕ, ◌*◌, ◌<◌, ◌≤◌, inl, inr, List, [], ◌∷◌, ◌++◌}
+use Rattle.std.proofs.Common.{Bool, length, take, Some, None, refl, sym, ◌∙◌, ap, arith}
 use Rattle.std.proofs.Common.{length-append, true, false, not, Result, Ok, Err}
 use Rattle.std.proofs.lemmas.List.{append-nil, take_all, length-take}
 use Rattle.pm_forest.specs.Forest.{Hierarchy}
@@ -9,7 +9,7 @@ use Rattle.byteorder.specs.Endian.{little_bytes}
 use Rattle.pm_coder.specs.declared.predictor.Predictor as predictor
 use Rattle.pm_coder.specs.Intervals.{choice}
 use Rattle.pm_coder.specs.Coding.{Progress}
-use Rattle.pm_coder.specs.Coders.{Coding, Reading, May, all_made, Can, Makes}
+use Rattle.pm_coder.specs.Coders.{Reading, May, Can, Makes}
 use Rattle.pm_coder.specs.RoundTrips.{first}
 use Rattle.pm_coder.proofs.CoderLaws.{makes-none}
 use Rattle.pm_format.specs.declared.fault.FormatError.{FormatError}
@@ -23,18 +23,17 @@ use Rattle.pm_format.specs.Standing.{Decoding, IsDecoderAfter, HasFaultAlready, 
 use Rattle.pm_format.proofs.WholeLaws.{whole_text}
 use Rattle.pm_format.proofs.WordLaws.{words_append, length-spelled}
 use Rattle.pm_format.proofs.TextLaws.{spelled-append}
-use Rattle.pm_pack.specs.Guesses.{word_answers}
 use Rattle.pm_pack.specs.Pasts.{guess_of}
-use Rattle.pm_pack.specs.Texts.{Known, AreWords, word_choices, words_choices, known_after}
+use Rattle.pm_pack.specs.Texts.{Known, word_choices, words_choices, known_after}
 use Rattle.pm_pack.specs.Texts.{all_known}
 use Rattle.pm_pack.specs.Packed.{IsStream}
 use Rattle.pm_pack.specs.declared.reading.UnpackFail.{UnpackFail}
 use Rattle.pm_pack.specs.declared.reading.UnpackFail.TheVariants as fails
 use Rattle.pm_pack.specs.Unpacking.{HasRead, IsCut, ReadsOn, ReadsAll, CutsOff, SaysFault}
-use Rattle.pm_pack.specs.Unpacking.{Feeds, IsWholeIn, Steps, named}
+use Rattle.pm_pack.specs.Unpacking.{Feeds, Steps, named}
 use Rattle.pm_pack.proofs.GuessedLaws.{bit-untold}
 use Rattle.pm_pack.proofs.TextLaws.{makes-join, words-append, words-one, words-none}
-use Rattle.pm_pack.proofs.TextLaws.{known-more, known-none}
+use Rattle.pm_pack.proofs.TextLaws.{known-more}
 
 -- Before the first word.
 pub reads-none : {P : Type 0} (k : predictor.Ghosts P) (from : Known P) (code : List ℕ)

@@ -1,14 +1,13 @@
 -- Texts as the choices of their words.
-use Rattle.std.proofs.Common.{◌≡◌, ◌≢◌, ℕ, ◌<◌, ◌≤◌, ◌⊎◌, inl, inr, List, [], ◌∷◌, ◌++◌}
+use Rattle.std.proofs.Common.{◌≡◌, ◌≢◌, ℕ, ◌<◌, ◌⊎◌, inl, inr, List, [], ◌∷◌, ◌++◌}
 use Rattle.std.proofs.Common.{refl, sym, ◌∙◌, ap, append_assoc, arith}
 use Rattle.std.proofs.lemmas.List.{append-nil}
 use Rattle.pm_coder.specs.declared.predictor.Predictor as predictor
 use Rattle.pm_coder.specs.Intervals.{Choice}
 use Rattle.pm_coder.specs.Coding.{AreFit, Progress, passed}
 use Rattle.pm_coder.specs.Coders.{Coding, Reading, made, all_made, Can, Makes, Part}
-use Rattle.pm_coder.specs.RoundTrips.{GuessesPart}
 use Rattle.pm_coder.proofs.IntervalLaws.{at_least}
-use Rattle.pm_coder.proofs.CoderLaws.{makes-none, readers-go_one_way, parts-join, parts-follow}
+use Rattle.pm_coder.proofs.CoderLaws.{readers-go_one_way, parts-join}
 use Rattle.pm_coder.proofs.DifferLaws.{guesses-part}
 use Rattle.pm_pack.specs.Pasts.{guess_of}
 use Rattle.pm_pack.specs.Texts.{Known, word_choices, known_after, words_choices, all_known}

@@ -1,37 +1,28 @@
 -- Reading packed texts.
-use Rattle.std.proofs.Common.{◌≡◌, ◌≢◌, ◌⊎◌, ℕ, ◌+◌, ◌*◌, ◌<◌, ◌≤◌, inl, inr, List, [], ◌∷◌, ◌++◌}
-use Rattle.std.proofs.Common.{Bool, length, take, Option, Some, None, refl, sym, ◌∙◌, ap, arith}
-use Rattle.std.proofs.Common.{append_assoc}
+use Rattle.std.proofs.Common.{◌≡◌, ◌≢◌, ◌⊎◌, ℕ, ◌<◌, inl, inr, List, [], ◌∷◌, ◌++◌}
+use Rattle.std.proofs.Common.{length, Some, None, refl, sym, ◌∙◌, ap}
 use Rattle.std.proofs.lemmas.List.{append-nil}
 use Rattle.pm_coder.specs.declared.predictor.Predictor as predictor
-use Rattle.pm_coder.specs.Intervals.{choice}
 use Rattle.pm_coder.specs.Coding.{Progress}
-use Rattle.pm_coder.specs.Coders.{Coding, Reading, May, all_made, Can, Makes}
+use Rattle.pm_coder.specs.Coders.{Reading, all_made, Can}
 use Rattle.pm_coder.specs.RoundTrips.{first}
-use Rattle.pm_coder.proofs.CoderLaws.{makes-none}
-use Rattle.pm_forest.specs.Forest.{Hierarchy}
 use Rattle.pm_format.specs.declared.fault.FormatError.{FormatError}
 use Rattle.pm_format.specs.declared.fault.FormatError.TheVariants as faults
 use Rattle.pm_format.specs.Words.{words_of, spelled}
 use Rattle.pm_format.specs.Stream.{stream, stream_words}
 use Rattle.pm_format.specs.Faults.{stream_fault}
-use Rattle.pm_format.specs.Standing.{IsText}
-use Rattle.pm_format.proofs.WordLaws.{words_again, length-spelled}
+use Rattle.pm_format.proofs.WordLaws.{words_again}
 use Rattle.pm_format.proofs.TextLaws.{spelled-append}
 use Rattle.pm_format.proofs.WordFits.{stream_is_words}
 use Rattle.pm_format.proofs.WholeLaws.{whole_text, no_longer}
-use Rattle.pm_pack.specs.Guesses.{word_answers}
-use Rattle.pm_pack.specs.Pasts.{guess_of}
 use Rattle.pm_pack.specs.Texts.{Known, AreWords, word_choices, words_choices, known_after}
 use Rattle.pm_pack.specs.Texts.{all_known}
 use Rattle.pm_pack.specs.Packed.{IsStream, Says}
 use Rattle.pm_pack.specs.Unpacking.{HasRead, IsCut, ReadsAll, CutsOff, SaysFault, GoesOn, IsFailOf}
-use Rattle.pm_pack.specs.Unpacking.{ReadsOn}
 use Rattle.pm_pack.specs.declared.reading.UnpackFail.{UnpackFail}
 use Rattle.pm_pack.specs.declared.reading.UnpackFail.TheVariants as fails
-use Rattle.pm_pack.proofs.GuessedLaws.{bit-untold}
-use Rattle.pm_pack.proofs.TextLaws.{makes-join, can-back, words-append, words-one, words-none}
-use Rattle.pm_pack.proofs.TextLaws.{words-first, can-front, known-append, known-one, known-none}
+use Rattle.pm_pack.proofs.TextLaws.{can-back, words-append}
+use Rattle.pm_pack.proofs.TextLaws.{words-first, can-front}
 use Rattle.pm_pack.proofs.TextLaws.{Begins, readers-read_one}
 
 -- A stream text is that of its words.

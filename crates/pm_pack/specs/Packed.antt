@@ -1,14 +1,14 @@
 -- Packed texts: five bytes, and code bytes that say the words of a stream text.
-use Rattle.std.specs.Prelude.{◌≡◌, ◌≢◌, ◌⊎◌, ℕ, ◌<◌, List, [], ◌∷◌, ◌++◌, length, Some, codes}
+use Rattle.std.specs.Prelude.{◌≡◌, ℕ, List, [], ◌∷◌, ◌++◌, length, codes}
 use Rattle.pm_coder.specs.declared.predictor.Predictor as predictor
 use Rattle.pm_coder.specs.Coding.{Progress}
-use Rattle.pm_coder.specs.Coders.{Reading, Can, Makes}
+use Rattle.pm_coder.specs.Coders.{Reading, Makes}
 use Rattle.pm_coder.specs.RoundTrips.{first}
 use Rattle.pm_forest.specs.Forest.{Hierarchy}
 use Rattle.pm_format.specs.Words.{words_of}
 use Rattle.pm_format.specs.Standing.{IsText}
 use Rattle.pm_pack.specs.Hashes.{share_in, learned_in, fresh_slots}
-use Rattle.pm_pack.specs.Texts.{Known, nothing_seen, word_choices, words_choices, all_known}
+use Rattle.pm_pack.specs.Texts.{Known, nothing_seen, words_choices}
 
 -- The bytes that a packed text begins with: its magic, and its version.
 abbrev pub head : List ℕ

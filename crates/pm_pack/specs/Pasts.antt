@@ -1,5 +1,5 @@
 -- What is guessed of the next word by the words before it.
-use Rattle.std.specs.Prelude.{ℕ, ◌+◌, ◌-◌, ◌*◌, ◌==◌, ◌&&◌, nat_lt, nat_le, min, Bool}
+use Rattle.std.specs.Prelude.{ℕ, ◌+◌, ◌-◌, ◌*◌, ◌==◌, nat_lt, min}
 use Rattle.std.specs.Prelude.{if◌then◌else◌, List, [], ◌∷◌, ◌++◌, length, get_or, slice_set}
 use Rattle.pm_pack.specs.declared.fields.Spot.{Spot}
 use Rattle.pm_pack.specs.declared.past.Node.{Node}

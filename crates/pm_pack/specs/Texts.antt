@@ -1,5 +1,5 @@
 -- The words of a text as choices.
-use Rattle.std.specs.Prelude.{◌≡◌, ◌≢◌, ℕ, ◌<◌, List, [], ◌∷◌, ◌++◌, length, replicate}
+use Rattle.std.specs.Prelude.{ℕ, ◌<◌, List, [], ◌∷◌, ◌++◌, replicate}
 use Rattle.std.specs.List.{AllByRecursion}
 use Rattle.pm_coder.specs.declared.predictor.Predictor as predictor
 use Rattle.pm_coder.specs.Intervals.{Choice}

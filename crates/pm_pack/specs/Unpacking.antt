@@ -1,5 +1,5 @@
 -- How far a packed text was read, and why it is no packed text.
-use Rattle.std.specs.Prelude.{◌≡◌, ◌≢◌, ◌⊎◌, ℕ, ◌<◌, List, [], ◌++◌, length, Bool, true, false}
+use Rattle.std.specs.Prelude.{◌≡◌, ◌≢◌, ◌⊎◌, ℕ, ◌<◌, List, ◌++◌, length, Bool, true, false}
 use Rattle.std.specs.Prelude.{◌≤◌, take, Result, Ok, Err, Some}
 use Rattle.pm_coder.specs.declared.predictor.Predictor as predictor
 use Rattle.pm_coder.specs.Coding.{Progress}

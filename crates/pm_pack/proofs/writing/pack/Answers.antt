@@ -1,4 +1,3 @@
-use Rattle.std.proofs.Common.{refl}
 use Rattle.pm_coder.proofs.UniformLaws.{if_ok, if_err}
 use Rattle.pm_pack.proofs.JudgeLaws.{fail-no_stream, said-packed}
 use Rattle.pm_pack.proofs.writing.pack.Goals as goal
