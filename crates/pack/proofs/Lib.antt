@@ -1,0 +1,4 @@
+pub mod InputLaws
+pub mod MakingLaws
+pub mod EndingLaws
+pub mod SaidLaws

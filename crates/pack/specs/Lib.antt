@@ -1,0 +1,6 @@
+pub mod Words
+pub mod Input
+pub mod Making
+pub mod Ending
+pub mod FaultLine
+pub mod Devices

@@ -1,0 +1,57 @@
+-- What is made of bytes.
+use Rattle.std.specs.Prelude.{◌≡◌, ℕ, List, Some}
+use Rattle.pm_format.specs.Faults.{stream_fault}
+use Rattle.pm_pack.specs.Packed.{IsStream, IsPacked}
+use Rattle.pm_pack.specs.Packing.{IsFollowed}
+use Rattle.pm_pack.specs.Unpacking.{IsFail}
+use Rattle.pm_pack.specs.declared.writing.PackFail.{PackFail}
+use Rattle.pm_pack.specs.declared.writing.PackFail.TheVariants as packs
+use Rattle.pm_pack.specs.declared.reading.UnpackFail.{UnpackFail}
+use Rattle.pm_pack.specs.declared.reading.UnpackFail.TheVariants as unpacks
+use Rattle.pack.specs.declared.words.Asked.{Asked}
+use Rattle.pack.specs.declared.words.Asked.TheVariants as asked
+use Rattle.pack.specs.declared.fault.Fault.{Fault}
+use Rattle.pack.specs.declared.fault.Fault.TheVariants as faults
+use Rattle.pack.specs.declared.fault.MakeFail.{MakeFail}
+use Rattle.pack.specs.declared.fault.MakeFail.TheVariants as fails
+
+-- The text is what is asked for of these bytes: a packed text of them, or what they are packed of.
+abbrev pub IsMade : Asked → List ℕ → List ℕ → Type 0
+IsMade asked.Pack bytes text = IsPacked text bytes
+IsMade asked.Unpack bytes text = IsPacked bytes text
+
+-- The bytes have this fault.
+abbrev pub IsFaulty : Asked → List ℕ → Fault → Type 0
+IsFaulty asked.Pack bytes (faults.Stream e) = stream_fault bytes ≡ Some e
+IsFaulty asked.Pack bytes faults.Trailing = IsFollowed bytes
+IsFaulty asked.Pack bytes faults.NotPacked = ⊥
+IsFaulty asked.Pack bytes faults.Cut = ⊥
+IsFaulty asked.Pack bytes faults.PackedTrailing = ⊥
+IsFaulty asked.Unpack bytes (faults.Stream e) = IsFail bytes (unpacks.Stream e)
+IsFaulty asked.Unpack bytes faults.Trailing = ⊥
+IsFaulty asked.Unpack bytes faults.NotPacked = IsFail bytes unpacks.NotPacked
+IsFaulty asked.Unpack bytes faults.Cut = IsFail bytes unpacks.Cut
+IsFaulty asked.Unpack bytes faults.PackedTrailing = IsFail bytes unpacks.Trailing
+
+-- Bytes of which nothing is made.
+pub record Refuses (asks : Asked) (bytes : List ℕ) (fault : Fault) : Type 0 where
+  pub faulty : IsFaulty asks bytes fault
+  pub none : (text : List ℕ) → ¬ IsMade asks bytes text
+
+-- Why nothing is made.
+abbrev pub FailsBy : Asked → List ℕ → MakeFail → Type 0
+FailsBy asks bytes (fails.Faulty fault) = Refuses asks bytes fault
+FailsBy asks bytes fails.OutOfMemory = Unit {0}
+
+-- Want of memory is no fault of the input.
+abbrev pub pack_fail : PackFail → MakeFail
+pack_fail (packs.Stream e) = fails.Faulty (faults.Stream e)
+pack_fail packs.Trailing = fails.Faulty faults.Trailing
+pack_fail packs.OutOfMemory = fails.OutOfMemory
+
+abbrev pub unpack_fail : UnpackFail → MakeFail
+unpack_fail unpacks.NotPacked = fails.Faulty faults.NotPacked
+unpack_fail unpacks.Cut = fails.Faulty faults.Cut
+unpack_fail unpacks.Trailing = fails.Faulty faults.PackedTrailing
+unpack_fail (unpacks.Stream e) = fails.Faulty (faults.Stream e)
+unpack_fail unpacks.OutOfMemory = fails.OutOfMemory
