@@ -1,4 +1,4 @@
-"""Tries what ./vdpm, ./prepare and ./simplify say to who runs them by hand."""
+"""Tries what ./vdpm, ./prepare, ./simplify and ./pack say to who runs them by hand."""
 import subprocess
 import tempfile
 import unittest
@@ -26,7 +26,7 @@ def said(
 
 class Hints(unittest.TestCase):
     def test_usage(self) -> None:
-        for name in ("vdpm", "prepare", "simplify"):
+        for name in ("vdpm", "prepare", "simplify", "pack"):
             for word in ("--help", "-h"):
                 run = said(name, b"v", word)
                 self.assertEqual((run.returncode, run.stderr), (0, b""))
@@ -65,6 +65,12 @@ class Hints(unittest.TestCase):
         self.assertIn(b"a stream of vdpm", said("vdpm", stream, "build").stderr)
         self.assertIn(b"no line", said("vdpm", b"hello\n", "canon").stderr)
         self.assertEqual(said("vdpm", b"", "demo", "3").stderr, b"")
+        packed = b"VDPK\1\x80\0\0\0"
+        self.assertEqual(said("pack", stream).stderr, b"")
+        self.assertEqual(said("pack", packed, "--unpack").stderr, b"")
+        self.assertIn(b"a packed stream", said("pack", packed).stderr)
+        self.assertIn(b"a stream of vdpm", said("pack", stream, "--unpack").stderr)
+        self.assertIn(b"a packed stream", said("vdpm", packed, "check").stderr)
 
     def test_a_pipe_is_left_alone(self) -> None:
         run = said("simplify", b"ply\n", pipe=True)

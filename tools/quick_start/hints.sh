@@ -40,6 +40,7 @@ kind_of() {
         ply.*) echo "a PLY file" ;;
         solid\ *) echo "an STL file" ;;
         VDPM*) echo "a stream of vdpm" ;;
+        VDPK*) echo "a packed stream" ;;
         glTF*) echo "a glTF file" ;;
         OFF.* | COFF.*) echo "an OFF file" ;;
         'Kaydara FBX'*) echo "an FBX file" ;;
@@ -53,7 +54,8 @@ kind_of() {
 tell_kind() {
     local file=/dev/stdin kind reads='an OBJ text'
     case $name$1 in
-        vdpmexpand | vdpmcheck | vdpmview | vdpmlive) reads='a stream of vdpm' ;;
+        vdpmexpand | vdpmcheck | vdpmview | vdpmlive | pack) reads='a stream of vdpm' ;;
+        pack--unpack) reads='a packed stream' ;;
         vdpmdemo) return ;;
     esac
     [ -f "$file" ] || return 0

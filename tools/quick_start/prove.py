@@ -38,6 +38,7 @@ TRIAL_WORDS: Dict[str, List[str]] = {
     "vdpm": ["--", "canon"],
     "prepare": [],
     "simplify": [],
+    "pack": [],
 }
 
 

@@ -1,4 +1,4 @@
-# Sourced by ./vdpm, ./prepare and ./simplify, which set `name`: runs the program of that name with
+# Sourced by ./vdpm, ./prepare, ./simplify and ./pack, which set `name`: runs the program of that name with
 # the words given, the proved one where it is of the sources as they stand, and else one that isn't
 # proved.
 #
