@@ -11,6 +11,8 @@ import sys
 from pathlib import Path
 from typing import Callable, Dict, Iterable, Iterator, List, Tuple, Union
 
+from model.packed import packed_words
+
 TOP = Path(__file__).resolve().parent.parent
 Data = List[Tuple[bytes, int]]
 Point = Tuple[int, int, int]
@@ -246,6 +248,11 @@ def cut(data: bytes, given: str) -> bytes:
     return data[: int(given)]
 
 
+def packed(data: bytes, given: str) -> bytes:
+    """The words as a packed text says them, by the model."""
+    return packed_words(data)
+
+
 def with_crlf(data: bytes, given: str) -> bytes:
     return data.replace(b"\n", b"\r\n")
 
@@ -256,7 +263,7 @@ BUILDERS: Dict[str, Callable[[str], Union[bytes, Data]]] = {
     "grid": grid, "cube": cube, "cone": cone, "book": book, "chain": chain, "square_of": square_of,
 }  # fmt: skip
 FILTERS: Dict[str, Callable[[bytes, str], bytes]] = {
-    "set": set_word, "byte": set_byte, "cut": cut, "crlf": with_crlf,
+    "set": set_word, "byte": set_byte, "cut": cut, "crlf": with_crlf, "packed": packed,
 }  # fmt: skip
 
 

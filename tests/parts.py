@@ -32,10 +32,10 @@ from pathlib import Path
 from typing import Callable, Dict, List, NamedTuple, Optional, Tuple
 
 TOP = Path(__file__).resolve().parent.parent
-PROGRAMS = ("vdpm", "prepare", "simplify")
+PROGRAMS = ("vdpm", "prepare", "simplify", "pack")
 DOCUMENTS = (
     "README.md", "CONTRIBUTING.md", "docs/GUIDE.md", "docs/WORLDS.md",
-    *(f"docs/commands/{name}.md" for name in ("vdpm", "view", "prepare", "simplify")),
+    *(f"docs/commands/{name}.md" for name in ("vdpm", "view", "prepare", "simplify", "pack")),
 )  # fmt: skip
 SEED, RANDOM_CASES = "1", "300"
 

@@ -10,7 +10,7 @@ from typing import Dict, List
 
 TOP = Path(__file__).resolve().parent.parent
 # Words with which a program reads its whole standard input.
-READING: Dict[str, List[str]] = {"vdpm": ["canon"], "prepare": [], "simplify": []}
+READING: Dict[str, List[str]] = {"vdpm": ["canon"], "prepare": [], "simplify": [], "pack": []}
 # The statuses that a program may end with.
 STATUSES = range(6)
 TRIANGLE = b"v 0 0 0\nv 1 0 0\nv 0 1 0\nf 1 2 3\n"

@@ -1,7 +1,7 @@
-"""Compares `vdpm`, `prepare` and `simplify` with the model on random cases.
+"""Compares `vdpm`, `prepare`, `simplify` and `pack` with the model on random cases.
 
     python3 tests/random_cases.py SEED COUNT [--vdpm PATH] [--prepare PATH] [--simplify PATH]
-                                  [--processes N]
+                                  [--pack PATH] [--processes N]
     python3 tests/random_cases.py --again FILE [--write INPUT]
 
 A case is a program, its words and its input; number I of a seed is always the same one. What the
@@ -21,6 +21,7 @@ from random import Random
 from typing import Callable, Dict, List, NamedTuple, Optional, Tuple
 
 from model import Answer, answer
+from model.packed import packed_words
 from random_inputs import bad_stream, damaged_text, random_digits, random_script
 from random_inputs import random_stream, random_text
 from random_meshes import random_mesh
@@ -107,9 +108,11 @@ def words_case(rng: Random) -> Case:
     """Words of the forms in any order, most of which aren't understood. No large demo is asked."""
     known = ["canon", "build", "expand", "check", "view", "live", "--digits", "0", "4", "5", "01"]
     known += ["-1", "", "4294967296", "prepare", "demo 3", "--help", "32768", "--keep-border"]
+    known += ["--unpack"]
     words = [rng.choice(known) for _ in range(rng.randint(0, 4))]
     words = rng.choice([words, ["demo", rng.choice(["0", "257", "01", "x"])], ["view", "01"]])
-    return Case(rng.choice(["vdpm", "vdpm", "prepare", "simplify"]), words, b"v 0 0 0\n")
+    program = rng.choice(["vdpm", "vdpm", "prepare", "simplify", "pack"])
+    return Case(program, words, b"v 0 0 0\n")
 
 
 def size_words(rng: Random) -> List[str]:
@@ -131,6 +134,32 @@ def prepared_case(rng: Random) -> Case:
     return Case(program, words, text)
 
 
+def pack_case(rng: Random) -> Case:
+    h, stream = random_stream(rng, random_mesh(rng))
+    if rng.random() < 0.3:
+        stream = bad_stream(rng, h, stream)
+    return Case("pack", [], stream)
+
+
+def unpack_case(rng: Random) -> Case:
+    """Most packed texts are damaged; some say words that are no stream text."""
+    h, stream = random_stream(rng, random_mesh(rng))
+    if rng.random() < 0.3:
+        stream = bad_stream(rng, h, stream)
+    packed = bytearray(packed_words(stream[: len(stream) // 4 * 4]))
+    at = rng.randrange(len(packed))
+    kind = rng.choice(["whole", "bit", "bit", "byte", "cut", "more"])
+    if kind == "bit":
+        packed[at] ^= 1 << rng.randrange(8)
+    elif kind == "byte":
+        packed[at] = rng.randrange(256)
+    elif kind == "cut":
+        del packed[at:]
+    elif kind == "more":
+        packed += rng.choice([b"\0", b"\n", b"q\nx"])
+    return Case("pack", ["--unpack"], bytes(packed))
+
+
 KINDS: List[Tuple[Callable[[Random], Case], int]] = [
     (canon_case, 10),
     (build_case, 14),
@@ -142,6 +171,8 @@ KINDS: List[Tuple[Callable[[Random], Case], int]] = [
     (words_case, 3),
     (prepare_case, 14),
     (prepared_case, 6),
+    (pack_case, 4),
+    (unpack_case, 8),
 ]
 
 
@@ -240,11 +271,12 @@ def main() -> int:
     parser.add_argument("--vdpm", default=str(TOP / "vdpm"), help="the program, ./vdpm by default")
     parser.add_argument("--prepare", default=str(TOP / "prepare"), help="./prepare by default")
     parser.add_argument("--simplify", default=str(TOP / "simplify"), help="./simplify by default")
+    parser.add_argument("--pack", default=str(TOP / "pack"), help="./pack by default")
     parser.add_argument("--processes", type=int, help="as many as there are processors by default")
     parser.add_argument("--again", metavar="FILE", help="runs the case of this file alone")
     parser.add_argument("--write", metavar="FILE", help="with --again: puts the case's input there")
     asked = parser.parse_args()
-    paths = {"vdpm": asked.vdpm, "prepare": asked.prepare, "simplify": asked.simplify}
+    paths = {name: getattr(asked, name) for name in ("vdpm", "prepare", "simplify", "pack")}
     for path in paths.values():
         if not Path(path).is_file():
             parser.error(f"no program stands at {path}")

@@ -1,9 +1,9 @@
-"""Runs the program cases of tests/cases over the three programs: python3 tests/run.py
+"""Runs the program cases of tests/cases over the programs: python3 tests/run.py
 
 Each case that fails is told with what had to come and what came. The last line is
 `N passed, M failed`, and the status is 0 exactly where cases ran and none failed. `./vdpm`,
-`./prepare` and `./simplify` are run where no other program is named; tests/README.md tells the form
-of the cases.
+`./prepare`, `./simplify` and `./pack` are run where no other program is named; tests/README.md
+tells the form of the cases.
 """
 import argparse
 import hashlib

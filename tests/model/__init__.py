@@ -3,7 +3,7 @@
 It is over lists and numbers, and looks at everything anew each time. So it is slow, and for meshes
 of a few hundred faces. It shares no code with the programs; tests/random_cases.py compares them
 with it. `python3 tests/model vdpm WORDS.. < input` answers as `./vdpm WORDS..` should, and so it is
-with `prepare` and `simplify`.
+with `prepare`, `simplify` and `pack`.
 
     mesh       points, faces, sides, twins, fans, the canonical text
     obj        what an OBJ text means
@@ -19,12 +19,13 @@ with `prepare` and `simplify`.
     pick       rays
     script     the lines of a script
     commands   words and answers of `vdpm` and `simplify`
+    packed     packed texts, and words and answers of `pack`
     scan       what any OBJ text spells
     prepare    the oriented manifold that is made of it, and what is said of the work
 """
 from typing import List
 
-from . import commands, prepare
+from . import commands, packed, prepare
 from .faults import Answer
 
 
@@ -34,6 +35,7 @@ def answer(program: str, words: List[str], data: bytes) -> Answer:
         "vdpm": commands.answer,
         "prepare": prepare.answer,
         "simplify": commands.simplify_answer,
+        "pack": packed.answer,
     }
     return programs[program](words, data)
 
