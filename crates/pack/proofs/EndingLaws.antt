@@ -1,7 +1,7 @@
 -- What a status says of how the program ended.
-use Rattle.std.proofs.Common.{◌≡◌, ◌≢◌, ◌⊎◌, inl, inr, ℕ, ◌-◌, ◌^◌, ◌<◌, List, Option, Some, None}
-use Rattle.std.proofs.Common.{Result, Ok, Err, IfSome, refl, subst, sym, ◌∙◌, arith}
-use Rattle.pm_io.specs.Bytes.{Gains, GainsPart}
+use Rattle.std.proofs.Common.{◌≡◌, ◌⊎◌, inl, inr, ℕ, ◌-◌, ◌^◌, ◌<◌, List, Option, Some, None}
+use Rattle.std.proofs.Common.{Result, Ok, Err, IfSome, refl, subst, arith}
+use Rattle.pm_io.specs.Bytes.{Gains}
 use Rattle.pm_io.specs.Causes.{Rose}
 use Rattle.pm_io.specs.Endings.{CountsFaults}
 use Rattle.pm_io.specs.declared.device.Source as source
@@ -32,16 +32,6 @@ ends_of asks (Err fails.Read) left now old new bytes held ends = absurd ends
 ends_of asks (Err fails.Write) left now old new bytes held ends =
     on_front (λ b. CutShort asks b old new) MOST left now bytes held ends
 ends_of asks (Err fails.OutOfMemory) left now old new bytes held ends = ends
-
--- The source was read before, and its count stayed.
-pub reads_of : (asks : Asked) (r : Result (Unit {0}) RunFail) (bytes : List ℕ)
-    (old new : Option (List ℕ)) (before now : ℕ) → EndsOn asks r bytes old new → now ≡ before
-    → ReadCounts r before now
-reads_of asks (Ok done) bytes old new before now ends same = same
-reads_of asks (Err (fails.Faulty fault)) bytes old new before now ends same = same
-reads_of asks (Err fails.Read) bytes old new before now ends same = absurd ends
-reads_of asks (Err fails.Write) bytes old new before now ends same = same
-reads_of asks (Err fails.OutOfMemory) bytes old new before now ends same = same
 
 -- The words ask for one thing.
 pub one_asked : (asks : Option Asked) (a b : Asked) → asks ≡ Some a → asks ≡ Some b → a ≡ b
@@ -127,18 +117,6 @@ back_fails fails.OutOfMemory status (Some bytes) now old new given ends either =
     λ text made. inr given
 
 -- What the counts did.
-pub counts_done : {S K : Type 0} (s : source.Ghosts S) (k : sink.Ghosts K) (input input_now : S)
-    (out out_now : K) → s.faults input_now ≡ s.faults input → k.faults out_now ≡ k.faults out
-    → CountsFaults s k 0 input input_now out out_now
-counts_done s k input input_now out out_now reads puts = record {
-  whole = λ is. (reads, puts);
-  faulty = λ is. (reads, puts);
-  words = λ is. (reads, puts);
-  read = λ is. absurd (omega (arith, is));
-  write = λ is. absurd (omega (arith, is));
-  memory = λ is. (reads, puts);
-}
-
 pub counts_of : {S K : Type 0} (s : source.Ghosts S) (k : sink.Ghosts K) (fail : RunFail)
     (status : ℕ) (input input_now : S) (out out_now : K) → status ≡ status_of fail
     → ReadCounts (Err fail) (s.faults input) (s.faults input_now)

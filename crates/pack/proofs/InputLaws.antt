@@ -1,10 +1,10 @@
 -- Reading the first bytes of an input.
 use Rattle.std.proofs.Common.{◌≡◌, ◌⊎◌, inl, inr, ℕ, ◌≤◌, List, [], ◌++◌, length, take, Option}
-use Rattle.std.proofs.Common.{◌<◌, Some, None, IfSome, sym, ◌∙◌, ap, subst, arith}
+use Rattle.std.proofs.Common.{Some, None, IfSome, sym, ◌∙◌, ap, subst}
 use Rattle.std.proofs.lemmas.List.{append-nil, take_all, take-append-le}
 use Rattle.pm_io.specs.Bytes.{Loses, AtEnd}
 use Rattle.pm_io.proofs.Known.{loses_both}
-use Rattle.pack.specs.Input.{Took, HoldsFront, StopsShort}
+use Rattle.pack.specs.Input.{Took, HoldsFront}
 
 -- After one more piece.
 pub took_on : (left mid now : Option (List ℕ)) (old new : List ℕ) → Loses left mid old
@@ -54,12 +54,3 @@ pub on_front : (P : List ℕ → Type 0) (most : ℕ) (left now : Option (List �
     → HoldsFront most left now bytes → P bytes → IfSome left (λ all. P (take most all))
 on_front P most None now bytes f is = tt
 on_front P most (Some all) now bytes f is = subst P (front_is most all now bytes f) is
-
--- A read failed after these bytes.
-pub short_of : (most : ℕ) (left mid now : Option (List ℕ)) (taken : List ℕ) → Loses left mid taken
-    → length taken < most → now ≡ mid → StopsShort most left now
-short_of most left mid now taken lost few same = record {
-  taken = taken;
-  lost = subst (λ (o : Option (List ℕ)). Loses left o taken) (sym same) lost;
-  few = few;
-}

@@ -1,4 +1,3 @@
 pub mod InputLaws
-pub mod MakingLaws
 pub mod EndingLaws
 pub mod SaidLaws

@@ -7,7 +7,6 @@ use Rattle.pm_io.specs.Devices.{Tells}
 use Rattle.pm_pack.specs.Packed.{IsPacked}
 use Rattle.pack.specs.declared.obeying.TheConstants.{MOST}
 use Rattle.pack.specs.declared.words.Asked.{Asked}
-use Rattle.pack.specs.declared.words.Asked.TheVariants as asked
 use Rattle.pack.specs.declared.fault.Fault.{Fault}
 use Rattle.pack.specs.Input.{ReadsTo, StopsShort}
 use Rattle.pack.specs.Making.{Refuses}

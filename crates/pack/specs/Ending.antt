@@ -6,7 +6,6 @@ use Rattle.pack.specs.declared.obeying.TheConstants.{MOST}
 use Rattle.pack.specs.declared.words.Asked.{Asked}
 use Rattle.pack.specs.declared.input.InputFail.{InputFail}
 use Rattle.pack.specs.declared.input.InputFail.TheVariants as input
-use Rattle.pack.specs.declared.fault.Fault.{Fault}
 use Rattle.pack.specs.declared.fault.MakeFail.{MakeFail}
 use Rattle.pack.specs.declared.fault.MakeFail.TheVariants as makes
 use Rattle.pack.specs.declared.fault.RunFail.{RunFail}

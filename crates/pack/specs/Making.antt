@@ -1,7 +1,7 @@
 -- What is made of bytes.
 use Rattle.std.specs.Prelude.{◌≡◌, ℕ, List, Some}
 use Rattle.pm_format.specs.Faults.{stream_fault}
-use Rattle.pm_pack.specs.Packed.{IsStream, IsPacked}
+use Rattle.pm_pack.specs.Packed.{IsPacked}
 use Rattle.pm_pack.specs.Packing.{IsFollowed}
 use Rattle.pm_pack.specs.Unpacking.{IsFail}
 use Rattle.pm_pack.specs.declared.writing.PackFail.{PackFail}

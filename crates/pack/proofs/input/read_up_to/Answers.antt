@@ -1,4 +1,4 @@
-use Rattle.std.proofs.Common.{◌≤◌, length, ap, arith}
+use Rattle.std.proofs.Common.{◌≤◌, length, arith}
 use Rattle.pack.proofs.InputLaws.{front_all, front_cut}
 use Rattle.pack.proofs.input.read_up_to.Goals as goal
 

@@ -1,4 +1,4 @@
-use Rattle.std.proofs.Common.{Option, Ok, Err, IfSome, inl, inr, refl, sym, ap, ◌∙◌, subst}
+use Rattle.std.proofs.Common.{Err, IfSome, inr, refl, sym, ap, ◌∙◌, subst}
 use Rattle.pack.specs.declared.words.Asked.{Asked}
 use Rattle.pack.specs.declared.words.Asked.TheVariants as asked
 use Rattle.pack.specs.Words.{asked_of}
