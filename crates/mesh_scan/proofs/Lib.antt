@@ -1,0 +1,11 @@
+pub mod CauseLaws
+pub mod SourceLaws
+pub mod MeaningLaws
+pub mod FormatLaws
+pub mod PlyHeaderLaws
+pub mod ExactLaws
+pub mod StlLaws
+pub mod StlTextLaws
+pub mod PlyExactLaws
+pub mod PlyRowLaws
+pub mod PlyLaws
