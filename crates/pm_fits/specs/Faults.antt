@@ -1,8 +1,7 @@
 -- Which numbers of the input's vertices have no fits.
-use Rattle.std.specs.Prelude.{ℤ, nat_le, Bool, not, ◌==◌, List, length, Option, None, Some}
+use Rattle.std.specs.Prelude.{ℕ, ℤ, nat_le, Bool, not, ◌==◌, List, length, Option, None, Some}
 use Rattle.std.specs.Prelude.{if◌then◌else◌, ◌≡◌, ◌⊎◌, unsigned_abs}
 use Rattle.std.specs.List.{list_all}
-use Rattle.pm_forest.specs.Forest.{Hierarchy, leaf_count}
 use Rattle.pm_fits.specs.declared.faults.FitFault.{FitFault}
 use Rattle.pm_fits.specs.declared.faults.FitFault.TheVariants.{Count, Number, OutOfMemory}
 use Rattle.pm_fits.specs.declared.numbers.TheConstants.{GREATEST_NUMBER}
@@ -11,10 +10,10 @@ use Rattle.pm_fits.specs.declared.numbers.TheConstants.{GREATEST_NUMBER}
 abbrev pub is_number : ℤ → Bool
 is_number n = nat_le (unsigned_abs n) GREATEST_NUMBER
 
--- What is wrong with the numbers: how many they are, or else one of them.
-abbrev pub number_fault : Hierarchy → List ℤ → Option FitFault
-number_fault h values =
-    if not (length values == leaf_count h) then Some Count
+-- What is wrong with numbers of which there should be n: how many they are, or else one of them.
+abbrev pub number_fault : ℕ → List ℤ → Option FitFault
+number_fault n values =
+    if not (length values == n) then Some Count
     else if list_all is_number values then None
     else Some Number
 

@@ -4,12 +4,11 @@ ghost use Rattle.std.specs.List.{list_all};
 ghost use Rattle.pm_fits.specs.Faults.{is_number, number_fault};
 
 use crate::numbers::GREATEST_NUMBER;
-use pm_forest::Hierarchy;
 
 /// Why numbers have no fits.
 #[derive(Clone, Copy, Debug, PartialEq, Eq)]
 pub enum FitFault {
-    /// There isn't just one number for each vertex of the input.
+    /// There aren't just as many numbers as there should be for the vertices of the input.
     Count,
     /// A number is above `GREATEST_NUMBER` in absolute value.
     Number,
@@ -29,11 +28,11 @@ fn are_numbers(values: &[i32]) -> bool
     values.iter().all(|n| is_number(*n))
 }
 
-/// What is wrong with numbers of the input's vertices.
-pub(crate) fn number_fault(h: &Hierarchy, values: &[i32]) -> Option<FitFault>
-    ensures { result ≡ number_fault h.now values.now }
+/// What is wrong with numbers of which there should be so many.
+pub(crate) fn number_fault(count: usize, values: &[i32]) -> Option<FitFault>
+    ensures { result ≡ number_fault count values.now }
 {
-    if values.len() != h.leaves() as usize {
+    if values.len() != count {
         return Some(FitFault::Count);
     }
     if are_numbers(values) {

@@ -55,8 +55,8 @@ fn node_fit(
     range.brought_within(fit(&moments, &spot(h, node)) - 2_097_152)
 }
 
-// The fits of all nodes, by the totals of places.
-fn fits_by(
+/// The fits of all nodes, by the totals of places.
+pub(crate) fn fits_by(
     alloc: Global,
     h: &Hierarchy,
     places: &[PlaceSums],
@@ -88,10 +88,10 @@ fn fits_by(
 pub fn fits_of(alloc: Global, h: &Hierarchy, values: &[i32]) -> Result<Items<i32>, FitFault>
     ensures fits { IfOk result (λ fits. fits.items
         ≡ map (fit_at h.now values.now) (range_with_len 0 (node_count h.now))) }
-    ensures taken { OnOk result (number_fault h.now values.now ≡ None) }
-    ensures refused { IfErr result (λ e. IsRefusal (number_fault h.now values.now) e) }
+    ensures taken { OnOk result (number_fault (leaf_count h.now) values.now ≡ None) }
+    ensures refused { IfErr result (λ e. IsRefusal (number_fault (leaf_count h.now) values.now) e) }
 {
-    if let Some(fault) = number_fault(h, values) {
+    if let Some(fault) = number_fault(h.leaves() as usize, values) {
         return Err(fault);
     }
     match place_totals(alloc, h) {

@@ -2,6 +2,7 @@
 //! texture: that of the linear map which fits the numbers of its leaves best, at its own place.
 #![tactic(auto)]
 
+mod channels;
 mod faults;
 mod fits;
 mod numbers;
@@ -10,6 +11,7 @@ mod ranges;
 mod theory;
 mod weights;
 
+pub use channels::fits_by_channel;
 pub use faults::FitFault;
 pub use fits::fits_of;
 pub use numbers::GREATEST_NUMBER;

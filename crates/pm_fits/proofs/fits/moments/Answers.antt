@@ -3,7 +3,7 @@ use Rattle.pm_paint.specs.Means.{count_under}
 use Rattle.pm_paint.proofs.MeanLaws.{count_at}
 use Rattle.pm_fit.specs.Fit.{AreMoments}
 use Rattle.pm_fits.specs.Fits.{moments_of}
-use Rattle.pm_fits.proofs.TotalLaws.{moments_small}
+use Rattle.pm_fits.proofs.BoundLaws.{moments_small}
 use Rattle.pm_fits.proofs.fits.moments.Goals as goal
 
 pub overflow_sub-result : goal.overflow_sub-result

@@ -4,7 +4,8 @@ use Rattle.pm_fit.specs.declared.moments.PlaceSums.{PlaceSums}
 use Rattle.pm_fit.specs.declared.moments.Spot.{Spot}
 use Rattle.pm_fits.specs.Fits.{spot_of, place_terms, leaf_spot, leaf_places, places_before}
 use Rattle.pm_fits.specs.Sums.{plus_places, ArePlacesWithin}
-use Rattle.pm_fits.proofs.TotalLaws.{places_none, places_more, places_before_small}
+use Rattle.pm_fits.proofs.BoundLaws.{places_before_small}
+use Rattle.pm_fits.proofs.TotalLaws.{places_none, places_more}
 use Rattle.pm_fits.proofs.places.place_totals.Goals as goal
 
 pub loop-leaf-init : goal.loop-leaf-init

@@ -7,7 +7,8 @@ use Rattle.pm_fit.specs.declared.moments.Spot.{Spot}
 use Rattle.pm_fits.specs.Fits.{number_at, lifted, spot_of, number_terms, leaf_spot, leaf_numbers}
 use Rattle.pm_fits.specs.Fits.{numbers_before}
 use Rattle.pm_fits.specs.Sums.{plus_numbers, AreNumbersWithin}
-use Rattle.pm_fits.proofs.TotalLaws.{numbers_none, numbers_more, numbers_before_small}
+use Rattle.pm_fits.proofs.BoundLaws.{numbers_before_small}
+use Rattle.pm_fits.proofs.TotalLaws.{numbers_none, numbers_more}
 use Rattle.pm_fits.proofs.weights.number_totals.Goals as goal
 
 pub loop-leaf-init : goal.loop-leaf-init
