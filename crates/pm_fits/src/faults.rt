@@ -28,8 +28,9 @@ fn are_numbers(values: &[i32]) -> bool
     values.iter().all(|n| is_number(*n))
 }
 
-/// What is wrong with numbers of which there should be so many.
-pub(crate) fn number_fault(count: usize, values: &[i32]) -> Option<FitFault>
+/// What is wrong with numbers of which there should be so many; none where there are, and none is
+/// above `GREATEST_NUMBER` in absolute value. It looks at each number.
+pub fn number_fault(count: usize, values: &[i32]) -> Option<FitFault>
     ensures { result ≡ number_fault count values.now }
 {
     if values.len() != count {

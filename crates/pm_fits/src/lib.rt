@@ -12,7 +12,7 @@ mod theory;
 mod weights;
 
 pub use channels::fits_by_channel;
-pub use faults::FitFault;
+pub use faults::{FitFault, number_fault};
 pub use fits::fits_of;
 pub use numbers::GREATEST_NUMBER;
 pub use theory::fits_are_sound;
