@@ -166,7 +166,7 @@ class Pages(unittest.TestCase):
         rows = [
             ({"README.md": 900, "docs/A.md": 50600}, []),
             ({"README.md": 901}, [("README.md", "901 words are more than 900")]),
-            ({"docs/A.md": 54000, "b.md": 1}, [("all pages", "54001 words are more than 54000")]),
+            ({"docs/A.md": 57000, "b.md": 1}, [("all pages", "57001 words are more than 57000")]),
         ]
         for words, wanted in rows:
             self.assertEqual(list(pages.too_many_words(words)), wanted)

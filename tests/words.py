@@ -10,7 +10,7 @@ from typing import Dict, Iterator, List, Tuple
 
 TABLE = "docs/WORDS.md"
 # The table itself, and what tells of versions before.
-MAY_SAY_ANY = (TABLE, "CHANGELOG.md")
+MAY_SAY_ANY = (TABLE, "CHANGELOG.md", "docs/CHANGES.md")
 # A word that a reader searches for, and the page that it has to lead to.
 SEARCHED: Dict[str, str] = {
     "non-manifold": "docs/commands/prepare.md",
