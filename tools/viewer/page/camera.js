@@ -1,5 +1,6 @@
 // Where one looks from, and the script lines that tell it to the program (docs/FORMATS.md).
 import { cross, dot, plus, scaled, unit } from "./matrices.js";
+import { Stretch } from "./stretch.js";
 
 const LARGEST_NORMAL = 32767;   // of the A, B and C of a plane, and of a ray's way
 const LARGEST_PLACE = 16777215; // of an eye
@@ -15,9 +16,9 @@ const within = (p) => p.map((c) => Math.max(-LARGEST_PLACE, Math.min(LARGEST_PLA
 
 export class Camera {
   // Looks at `target` from `distance` away. `yaw` turns round the axis that is up, "z" or "y";
-  // `pitch` goes up from the ground.
-  constructor({ target, distance, yaw, pitch, upright = "z" }) {
-    Object.assign(this, { target: [...target], distance, yaw, pitch, upright });
+  // `pitch` goes up from the ground. All this is of the mesh as it is drawn, stretched.
+  constructor({ target, distance, yaw, pitch, upright = "z", stretch = new Stretch(upright) }) {
+    Object.assign(this, { target: [...target], distance, yaw, pitch, upright, stretch });
   }
 
   copy() { return new Camera(this); }
@@ -30,6 +31,13 @@ export class Camera {
     ]);
     const right = turned([Math.cos(yaw), Math.sin(yaw), 0]);
     return { right, up: cross(back, right), back };
+  }
+
+  // Looks at the same place of the mesh, which is drawn otherwise. Below all of it there is none.
+  stretchAs(stretch) {
+    const { target, stretch: { axis, lowest } } = this;
+    if (target[axis] > lowest) this.target = stretch.drawn(this.stretch.own(target));
+    this.stretch = stretch;
   }
 
   eye() { return plus(this.target, this.distance, this.axes().back); }
@@ -59,7 +67,7 @@ export class Camera {
       target: this.target.map((c, axis) => between(c, other.target[axis])),
       distance: Math.exp(between(Math.log(this.distance), Math.log(other.distance))),
       yaw: this.yaw + round * part, pitch: between(this.pitch, other.pitch),
-      upright: other.upright,
+      upright: other.upright, stretch: other.stretch,
     });
   }
 
@@ -73,7 +81,8 @@ export const farther = ({ width, height }) => Math.max(1, height / width);
 
 // A camera from which a box of the mesh is seen whole, from the side and a little from above; from
 // higher where it is flat as a terrain.
-export function homeOf({ low, high }, upright, picture) {
+export function homeOf(box, upright, picture, stretch = new Stretch(upright)) {
+  const low = stretch.drawn(box.low), high = stretch.drawn(box.high);
   const target = low.map((c, axis) => (c + high[axis]) / 2);
   const sizes = low.map((c, axis) => high[axis] - c);
   const radius = Math.hypot(...sizes) / 2 || 1;
@@ -81,30 +90,34 @@ export function homeOf({ low, high }, upright, picture) {
   const broad = Math.max(sizes[0], upright === "y" ? sizes[2] : sizes[1]);
   const pitch = tall < 0.4 * broad ? 0.5 : 0.35;
   const distance = 2.4 * radius * farther(picture);
-  const camera = new Camera({ target, distance, yaw: 0.5, pitch, upright });
+  const camera = new Camera({ target, distance, yaw: 0.5, pitch, upright, stretch });
   return { camera, radius };
 }
 
 // The left, the right, the lower and the upper side of a picture that is `margin` times as wide and
-// as high. Their inner sides are the positive ones.
-function planes({ right, up, back }, eye, { focal, width, height }, margin) {
+// as high, which go through the eye. Their inner sides are the positive ones.
+function planes(camera, eye, { focal, width, height }, margin) {
+  const { right, up, back } = camera.axes();
   const sides = [[right, (margin * width) / 2], [up, (margin * height) / 2]];
   return sides.flatMap(([side, reach]) => [1, -1].flatMap((sign) => {
     const inward = plus(scaled(sign * focal, side), -reach, back);
-    const normal = whole(scaled(LARGEST_NORMAL, unit(inward)));
+    const own = camera.stretch.ownNormal(inward);
+    const normal = whole(scaled(LARGEST_NORMAL, unit(own)));
     return [...normal, -dot(normal, eye) || 0];
   }));
 }
 
 // The view of a picture, `judged` by "distance" or by "deviation". Focal length and tolerances are
-// told in parts of a pixel, since a view depends on their ratios alone.
+// told in parts of a pixel, since a view depends on their ratios alone. Of a mesh that is drawn
+// higher what is seen is told as it is in the mesh itself, where an error is that much smaller.
 export function viewLine(camera, picture, { tolerance, outline = tolerance, judged, margin = 1 }) {
-  const eye = within(whole(camera.eye()));
+  const { stretch, stretch: { times } } = camera, eye = within(whole(stretch.own(camera.eye())));
   const parts = Math.min(FINEST, Math.floor(LARGEST_PIXELS / Math.max(picture.focal, tolerance)));
-  const pixels = [picture.focal, tolerance, outline].map((n) => Math.round(n * parts));
+  const asked = [picture.focal, tolerance / times, outline / times];
+  const pixels = asked.map((n) => Math.round(n * parts));
   const [outlined, count] = outline < tolerance ? ["s", 3] : ["", 2];
   const word = `v${judged === "deviation" ? "d" : ""}${outlined}`;
-  const sides = planes(camera.axes(), eye, picture, margin);
+  const sides = planes(camera, eye, picture, margin);
   return [word, ...eye, ...pixels.slice(0, count), ...sides].join(" ");
 }
 
@@ -115,9 +128,10 @@ export function wayThrough(camera, focal, x, y) {
   return unit(plus(plus(scaled(x, right), y, up), -focal, back));
 }
 
-// The ray through a pixel, counted the same way.
+// The ray through a pixel, counted the same way, in the mesh itself.
 export function rayThrough(camera, focal, x, y) {
-  const from = within(whole(camera.eye()));
-  const way = whole(scaled(LARGEST_NORMAL, wayThrough(camera, focal, x, y)));
+  const { stretch } = camera, from = within(whole(stretch.own(camera.eye())));
+  const seen = unit(stretch.ownWay(wayThrough(camera, focal, x, y)));
+  const way = whole(scaled(LARGEST_NORMAL, seen));
   return { from, way, line: `p ${from.join(" ")} ${way.join(" ")}` };
 }

@@ -1,4 +1,6 @@
 // From where the whole mesh is seen as large as a picture allows, and in its middle.
+import { Stretch } from "./stretch.js";
+
 const ROUNDS = 4; // of bringing it to the middle, each several times as near
 
 // The places of all vertices as a camera has them, less `target`: to the right, up, and towards it.
@@ -10,6 +12,13 @@ function seenFrom({ right, up, back }, target, { places, leafNodes, leaves }) {
     for (const axis of axes) all[to++] = x * axis[0] + y * axis[1] + z * axis[2];
   }
   return all;
+}
+
+// Axes and a place of the mesh itself, by which it is seen as those that are given see it drawn.
+function unstretched({ right, up, back }, target, told) {
+  const stretch = Object.assign(new Stretch(), told);
+  const own = (axis) => stretch.ownNormal(axis);
+  return [{ right: own(right), up: own(up), back: own(back) }, stretch.own(target)];
 }
 
 // On one axis of the picture the two planes through its edges that just have all vertices between
@@ -36,10 +45,10 @@ function middle(all, axis, distance, aside) {
 }
 
 // How far the eye has to be from what is looked at, and where that is: `target`, which is about the
-// mesh's middle, or somewhat beside it.
-export function fitted(hierarchy, axes, target, { width, height, focal }) {
+// mesh's middle, or somewhat beside it. The mesh is drawn stretched.
+export function fitted(hierarchy, { axes, target, picture: { width, height, focal }, stretch }) {
   if (hierarchy.leaves === 0) return { distance: 1, target };
-  const all = seenFrom(axes, target, hierarchy);
+  const all = seenFrom(...unstretched(axes, target, stretch), hierarchy);
   const across = between(all, 0, (2 * focal) / width);
   const along = between(all, 1, (2 * focal) / height);
   const distance = Math.max(1, across.distance, along.distance);

@@ -2,7 +2,7 @@
 import { Camera } from "./camera.js";
 
 const part = (name) => document.getElementById(name);
-const SWITCHES = ["edges", "smooth"], CHOICES = ["up", "colour", "judged"];
+const SWITCHES = ["edges", "smooth", "contours", "hillshade"], CHOICES = ["up", "colour", "judged"];
 const chosen = (name) => document.querySelector(`input[name=${name}]:checked`).value;
 
 // What stands behind the `#` of such a link.
@@ -11,6 +11,7 @@ export function toldOf({ target, distance, yaw, pitch }) {
     at: [...target, distance].join(" "),
     turned: [yaw, pitch].join(" "),
     detail: part("tolerance").value,
+    exaggeration: part("exaggeration").value,
   });
   for (const name of CHOICES) words.set(name, chosen(name));
   for (const name of SWITCHES) words.set(name, part(name).checked ? "on" : "off");
@@ -29,5 +30,6 @@ export function restored(told) {
   }
   for (const name of SWITCHES) part(name).checked = words.get(name) === "on";
   part("tolerance").value = words.get("detail") ?? part("tolerance").value;
+  part("exaggeration").value = words.get("exaggeration") ?? 1;
   return new Camera({ target: [x, y, z], distance, yaw, pitch, upright: chosen("up") });
 }

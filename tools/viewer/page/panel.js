@@ -31,6 +31,8 @@ export function settings() {
     upright: chosen("up"),
     smooth: isOn("smooth"), edges: isOn("edges"), glide: isOn("glide"), freeze: isOn("freeze"),
     round: isOn("round"), beside: isOn("beside"), picks: isOn("picks"),
+    contours: isOn("contours"), hillShade: isOn("hillshade"),
+    exaggeration: part("exaggeration").valueAsNumber,
   };
 }
 
@@ -47,6 +49,8 @@ export function saySettings(now) {
   part("tolerance-said").textContent = pixels(now.tolerance);
   part("outline-said").textContent = now.outline < now.tolerance ? pixels(now.outline) : "the same";
   part("draft-said").textContent = now.draft > 1 ? pixels(now.tolerance * now.draft) : "the same";
+  const { exaggeration: times } = now;
+  part("exaggeration-said").textContent = times === 1 ? "none" : `${times} times`;
   part("budget-said").textContent = now.budget === ALL_MOVES ? "all" : counted(now.budget);
 }
 
@@ -96,7 +100,7 @@ export function watchButtons(acts, signal) {
 }
 
 const press = (name) => () => part(name).click();
-const choose = (value) => () => document.querySelector(`input[value=${value}]`).click();
+export const choose = (value) => () => document.querySelector(`input[value=${value}]`).click();
 const other = (name) => () => {
   document.querySelector(`input[name=${name}]:not(:checked)`).click();
 };
@@ -105,7 +109,8 @@ const other = (name) => () => {
 export const KEYS = {
   f: press("freeze"), e: press("edges"), s: press("smooth"), g: press("glide"), o: press("round"),
   b: press("beside"), y: other("up"), d: other("judged"),
-  1: choose("stone"), 2: choose("depth"), 3: choose("own"), 4: choose("wire"),
+  c: press("contours"), l: press("hillshade"),
+  1: choose("stone"), 2: choose("depth"), 3: choose("own"), 4: choose("wire"), 5: choose("height"),
 };
 
 // What is shown, what it took, and how often it changes.

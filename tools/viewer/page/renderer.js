@@ -2,7 +2,8 @@
 // one.
 import { Drape } from "./drape.js";
 import { rows } from "./layout.js";
-import { clipMatrix, plus, scaled, unit } from "./matrices.js";
+import { clipMatrix, plus } from "./matrices.js";
+import { bindRelief } from "./relief.js";
 import {
   LINES_FRAGMENT, LINES_VERTEX, MESH_FRAGMENT, MESH_VERTEX, SKY_FRAGMENT, SKY_VERTEX,
 } from "./shaders.js";
@@ -10,14 +11,11 @@ import { Texture } from "./textures.js";
 
 export class NoGraphics extends Error {}
 
-export const COLOURS = { stone: 0, depth: 1, wire: 2, own: 3, drape: 4 };
+export const COLOURS = { stone: 0, depth: 1, wire: 2, own: 3, drape: 4, height: 5 };
 export const NO_FACE = 0xffffffff; // no face has this number
 const MARK = [1, 0.71, 0.33], HIT = [1, 0.3, 0.1, 1];
 const EDGES = 0.62; // how dark edges are
 const NOTHING_GLIDES = -1;
-// Where lights are for who looks: how far to the right, up, and behind the eye.
-const KEY_LIGHT = [-0.75, 0.85, 1], FILL_LIGHT = [1.2, -0.35, 0.55];
-const along = ({ right, up, back }, x, y, z) => plus(plus(scaled(x, right), y, up), z, back);
 
 // What the page is drawn on: the sky, and the faces and edges where edges alone are drawn.
 const DARK = {
@@ -86,7 +84,7 @@ export class Renderer {
       gl.scissor(left, 0, width, canvas.height);
       this.drawSky(look.theme);
       for (const mesh of names.flatMap((name) => this.meshes.get(name) ?? [])) {
-        this.drawMesh(mesh, axes, plus(eye, -1, mesh.offset), toClip, look);
+        this.drawMesh(mesh, camera, toClip, look);
       }
       if (look.frozen) this.drawPyramid(look.frozen, eye, toClip);
       gl.disable(gl.DEPTH_TEST);
@@ -107,16 +105,14 @@ export class Renderer {
     gl.enable(gl.DEPTH_TEST);
   }
 
-  drawMesh(mesh, axes, eye, toClip, look) {
-    const { gl, mesh: { program, at } } = this;
+  drawMesh(mesh, camera, toClip, look) {
+    const { gl, mesh: { program, at } } = this, { offset } = mesh, { stretch } = camera;
     gl.useProgram(program);
     mesh.bind(at);
-    this.drape.bind(at, mesh.offset);
+    this.drape.bind(at, offset);
+    bindRelief(gl, at, { axes: camera.axes(), stretch, offset }, look);
     gl.uniformMatrix4fv(at.toClip, false, toClip);
-    gl.uniform3fv(at.eye, eye);
-    gl.uniform3fv(at.light, unit(along(axes, ...KEY_LIGHT)));
-    gl.uniform3fv(at.fill, unit(along(axes, ...FILL_LIGHT)));
-    gl.uniform3fv(at.above, axes.up);
+    gl.uniform3fv(at.eye, plus(camera.eye(), -1, offset));
     gl.uniform3fv(at.paper, look.theme.paper);
     gl.uniform3fv(at.ink, look.theme.ink);
     gl.uniform1f(at.now, mesh.glides ? look.now : NOTHING_GLIDES);

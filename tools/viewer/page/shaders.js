@@ -1,6 +1,7 @@
 // The programs of the graphics processor. A mesh has no vertex buffers: vertex i is corner i % 3 of
 // face i / 3, and both faces and places are looked up in textures, so a frame is put there as it
 // came.
+import { FIFTH, RAMP } from "./heights.js";
 import { GLIDE, WIDTH } from "./layout.js";
 
 export const MESH_VERTEX = `#version 300 es
@@ -16,11 +17,15 @@ export const MESH_VERTEX = `#version 300 es
   uniform float deepest;
   uniform uint picked;
   uniform vec4 across, down; // where a place is in the drape, by x, y, z and 1
+  uniform vec3 up;           // the axis along which heights are
+  uniform float lowest, times; // heights above the lowest are drawn so many times as large
+  uniform vec4 rises;        // in steps between contours: a unit, the lowest height, .. (below)
   out vec2 spot;            // of the drape
   out vec3 seen;            // the place less the eye
   out vec3 nearness;        // 1 at one corner and 0 at the others
   out vec3 normal;
   out vec3 own;             // the node's colour in the input
+  out float rise;           // the height, in steps between contours
   out float depth;
   flat out float isPicked;
   ivec2 cell(int i) { return ivec2(i % ${WIDTH}, i / ${WIDTH}); }
@@ -41,7 +46,9 @@ export const MESH_VERTEX = `#version 300 es
       vec4 start = texelFetch(starts, node, 0);
       place = mix(start.xyz, place, smoothstep(0.0, ${GLIDE.toFixed(2)}, now - start.w));
     }
-    seen = place - eye;
+    float tall = dot(up, place) - lowest;
+    rise = tall * rises.x + rises.y;
+    seen = place + (times - 1.0) * tall * up - eye;
     spot = vec2(dot(across, vec4(place, 1.0)), dot(down, vec4(place, 1.0)));
     nearness = vec3(which == 0, which == 1, which == 2);
     if (bent) {
@@ -60,13 +67,18 @@ export const MESH_FRAGMENT = `#version 300 es
   precision highp float;
   uniform vec3 light, fill, above, paper, ink;
   uniform float side;       // 1 of a closed mesh, -1 of one inside out, 0 of one that isn't closed
-  uniform int colour;       // 0 stone, 1 by depth, 2 edges alone, 3 the input's, 4 the drape
+  uniform int colour;       // 0 stone, 1 by depth, 2 edges alone, 3 the input's, 4 drape, 5 height
   uniform sampler2D drape;
   uniform bool smoothly;
   uniform float edges;
+  uniform vec3 up;
+  uniform float times;
+  uniform vec4 rises;       // .. all heights together, and the level of water
+  uniform bool contours;
+  uniform vec3 heights[${RAMP.length + 1}]; // the colours of heights, and that of water
   in vec3 seen, nearness, normal, own;
   in vec2 spot;
-  in float depth;
+  in float rise, depth;
   flat in float isPicked;
   out vec4 shown;
 
@@ -78,6 +90,25 @@ export const MESH_FRAGMENT = `#version 300 es
     vec3 violet = vec3(.20, .10, .45), blue = vec3(.16, .42, .66), teal = vec3(.13, .64, .60);
     vec3 low = between(violet, blue, teal, min(1.0, 2.0 * t));
     return between(low, vec3(.30, .74, .50), vec3(1.0, .88, .30), t);
+  }
+  vec3 byHeight() {
+    if (rise <= rises.w) return heights[${RAMP.length}];
+    float t = clamp((rise - rises.y) / rises.z, 0.0, 1.0) * ${RAMP.length - 1}.0;
+    int below = min(int(t), ${RAMP.length - 2});
+    return mix(heights[below], heights[below + 1], t - float(below));
+  }
+  // How much of the fragment a line takes that is so many pixels wide, where t is a whole number.
+  // Where lines would run together they fade away.
+  float line(float t, float wide) {
+    float pixel = fwidth(t), away = abs(t - round(t)) / max(pixel, 1e-9);
+    return clamp(0.5 + 0.5 * wide - away, 0.0, 1.0) * (1.0 - smoothstep(0.12, 0.35, pixel));
+  }
+  // How dark a contour is. Ground that is level, as far as numbers tell, is of one height and has
+  // none; nor has water.
+  float contour() {
+    float steepness = fwidth(rise) / max(rises.x * length(fwidth(seen)), 1e-9);
+    float isLine = max(0.5 * line(rise, 1.0), 0.75 * line(rise / ${FIFTH}.0, 2.0));
+    return rise <= rises.w ? 0.0 : isLine * smoothstep(0.0003, 0.001, steepness);
   }
   // How near the fragment is to an edge. Where triangles are a few pixels large, edges fade away.
   float edge() {
@@ -91,7 +122,8 @@ export const MESH_FRAGMENT = `#version 300 es
     vec3 around = mix(vec3(.085, .08, .08), vec3(.20, .22, .25), 0.5 + 0.5 * dot(n, above));
     vec3 falls = max(0.0, dot(n, light)) * vec3(1.02, .98, .92)
       + max(0.0, dot(n, fill)) * vec3(.13, .17, .22) + around;
-    float shine = 0.07 * pow(max(0.0, dot(n, normalize(light + v))), 40.0);
+    // Ground in the colours of heights or of a picture is dull, so that they can be read.
+    float shine = (colour < 4 ? 0.07 : 0.0) * pow(max(0.0, dot(n, normalize(light + v))), 40.0);
     float rim = 0.10 * pow(1.0 - max(0.0, dot(n, v)), 4.0);
     return base * (falls + rim) + shine;
   }
@@ -103,22 +135,24 @@ export const MESH_FRAGMENT = `#version 300 es
   }
   void main() {
     vec3 v = normalize(-seen), plain = normalize(cross(dFdx(seen), dFdy(seen)));
-    vec3 n = smoothly ? normalize(normal) * (side < 0.0 ? -1.0 : 1.0) : plain;
+    vec3 stands = normal - (1.0 - 1.0 / times) * dot(up, normal) * up;
+    vec3 n = smoothly ? normalize(stands) * (side < 0.0 ? -1.0 : 1.0) : plain;
     float facing = dot(n, v), back = behind(facing);
     // A normal that turns away from the eye is taken to lie across the way there.
     vec3 across = facing < 0.0 ? normalize(n - facing * v) : n;
     n = normalize(mix(across, smoothly ? -n : n, back));
-    float line = edge();
+    float wires = edge(), level = contours ? contour() : 0.0;
     vec3 laid = texture(drape, spot).rgb, stone = vec3(.60, .57, .53);
     bool isBare = colour == 0 || colour == 4 && spot != clamp(spot, 0.0, 1.0);
-    vec3 told = colour == 1 ? ramp(depth) : colour == 4 ? laid : own;
+    vec3 told = colour == 1 ? ramp(depth) : colour == 4 ? laid : colour == 5 ? byHeight() : own;
     vec3 base = isBare ? stone : pow(told, vec3(2.2));
     if (colour == 2) {
-      shown = vec4(mix(paper * (0.85 + 0.2 * dot(n, light)), ink, line * 0.9), 1.0);
+      vec3 bare = paper * (0.85 + 0.2 * dot(n, light));
+      shown = vec4(mix(bare, ink, max(wires * 0.9, level)), 1.0);
     } else {
       vec3 dull = mix(vec3(1.0), vec3(.72, .68, .67), back);
       vec3 face = pow(lit(base * dull, n, v), vec3(1.0 / 2.2));
-      shown = vec4(mix(face, face * 0.25, line * edges), 1.0);
+      shown = vec4(mix(face, face * 0.25, max(wires * edges, level)), 1.0);
     }
     shown.rgb = mix(shown.rgb, vec3(1.0, .42, .12), 0.75 * isPicked);
   }`;

@@ -19,6 +19,7 @@ export class Steering {
   // `viewer` has the camera.
   constructor(viewer) {
     Object.assign(this, { viewer, flight: null, gripped: null, waiting: null, home: null });
+    this.goesHome = false; // whether the camera is on its way to where the whole is seen
   }
 
   get isFlying() { return this.flight !== null; }
@@ -29,16 +30,20 @@ export class Steering {
   // A camera that sees the whole mesh, in the middle of the picture and as large as it can be; and
   // the mesh's radius.
   async whole() {
-    const { hierarchy, set, work } = this.viewer, picture = this.viewer.picture();
-    const { camera, radius } = homeOf(hierarchy, set.upright, picture);
+    const { hierarchy, set, terrain, work } = this.viewer, picture = this.viewer.picture();
+    const stretch = terrain.stretch(set);
+    const { camera, radius } = homeOf(hierarchy, set.upright, picture, stretch);
     const axes = camera.axes(), { target } = camera;
-    const found = await work.ask({ task: "fit", axes, target, picture });
+    const found = await work.ask({ task: "fit", axes, target, picture, stretch });
     Object.assign(camera, { target: found.target, distance: ROOM * found.distance });
     this.home = JSON.stringify(camera);
     return { camera, radius };
   }
 
-  async goHome() { this.fly((await this.whole()).camera); }
+  async goHome() {
+    this.goesHome = true;
+    this.fly((await this.whole()).camera);
+  }
 
   // The picture has another size: what was seen whole is so again.
   async resized() {
@@ -47,8 +52,17 @@ export class Steering {
     this.viewer.moved();
   }
 
+  // The mesh is drawn otherwise: what was seen whole is so again.
+  stretch(stretch) {
+    if (this.isAtHome || this.goesHome) this.goHome();
+    else this.viewer.camera.stretchAs(stretch);
+    this.viewer.moved();
+  }
+
   fly(to) {
-    const isQuick = isStill.matches || to.upright !== this.viewer.camera.upright;
+    const { camera } = this.viewer;
+    const isQuick = isStill.matches || to.upright !== camera.upright
+      || to.stretch.times !== camera.stretch.times;
     const begun = performance.now() - (isQuick ? FLIGHT : 0);
     this.flight = { from: this.viewer.camera.copy(), to, begun };
     this.viewer.moved();
@@ -57,11 +71,11 @@ export class Steering {
   flyOn(now) {
     const { from, to, begun } = this.flight, part = Math.min(1, Math.max(0, now - begun) / FLIGHT);
     this.viewer.camera = part < 1 ? from.towards(to, part * part * (3 - 2 * part)) : to.copy();
-    if (part === 1) this.flight = null;
+    if (part === 1) this.stop();
     this.viewer.moved();
   }
 
-  stop() { this.flight = null; }
+  stop() { Object.assign(this, { flight: null, goesHome: false }); }
 
   // What is under the pointer: a place of the mesh, or one as far away as what is looked at.
   async grip(x, y) {
@@ -79,7 +93,8 @@ export class Steering {
     const away = plus(camera.eye(), camera.distance, wayThrough(camera, focal, ...at));
     if (!session.isRunning) return { place: away, isHit: false };
     const hit = await met(work, camera, focal, ...at).catch(() => null);
-    return { place: hit?.place ?? away, isHit: hit !== null };
+    const place = hit === null ? away : camera.stretch.drawn(hit.place);
+    return { place, isHit: hit !== null };
   }
 
   // Nearer to what is under the pointer, and never through it. What comes while the engine is asked

@@ -12,6 +12,7 @@ import { met, sentence } from "./picking.js";
 import { NO_FACE, watchTheme } from "./renderer.js";
 import { Session } from "./session.js";
 import { Steering } from "./steering.js";
+import { Terrain } from "./terrain.js";
 import { Views } from "./views.js";
 
 const CIRCLE = 0.25;        // radians a second of the slow circle
@@ -65,23 +66,31 @@ export class Viewer {
   async show({ about, hierarchy }, link = location.hash) {
     Object.assign(this, { about, hierarchy });
     this.session.began(about);
+    this.terrain = new Terrain(hierarchy.box, hierarchy.grid);
+    this.terrain.hear("model", hierarchy.grounds);
     panel.sayModel(about, hierarchy);
+    if (!about.coloured && this.terrain.isField(hierarchy.upright)) panel.choose("height")();
     panel.sayPicked(null);
     this.set = panel.settings();
     Object.assign(this, await this.steering.whole());
     this.camera = this.linked(link) ?? this.camera;
     this.controls = takeHands(this);
     watchTheme((theme) => this.change({ theme }), this.leaving.signal);
-    panel.saySettings(this.set);
     if (about.drape) await layDrape(this.scene.renderer, about.drape);
   }
 
   // The camera that a link tells, whose settings are taken; null where it tells of none.
   linked(link) {
     const camera = restored(link);
+    this.takeSettings();
+    if (camera !== null) camera.stretch = this.terrain.stretch(this.set);
+    return camera;
+  }
+
+  takeSettings() {
     this.set = panel.settings();
     panel.saySettings(this.set);
-    return camera;
+    this.terrain.say(this.set);
   }
 
   // Takes what is known now, which has to be drawn.
@@ -98,11 +107,11 @@ export class Viewer {
   }
 
   settingChanged(name) {
-    this.set = panel.settings();
-    panel.saySettings(this.set);
+    this.takeSettings();
     if (name === "freeze") this.frozen = this.set.freeze ? this.seen() : null;
     if (name === "budget") this.budgetAt = performance.now() + BUDGET_SETTLES;
     if (name === "up") this.steering.goHome();
+    if (name === "exaggeration") this.steering.stretch(this.terrain.stretch(this.set));
     if (name === "beside" && this.set.beside) this.showInput();
     this.change({});
   }
@@ -151,6 +160,7 @@ export class Viewer {
   look(now) {
     return {
       ...this.set,
+      ...this.terrain.look(this.set),
       cut: this.divider.cut,
       theme: this.theme,
       now,
@@ -159,7 +169,7 @@ export class Viewer {
       deepest: this.hierarchy.deepest,
       side: this.hierarchy.side,
       picked: this.hit?.face ?? NO_FACE,
-      hit: this.hit?.place,
+      hit: this.hit && this.camera.stretch.drawn(this.hit.place),
     };
   }
 

@@ -12,6 +12,7 @@
 import { ARRAYS } from "./arrays.js";
 import { Follower } from "./follower.js";
 import { fitted } from "./fitting.js";
+import { boxOf, groundsOf } from "./ground.js";
 import { fullFrame, meanColours, readHierarchy } from "./hierarchy.js";
 import { KeptMesh } from "./mesh.js";
 import { readReplies } from "./replies.js";
@@ -36,8 +37,15 @@ class Working {
     const follower = new Follower(new KeptMesh(hierarchy, colours), talk);
     Object.assign(this, { connection, about, hierarchy, colours, follower });
     const { digits, faces, deepest, low, high, side, upright } = hierarchy;
+    const box = boxOf(hierarchy), grounds = groundsOf(hierarchy, box), { grid } = this;
     const times = { ...connection.times, read: performance.now() - begun };
-    return { about, times, hierarchy: { digits, faces, deepest, low, high, side, upright } };
+    const told = { digits, faces, deepest, low, high, side, upright, box, grounds, grid };
+    return { about, times, hierarchy: told };
+  }
+
+  // How places lead back to the coordinates of the file that was opened.
+  get grid() {
+    return this.about.scale ?? { unit: 10 ** -this.hierarchy.digits, middle: [0, 0, 0] };
   }
 
   // The answer to a script, and where the time went, in milliseconds.
@@ -55,8 +63,8 @@ class Working {
     return { replies, patch, times: { ...times, take: performance.now() - cameAt - times.read } };
   }
 
-  // From where the whole mesh is seen, by a camera's axes.
-  async fit({ axes, target, picture }) { return fitted(this.hierarchy, axes, target, picture); }
+  // From where the whole mesh is seen, by a camera's axes and its stretch.
+  async fit(asked) { return fitted(this.hierarchy, asked); }
 
   // What becomes another where glides are over.
   async settle() { return { patch: this.follower.mesh.settle(clock()) }; }
@@ -87,8 +95,7 @@ class Working {
 
   // The mesh shown, as a file of another program, in the coordinates of the file that was opened.
   async mesh({ format }) {
-    const grid = this.about.scale ?? { unit: 10 ** -this.hierarchy.digits, middle: [0, 0, 0] };
-    const level = levelOf(this.follower.mesh.front.frame(), this.colours, grid);
+    const level = levelOf(this.follower.mesh.front.frame(), this.colours, this.grid);
     return { bytes: WRITERS[format](level) };
   }
 

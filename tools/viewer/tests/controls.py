@@ -29,9 +29,11 @@ class Controls(Page):
             "tolerance": asked, "outline": asked, "draft": "viewer.set.draft",
             "budget": "viewer.session.budget", "judged=distance": asked,
             "judged=deviation": asked, "freeze": "viewer.frozen === null", "colour=depth": drawn,
-            "colour=wire": drawn, "colour=stone": drawn, "colour=own": "0", "edges": drawn,
-            "smooth": drawn, "glide": "viewer.set.glide", "beside": drawn, "up=z": drawn,
-            "up=y": drawn, "picks": "viewer.set.picks", "save-flight": "told.textContent",
+            "colour=wire": drawn, "colour=height": drawn, "colour=stone": drawn,
+            "colour=own": "0", "contours": drawn, "hillshade": drawn,
+            "exaggeration": "viewer.camera.stretch.times", "edges": drawn, "smooth": drawn,
+            "glide": "viewer.set.glide", "beside": drawn, "up=z": drawn, "up=y": drawn,
+            "picks": "viewer.set.picks", "save-flight": "told.textContent",
             "summary": "saves.open", "save-picture": "saved", "save-obj": "saved",
             "save-ply": "saved", "save-glb": "saved", "copy-link": "told.textContent",
             "copy-view": "told.textContent", "home": "0", "round": "0", "unhide": "0",
@@ -54,7 +56,7 @@ class Controls(Page):
         kind, _, value = name.partition("=")
         if value:
             self.press(f"input[value={value}] + span")
-        elif name in ("tolerance", "outline", "draft", "budget"):
+        elif name in ("tolerance", "outline", "draft", "budget", "exaggeration"):
             x, y = self.place_of(f"#{name}")
             self.page.click(x + 30, y)
         else:
@@ -79,14 +81,15 @@ class Controls(Page):
         self.assertEqual(
             self.value(listed),
             "drag, arrows; right or Shift drag, Shift arrows; wheel, two fingers, + and −; "
-            "double click; E, S, O; 1 2 3 4, D; Y, R, P; B, G, F, H",
+            "double click; E, S, O; 1 2 3 4 5, D; C, L; Y, R, P; B, G, F, H",
         )
         yaw, pitch, target = ("viewer.camera.yaw", "viewer.camera.pitch", "viewer.camera.target[1]")
         for key, what in (
             ("ArrowLeft", yaw), ("ArrowRight", yaw), ("ArrowUp", pitch), ("ArrowDown", pitch),
             ("+", "viewer.camera.distance"), ("-", "viewer.camera.distance"),
             ("f", "viewer.set.freeze"), ("f", "viewer.set.freeze"), ("d", "viewer.set.judged"),
-            ("2", "viewer.set.colour"), ("4", "viewer.set.colour"), ("1", "viewer.set.colour"),
+            ("2", "viewer.set.colour"), ("4", "viewer.set.colour"), ("5", "viewer.set.colour"),
+            ("1", "viewer.set.colour"), ("c", "viewer.set.contours"), ("l", "viewer.set.hillShade"),
             ("e", "viewer.set.edges"), ("s", "viewer.set.smooth"), ("g", "viewer.set.glide"),
             ("b", "viewer.set.beside"), ("y", "viewer.set.upright"), ("r", yaw),
             ("h", "drawer.hidden"), ("h", "drawer.hidden"),

@@ -17,13 +17,13 @@ from .worlds import SETTLED, WithWindow
 
 RED, GREEN, BLUE, WHITE = (255, 0, 0), (0, 255, 0), (0, 0, 255), (255, 255, 255)
 Pixel = Tuple[int, ...]
-# The colour of the picture at places of the mesh, with all else in the look taken away.
+# The colour of the picture at places of the mesh, with edges taken away.
 AT = """((places) => {
   const { camera } = viewer, { renderer, canvas } = viewer.scene ?? viewer, { gl } = renderer;
   const theme = viewer.theme, picture = viewer.picture(), { right, up, back } = camera.axes();
   const look = {
-    ...viewer.set, edges: false, theme, now: 9e9, frozen: null, reach: 1e5, deepest: 40,
-    picked: 0xffffffff, hit: null, side: 0,
+    ...viewer.set, ...viewer.terrain.look(viewer.set), edges: false, theme, now: 9e9,
+    frozen: null, reach: 1e5, deepest: 40, picked: 0xffffffff, hit: null, side: 0,
   };
   const names = [...renderer.meshes.keys()];
   Object.assign(canvas, { width: picture.width, height: picture.height });
@@ -31,8 +31,8 @@ AT = """((places) => {
   const eye = camera.eye(), dot = (a, b) => a.reduce((sum, c, i) => sum + c * b[i], 0);
   return places.map((place) => {
     const way = place.map((c, i) => c - eye[i]), deep = -dot(way, back);
-    const x = Math.round(canvas.width / 2 + (picture.focal * dot(way, right)) / deep);
-    const y = Math.round(canvas.height / 2 + (picture.focal * dot(way, up)) / deep);
+    const x = Math.floor(canvas.width / 2 + (picture.focal * dot(way, right)) / deep);
+    const y = Math.floor(canvas.height / 2 + (picture.focal * dot(way, up)) / deep);
     const pixel = new Uint8Array(4);
     gl.readPixels(x, y, 1, 1, gl.RGBA, gl.UNSIGNED_BYTE, pixel);
     return [...pixel.slice(0, 3)];

@@ -6,7 +6,7 @@ import { chosen, forest } from "./tiling.js";
 const BASE = "base"; // what a closed tile shows
 
 export class Tiles {
-  // `heard` has `framed(tile, patch)`, `dropped(name)` and `failed(fault)`.
+  // `heard` has `framed(tile, patch, grounds)`, `dropped(name)` and `failed(fault)`.
   constructor(told, work, heard) {
     Object.assign(this, { forest: forest(told), work, heard });
     Object.assign(this, { states: new Map(), wanted: null, drawn: [], waiting: 0, seen: "" });
@@ -14,14 +14,18 @@ export class Tiles {
 
   // Chooses tiles for a camera, and asks for what isn't there yet.
   look(camera, picture, set, memory) {
-    const { focal } = picture, { tolerance, outline, judged } = set, eye = camera.eye();
-    const seen = JSON.stringify([eye, focal, tolerance]);
-    if (seen !== this.seen) this.wanted = chosen(this.forest, eye, { focal, tolerance, memory });
+    const { focal } = picture, { tolerance, outline, judged } = set, { stretch } = camera;
+    const eye = stretch.own(camera.eye()), fine = tolerance / stretch.times;
+    const seen = JSON.stringify([eye, focal, fine]);
+    if (seen !== this.seen) {
+      this.wanted = chosen(this.forest, eye, { focal, tolerance: fine, memory });
+    }
     this.seen = seen;
     for (const name of this.wanted.closed) this.ask(name, BASE, set);
     for (const name of this.wanted.open) {
-      const own = camera.copy();
-      own.target = plus(camera.target, -1, this.tile(name).offset);
+      const own = camera.copy(), { offset } = this.tile(name);
+      own.target = plus(camera.target, -1, offset);
+      own.stretch = stretch.from(offset);
       this.ask(name, viewLine(own, picture, { tolerance, outline, judged }), set);
     }
     this.settle();
@@ -45,11 +49,11 @@ export class Tiles {
     try {
       const task = line === BASE ? { task: "base" } : { task: "view", line };
       const asked = { ...task, name, glides: glide, budget };
-      const { patch, left } = await this.work.ask(asked);
+      const { patch, left, grounds } = await this.work.ask(asked);
       state.left = left;
       state.counts = { faces: patch.faceCount, nodes: patch.nodeCount };
       state.shown = line;
-      this.heard.framed(this.tile(name), patch);
+      this.heard.framed(this.tile(name), patch, grounds);
     } catch (fault) {
       this.heard.failed(fault);
     } finally {

@@ -15,6 +15,7 @@ import * as panel from "./panel.js";
 import { NO_FACE, watchTheme } from "./renderer.js";
 import { returnWhenBack } from "./returning.js";
 import { Scene } from "./scene.js";
+import { Terrain } from "./terrain.js";
 import { Tiles } from "./tiles.js";
 import { Work } from "./work.js";
 import { asWorld } from "./world_bar.js";
@@ -47,28 +48,45 @@ class WorldViewer {
       return;
     }
     const heard = {
-      framed: (tile, patch) => this.framed(tile, patch),
+      framed: (tile, patch, grounds) => this.framed(tile, patch, grounds),
       dropped: (name) => this.drop(name),
       failed: (fault) => this.fail(fault),
     };
-    this.tiles = new Tiles(this.about.tiles, this.work, heard);
+    const { drape, origin: middle, tiles, unit } = this.about;
+    this.tiles = new Tiles(tiles, this.work, heard);
+    this.terrain = new Terrain(this.about, { unit, middle });
     asWorld(this.about);
     this.goHome();
-    const linked = restored(location.hash);
-    this.camera = linked ?? this.camera;
+    this.isChosen = this.follow(location.hash) || Boolean(drape); // whether its colours are
     this.takeHands();
     watchTheme((theme) => Object.assign(this, { theme, dirty: true }));
     requestAnimationFrame((now) => this.tick(now));
-    if (this.about.drape) await layDrape(this.renderer, this.about.drape);
+    if (drape) await layDrape(this.renderer, drape);
   }
 
   goHome() {
-    const { camera, radius } = homeOf(this.about, this.set.upright, this.picture());
-    Object.assign(this, { camera, radius, dirty: true });
+    const stretch = this.terrain.stretch(this.set);
+    const { camera, radius } = homeOf(this.about, this.set.upright, this.picture(), stretch);
+    Object.assign(this, { camera, radius, dirty: true, home: JSON.stringify(camera) });
+  }
+
+  // What was seen whole is so again where it is drawn otherwise.
+  stretch() {
+    if (this.home === JSON.stringify(this.camera)) this.goHome();
+    else this.camera.stretchAs(this.terrain.stretch(this.set));
+  }
+
+  // Looks as a link tells, if it tells of a view.
+  follow(link) {
+    const camera = restored(link);
+    if (camera === null) return false;
+    camera.stretch = this.terrain.stretch(panel.settings());
+    this.camera = camera;
+    return true;
   }
 
   takeHands() {
-    const pressed = ["f", "e", "s", "g", "o", "y", "d", 1, 2, 3, 4];
+    const pressed = ["f", "e", "s", "g", "o", "y", "d", "c", "l", 1, 2, 3, 4, 5];
     const keys = Object.fromEntries(pressed.map((key) => [key, panel.KEYS[key]]));
     new Controls(this.canvas, {
       camera: () => this.camera,
@@ -87,7 +105,7 @@ class WorldViewer {
     });
     new ResizeObserver(() => { this.dirty = true; }).observe(this.canvas);
     addEventListener("hashchange", () => {
-      this.camera = restored(location.hash) ?? this.camera;
+      this.follow(location.hash);
       this.changed("");
     });
     this.changed("");
@@ -97,6 +115,8 @@ class WorldViewer {
     this.set = panel.settings();
     panel.saySettings(this.set);
     if (name === "up") this.goHome();
+    if (name === "exaggeration") this.stretch();
+    this.terrain.say(this.set);
     this.dirty = true;
   }
 
@@ -112,6 +132,7 @@ class WorldViewer {
     }
     const isFirst = tiles.wanted === null, picture = this.larger ?? this.picture();
     if (isFirst || !set.freeze) tiles.look(this.camera, picture, set, this.about.memory);
+    if (!this.isChosen && tiles.drawn.length > 0) this.chooseColours();
     this.glides.end(now);
     if (this.dirty || this.glides.isOn(now)) this.draw();
     if (now - this.saidAt > SAY_AGAIN) this.say(now);
@@ -125,15 +146,23 @@ class WorldViewer {
 
   look() {
     return {
-      ...this.set, names: this.tiles.drawn, theme: this.theme, now: performance.now() / 1000,
-      frozen: null, reach: 2 * this.radius, deepest: DEEPEST, picked: NO_FACE, hit: null,
+      ...this.set, ...this.terrain.look(this.set), names: this.tiles.drawn, theme: this.theme,
+      now: performance.now() / 1000, frozen: null, reach: 2 * this.radius, deepest: DEEPEST,
+      picked: NO_FACE, hit: null,
     };
   }
 
-  framed(tile, patch) {
+  framed(tile, patch, grounds) {
     this.renderer.change(tile.name, patch, tile.offset);
     this.glides.take(tile.name, patch, this.set.glide);
+    if (grounds && this.terrain.hear(tile.name, grounds, tile.offset)) this.terrain.say(this.set);
     this.dirty = true;
+  }
+
+  // A height field is shown by height at first, once all of it is there.
+  chooseColours() {
+    this.isChosen = true;
+    if (this.terrain.isField(this.set.upright)) panel.choose("height")();
   }
 
   drop(name) {

@@ -6,8 +6,8 @@ const LACKS = "Of a world one can't compare with the full model, click on triang
 const KEYS = [
   ["drag, arrows", "orbit"], ["right or Shift drag, Shift arrows", "pan"],
   ["wheel, two fingers, + and −", "zoom"], ["E, S, O", "wireframe, smooth, turntable"],
-  ["1 2 3 4, D", "shading, which error"], ["Y, R, P", "other axis up, fit, picture"],
-  ["G, F, H", "geomorphs, freeze, this drawer"],
+  ["1 2 3 4 5, D", "shading, which error"], ["C, L", "contours, hill shade"],
+  ["Y, R, P", "other axis up, fit, picture"], ["G, F, H", "geomorphs, freeze, this drawer"],
 ];
 
 function named(kind, text) {

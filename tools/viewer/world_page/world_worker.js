@@ -1,7 +1,9 @@
 // Talks with the server of a world, and keeps the mesh of each tile that is shown.
 import { Connection, fetched } from "./connection.js";
 import { Follower } from "./follower.js";
+import { groundsOf } from "./ground.js";
 import { NO_PARENT, readHierarchy } from "./hierarchy.js";
+import { plus } from "./matrices.js";
 import { KeptMesh } from "./mesh.js";
 import { readReplies } from "./replies.js";
 import { answerBy, clock, startClock } from "./tasks.js";
@@ -13,6 +15,7 @@ const TINTS = [
 ];
 
 let connection = null;
+let about = null;
 const followers = new Map(); // of open tiles, by name
 const bases = new Map();     // the frames of closed tiles
 
@@ -28,9 +31,17 @@ async function followerOf(name) {
   if (!followers.has(name)) {
     const hierarchy = readHierarchy(await (await fetched(`stream/${name}`)).arrayBuffer());
     const mesh = new KeptMesh(hierarchy, tint(name, hierarchy.parents.length));
-    followers.set(name, new Follower(mesh, (script) => talk(name, script)));
+    const follower = new Follower(mesh, (script) => talk(name, script));
+    followers.set(name, Object.assign(follower, { grounds: groundsIn(name, hierarchy) }));
   }
   return followers.get(name);
+}
+
+// What a tile is as ground, in the box of the world.
+function groundsIn(name, hierarchy) {
+  const { offset } = about.tiles.find((tile) => tile.name === name);
+  const [low, high] = [about.low, about.high].map((end) => plus(end, -1, offset));
+  return groundsOf(hierarchy, { low, high });
 }
 
 async function talk(name, script) {
@@ -44,7 +55,8 @@ const tasks = {
     startClock(pageOrigin);
     connection = new Connection((fault) => postMessage({ news: { fault } }));
     await connection.open;
-    return (await fetched("about")).json();
+    about = await (await fetched("about")).json();
+    return about;
   },
 
   // What a view changes of an open tile.
@@ -54,7 +66,8 @@ const tasks = {
     follower.budget = budget;
     const { patch, replies } = await follower.view(line, () => (glides ? clock() : null));
     const [word, , left] = replies[0];
-    return { patch, left: word === "spent" ? Number(left) : 0 };
+    const { grounds } = follower;
+    return { patch, left: word === "spent" ? Number(left) : 0, grounds };
   },
 
   // What a closed tile shows: a tile without a program, whose nodes are roots.
