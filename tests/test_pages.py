@@ -184,12 +184,14 @@ class Pages(unittest.TestCase):
             "CHANGELOG.md": "glue",
             "tools/quick_start/usage/vdpm": "the glue",
             "tools/a.py": "say(f'no glue {1}')\nraise BadFault('glue it')\nuse('glue it')\n",
+            "tools/viewer/a.html": "<b id='glue' title=\"the glue\">all\nglue</b>",
         }
         with mock.patch.object(vocabulary, "SEARCHED", {"weld": "docs/WORDS.md"}):
             told = faults(files)
         fault = "`glue` is no word of docs/WORDS.md"
         wanted = [f"README.md: {fault.replace('glue', 'glues on')}"]
         wanted += [f"tools/a.py: {fault}"] * 2 + [f"tools/quick_start/usage/vdpm: {fault}"]
+        wanted += [f"tools/viewer/a.html: {fault}"] * 2
         self.assertEqual(told, wanted)
 
     def test_a_search_that_leads_nowhere_is_told(self) -> None:

@@ -70,13 +70,21 @@ def said_by(file: Path) -> Iterator[str]:
                 yield from (part for part in parts if isinstance(part, str) and " " in part)
 
 
+def shown_by(file: Path) -> Iterator[str]:
+    """The texts that a page of the window shows, and those on hover."""
+    text = file.read_text(encoding="utf-8")
+    for on_hover, shown in re.findall(r'(?:title|label)="([^"]*)"|>([^<>{}]+)<', text):
+        yield on_hover or shown
+
+
 def told_of_tools(top: Path) -> Iterator[Tuple[str, List[str]]]:
-    """Each help and each script that says an old word."""
+    """Each help, script and page of the window that says an old word."""
     words = old_words(top)
     texts = {it: [it.read_text(encoding="utf-8")] for it in top.glob("tools/quick_start/usage/*")}
     for folder in ("tools", "python", "benches") if words else ():
         files = [it for it in top.glob(f"{folder}/**/*.py") if "tests" not in it.parts]
         texts.update({it: list(said_by(it)) for it in files if not it.name.startswith("test_")})
+    texts.update({it: list(shown_by(it)) for it in top.glob("tools/viewer/**/*.html")})
     for file, parts in sorted(texts.items()):
         found = [fault for part in parts for fault in used_in(part, words)]
         if found:

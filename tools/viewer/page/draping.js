@@ -15,7 +15,7 @@ export async function layDrape({ gl, drape }, rows) {
   const stone = document.querySelector("input[name=colour][value=stone]").closest("label");
   const label = stone.cloneNode(true), choice = label.querySelector("input");
   Object.assign(choice, { id: "", value: "drape", checked: true });
-  label.title = "The picture that lies over the terrain";
+  label.title = "The picture that lies on the terrain";
   label.querySelector("span").textContent = "Image";
   stone.after(label);
   choice.dispatchEvent(new Event("input", { bubbles: true }));

@@ -38,10 +38,9 @@ export function settings() {
 
 // What a tolerance is a tolerance of.
 const JUDGED_SAID = {
-  deviation: "How far the surface may look from the full model's triangles: flat ground stays "
-    + "coarse.",
-  distance: "How far each vertex of the full model may look from the one that stands for it, on "
-    + "flat ground too.",
+  deviation: "How far the surface may be off, as it is seen. Flat ground stays coarse.",
+  distance: "How far each vertex may be from the one that stands for it, as it is seen. Flat "
+    + "ground is refined too.",
 };
 
 export function saySettings(now) {

@@ -183,7 +183,7 @@ export class Viewer {
     const { put, draw, draws, fronts } = times;
     times.said = now;
     for (const ago of [draws, fronts]) while (ago[0] < now - 1000) ago.shift();
-    const mark = set.freeze ? "LOD frozen: fly round it" : "";
+    const mark = set.freeze ? "LOD is frozen: turn the model" : "";
     const rates = { pictures: draws.length, fronts: fronts.length };
     panel.sayCounters({ shown, all, left, put, draw, ...rates, mark });
     panel.sayHalves(set.beside, this.inputState);

@@ -190,8 +190,8 @@ class WorldViewer {
     part("faces-said").textContent = counted(faces);
     part("all-said").textContent = `of ${counted(this.about.faces)} triangles`;
     part("rows").replaceChildren(...rows.map(panel.rowOf));
-    const isComing = faces === 0 ? "Opening the tiles that are seen" : "";
-    part("mark").textContent = this.set.freeze ? "LOD frozen: fly round it" : isComing;
+    const isComing = faces === 0 ? "Opening the tiles in view" : "";
+    part("mark").textContent = this.set.freeze ? "LOD is frozen: turn the world" : isComing;
     part("mark").hidden = part("mark").textContent === "";
   }
 

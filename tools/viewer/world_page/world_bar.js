@@ -1,8 +1,8 @@
 // Bar and drawer as a world has them: what its engines can't tell is taken away, and that is said.
 const part = (name) => document.getElementById(name);
 const FIRST = 4; // of the slider of tolerances: 2 pixels
-const LACKS = "Of a world one can't compare with the full model, click on triangles or save a "
-  + "session: each tile has an engine of its own, and the whole isn't in memory.";
+const LACKS = "You can't compare with the full model here, inspect a click or save a session: each "
+  + "tile of a world has an engine of its own.";
 const KEYS = [
   ["drag, arrows", "orbit"], ["right or Shift drag, Shift arrows", "pan"],
   ["wheel, two fingers, + and −", "zoom"], ["E, S, O", "wireframe, smooth, turntable"],
