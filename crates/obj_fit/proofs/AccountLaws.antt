@@ -8,7 +8,7 @@ use Rattle.obj_prepare.proofs.ThreeLaws.{three_few, three_all}
 use Rattle.obj_fit.specs.Outcome.{cut_in, places_in}
 use Rattle.obj_fit.specs.Laws.{TextsAreAccounted}
 use Rattle.obj_fit.proofs.RecutLaws.{cut_below, cut_long}
-use Rattle.obj_fit.proofs.ScannedLaws.{meaning_sound}
+use Rattle.obj_fit.proofs.SoundLaws.{meaning_sound}
 
 pub texts_are_accounted : TextsAreAccounted
 texts_are_accounted size bytes s done means k =

@@ -13,7 +13,7 @@ use Rattle.pm_turn.specs.Turning.{turned_by}
 use Rattle.pm_turn.proofs.ToldAlways.{turn_counts_are_there}
 use Rattle.obj_read.specs.Meaning.{Refused, meaning_of}
 use Rattle.obj_scan.specs.Judged.{Scanned}
-use Rattle.obj_scan.specs.Meaning.{scan_meaning_of}
+use Rattle.mesh_scan.specs.Meaning.{mesh_meaning_of}
 use Rattle.obj_scan.specs.Laws.{scanned_mesh, scaled_up}
 use Rattle.obj_prepare.specs.declared.notes.Notes.{Notes}
 use Rattle.obj_prepare.specs.declared.placing.Fit.{Fit}
@@ -32,11 +32,11 @@ use Rattle.obj_prepare.proofs.ThreeLaws.{three_all, three_of_mesh}
 use Rattle.obj_fit.specs.declared.fault.Fault.{Fault}
 use Rattle.obj_fit.specs.Texts.{output_text, notes_text}
 use Rattle.obj_fit.specs.Outcome.{Done, MakesPrepared, cut_in, fit_in, places_in, counts_in}
-use Rattle.obj_fit.specs.Outcome.{warning_for, rounded_for, rounded_in, IsPreparedText, bad_line}
+use Rattle.obj_fit.specs.Outcome.{warning_for, rounded_for, rounded_in, IsPreparedText, bad_file}
 use Rattle.obj_fit.specs.Outcome.{too_many, no_face, made}
 use Rattle.obj_fit.specs.Laws.{ComesBack, TextsComeBack}
 use Rattle.obj_fit.proofs.RecutLaws.{cut_below}
-use Rattle.obj_fit.proofs.ScannedLaws.{meaning_sound}
+use Rattle.obj_fit.proofs.SoundLaws.{meaning_sound}
 use Rattle.obj_fit.proofs.ReadLaws.{made_on_grid, mesh_is_read, made_scanned}
 use Rattle.obj_fit.proofs.StandingLaws.{standing_fit, standing_places}
 use Rattle.obj_prepare.proofs.RestoredLaws.{none_flat, none_double, none_unnamed, split_as_joined}
@@ -133,7 +133,7 @@ pub one_mesh : (found : Result Mesh Refused) (m n : Mesh) → found ≡ Ok m →
 one_mesh found m n is are = cc
 
 made_comes_back : (size : Option ℕ) (bytes : List ℕ) (s : Scanned) (done : Done) → IsSize size
-    → scan_meaning_of bytes ≡ Ok s → (k : MakesPrepared size s done)
+    → mesh_meaning_of bytes ≡ Ok s → (k : MakesPrepared size s done)
     → meaning_of 0 done.text ≡ Ok k.mesh → ComesBack done.text k.mesh
 unfolding numbers numbered
 made_comes_back size bytes s done is means k read =
@@ -169,7 +169,7 @@ made_comes_back size bytes s done is means k read =
 outcome_comes_back : (size : Option ℕ) (bytes : List ℕ) (r : Result Done Fault) (place : Option ℕ)
     → IsSize size → IsPreparedText size bytes r place
     → IfOk r (λ done. (m : Mesh) → meaning_of 0 done.text ≡ Ok m → ComesBack done.text m)
-outcome_comes_back size bytes found place is (bad_line r means) = tt
+outcome_comes_back size bytes found place is (bad_file r means) = tt
 outcome_comes_back size bytes found place is (too_many s means many) = tt
 outcome_comes_back size bytes found place is (no_face s means none) = tt
 outcome_comes_back size bytes found place is (made s done means k) = λ m read.

@@ -5,7 +5,7 @@ use Rattle.pm_base.specs.Place.{Place}
 use Rattle.pm_base.specs.Meshes.{Mesh}
 use Rattle.obj_read.specs.Meaning.{meaning_of}
 use Rattle.obj_scan.specs.Judged.{Scanned}
-use Rattle.obj_scan.specs.Meaning.{scan_meaning_of}
+use Rattle.mesh_scan.specs.Meaning.{mesh_meaning_of}
 use Rattle.obj_prepare.specs.declared.placing.Fit.{Fit}
 use Rattle.obj_prepare.specs.declared.placing.Fit.TheVariants as fits
 use Rattle.obj_prepare.specs.Named.{AreVerticesBelow, of_three}
@@ -20,10 +20,10 @@ use Rattle.obj_prepare.proofs.ThreeLaws.{three_all}
 use Rattle.obj_fit.specs.declared.fault.Fault.{Fault}
 use Rattle.obj_fit.specs.Texts.{head_line}
 use Rattle.obj_fit.specs.Outcome.{Done, MakesPrepared, cut_in, fit_in, places_in, IsPreparedText}
-use Rattle.obj_fit.specs.Outcome.{bad_line, too_many, no_face, made}
+use Rattle.obj_fit.specs.Outcome.{bad_file, too_many, no_face, made}
 use Rattle.obj_fit.specs.Laws.{LineLeadsBack, as_it_stood, near, TextLeadsBack, TextsLeadBack}
 use Rattle.obj_fit.proofs.RecutLaws.{cut_below, cut_named}
-use Rattle.obj_fit.proofs.ScannedLaws.{meaning_sound}
+use Rattle.obj_fit.proofs.SoundLaws.{meaning_sound}
 use Rattle.obj_fit.proofs.GridLaws.{IsMeasured, fit_of_measured}
 use Rattle.obj_fit.proofs.NumeralLaws.{tells_way}
 use Rattle.obj_fit.proofs.OutcomeLaws.{one_scanned}
@@ -38,7 +38,7 @@ line_leads (fits.Scaled size b) place p (few, low, high) leads =
     near (way_back_of size b) (tells_way size b few low high) leads
 
 made_leads_back : (size : Option ℕ) (bytes : List ℕ) (s : Scanned) (done : Done) → IsSize size
-    → scan_meaning_of bytes ≡ Ok s → (k : MakesPrepared size s done)
+    → mesh_meaning_of bytes ≡ Ok s → (k : MakesPrepared size s done)
     → TextLeadsBack s (places_in size s) done.text k.mesh
 made_leads_back size bytes s done is means k =
     let fit : Fit = fit_in size s in
@@ -63,16 +63,16 @@ made_leads_back size bytes s done is means k =
 
 outcome_leads_back : (size : Option ℕ) (bytes : List ℕ) (r : Result Done Fault) (place : Option ℕ)
     → IsSize size → IsPreparedText size bytes r place
-    → IfOk r (λ done. (s : Scanned) (m : Mesh) → scan_meaning_of bytes ≡ Ok s
+    → IfOk r (λ done. (s : Scanned) (m : Mesh) → mesh_meaning_of bytes ≡ Ok s
     → meaning_of 0 done.text ≡ Ok m → 0 < length m.faces
     → TextLeadsBack s (places_in size s) done.text m)
-outcome_leads_back size bytes found place is (bad_line r means) = tt
+outcome_leads_back size bytes found place is (bad_file r means) = tt
 outcome_leads_back size bytes found place is (too_many s means many) = tt
 outcome_leads_back size bytes found place is (no_face s means none) = tt
 outcome_leads_back size bytes found place is (made t done means k) = λ s m spells read some.
     let own = one_mesh (meaning_of 0 done.text) k.mesh m (mesh_is_read size bytes t done is means k)
     read in
-    let same = one_scanned (scan_meaning_of bytes) t s means spells in
+    let same = one_scanned (mesh_meaning_of bytes) t s means spells in
     subst (λ (u : Scanned). TextLeadsBack u (places_in size u) done.text m) same
     (subst (TextLeadsBack t (places_in size t) done.text) own
     (made_leads_back size bytes t done is means k))

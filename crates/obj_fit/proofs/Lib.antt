@@ -3,6 +3,7 @@ pub mod TextLaws
 pub mod MakeLaws
 pub mod OutcomeLaws
 pub mod ScannedLaws
+pub mod SoundLaws
 pub mod GridLaws
 pub mod HeadLaws
 pub mod ReadLaws

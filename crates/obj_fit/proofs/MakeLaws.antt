@@ -1,4 +1,4 @@
--- What a text gives is what its mesh is made of.
+-- What a file gives is what its mesh is made of.
 use Rattle.std.proofs.Common.{◌≡◌, ℕ, ◌<◌, ◌≤◌, List, ◌++◌, length, Option, Some, None, IfSome}
 use Rattle.std.proofs.lemmas.Grind.{common_steps}
 use Rattle.std.proofs.Common.{Result, Ok, Err, refl, sym, ◌∙◌, ap, subst, arith}
@@ -10,11 +10,11 @@ use Rattle.pm_base.specs.Sides.{net_of}
 use Rattle.pm_base.specs.Fans.{IsOrientedManifold}
 use Rattle.pm_base.specs.Canonical.{canonical_text}
 use Rattle.pm_ears.specs.Recutting.{AreBelow}
-use Rattle.obj_scan.specs.declared.fault.ScanFault.{ScanFault}
-use Rattle.obj_scan.specs.Refusals.{Refused, IsRefusal, FaultNotReached}
 use Rattle.obj_scan.specs.Judged.{Scanned}
-use Rattle.obj_scan.specs.Meaning.{scan_meaning_of, IsWithinLimits}
-use Rattle.obj_scan.specs.Fails.{ScanFailsBefore}
+use Rattle.obj_scan.specs.Meaning.{IsWithinLimits}
+use Rattle.mesh_scan.specs.declared.fault.MeshFault.{MeshFault}
+use Rattle.mesh_scan.specs.Meaning.{Refused, mesh_meaning_of}
+use Rattle.mesh_scan.specs.Fails.{IsRefused, IsNotReached, FailsBefore}
 use Rattle.obj_prepare.specs.declared.notes.Notes.{Notes}
 use Rattle.obj_prepare.specs.declared.placing.Fit.{Fit}
 use Rattle.obj_prepare.specs.Prepared.{IsPreparedWith}
@@ -28,7 +28,7 @@ use Rattle.obj_fit.specs.declared.fault.Fault.TheVariants as faults
 use Rattle.obj_fit.specs.declared.fault.InputFail.{InputFail}
 use Rattle.obj_fit.specs.declared.fault.InputFail.TheVariants as input
 use Rattle.obj_fit.specs.Outcome.{Done, MakesPrepared, cut_in, places_in, counts_of, warning_for}
-use Rattle.obj_fit.specs.Outcome.{rounded_for, IsPreparedText, bad_line, too_many, no_face, made}
+use Rattle.obj_fit.specs.Outcome.{rounded_for, IsPreparedText, bad_file, too_many, no_face, made}
 use Rattle.obj_fit.specs.declared.laying.Laid.{Laid}
 use Rattle.obj_fit.specs.Making.{IsMakeFail, IsLaid}
 use Rattle.obj_fit.proofs.RecutLaws.{cut_long, cut_within}
@@ -112,35 +112,33 @@ makes_done size s laid places three m notes shown head said is places_are three_
 
 -- What follows where the source tells its bytes.
 module _ (size : Option ℕ) where
-  refuses_line : (bytes : List ℕ) (fault : ScanFault) (line : ℕ) (r : Result Scanned Refused)
-      → scan_meaning_of bytes ≡ r → IsRefusal fault line r
-      → HasPreparedFault size bytes (faults.Line fault line)
-  refuses_line bytes fault line (Ok s) is refusal = absurd refusal
-  refuses_line bytes fault line (Err r) is refusal = record {
+  refuses_file : (bytes : List ℕ) (fault : MeshFault) (r : Result Scanned Refused)
+      → mesh_meaning_of bytes ≡ r → IsRefused fault r
+      → HasPreparedFault size bytes (faults.File fault)
+  refuses_file bytes fault (Ok s) is refused = absurd refused
+  refuses_file bytes fault (Err r) is refused = record {
     place = r.place;
-    outcome = subst (λ (f : Fault). IsPreparedText size bytes (Err f) r.place)
-        (ap (λ (e : ScanFault). faults.Line e r.line) refusal.0
-        ∙ ap (λ (n : ℕ). faults.Line fault n) refusal.1) (bad_line r is);
+    outcome = subst (λ (f : MeshFault). IsPreparedText size bytes (Err (faults.File f)) r.place)
+        refused (bad_file r is);
   }
 
-  pub line_refuses : (left : Option (List ℕ)) (fault : ScanFault) (line : ℕ)
-      → IfSome left (λ bytes. IsRefusal fault line (scan_meaning_of bytes))
-      → IfSome left (λ bytes. HasPreparedFault size bytes (faults.Line fault line))
-  line_refuses None fault line is = tt
-  line_refuses (Some bytes) fault line is =
-      refuses_line bytes fault line (scan_meaning_of bytes) refl is
+  pub file_refuses : (left : Option (List ℕ)) (fault : MeshFault)
+      → IfSome left (λ bytes. IsRefused fault (mesh_meaning_of bytes))
+      → IfSome left (λ bytes. HasPreparedFault size bytes (faults.File fault))
+  file_refuses None fault is = tt
+  file_refuses (Some bytes) fault is = refuses_file bytes fault (mesh_meaning_of bytes) refl is
 
   -- Bytes that don't reach the first fault's place decide nothing.
-  text_before : (bytes : List ℕ) (taken : ℕ) → FaultNotReached taken (scan_meaning_of bytes)
+  text_before : (bytes : List ℕ) (taken : ℕ) → IsNotReached taken (mesh_meaning_of bytes)
       → (r : Result Done Fault) (place : Option ℕ) → IsPreparedText size bytes r place
       → IfSome place (λ n. taken < n)
-  text_before bytes taken before found place (bad_line r is) =
-      subst (λ (m : Result Scanned Refused). FaultNotReached taken m) is before
+  text_before bytes taken before found place (bad_file r is) =
+      subst (λ (m : Result Scanned Refused). IsNotReached taken m) is before
   text_before bytes taken before found place (too_many s is many) = tt
   text_before bytes taken before found place (no_face s is none) = tt
   text_before bytes taken before found place (made s done is makes) = tt
 
-  pub text_unreached : (left now : Option (List ℕ)) → ScanFailsBefore left now
+  pub text_unreached : (left now : Option (List ℕ)) → FailsBefore mesh_meaning_of left now
       → PlaceUnreached size left now
   text_unreached left now fails = record {
     taken = fails.taken;
@@ -149,16 +147,16 @@ module _ (size : Option ℕ) where
   }
     where
       before : (left : Option (List ℕ))
-          → IfSome left (λ bytes. FaultNotReached (length fails.taken) (scan_meaning_of bytes))
+          → IfSome left (λ bytes. IsNotReached (length fails.taken) (mesh_meaning_of bytes))
           → IfSome left (λ bytes. (r : Result Done Fault) (place : Option ℕ)
           → IsPreparedText size bytes r place → IfSome place (λ n. length fails.taken < n))
       before None is = tt
       before (Some bytes) is = text_before bytes (length fails.taken) is
 
   pub make_stops : (left now : Option (List ℕ)) (s : Scanned) (e : InputFail) (in_old in_new : ℕ)
-      → IfSome left (λ bytes. scan_meaning_of bytes ≡ Ok s) → in_new ≡ in_old → IsMakeFail size s e
+      → IfSome left (λ bytes. mesh_meaning_of bytes ≡ Ok s) → in_new ≡ in_old → IsMakeFail size s e
       → StopsPreparing size e left now in_old in_new
-  make_stops left now s (input.Faulty (faults.Line e n)) in_old in_new is same fail = absurd fail
+  make_stops left now s (input.Faulty (faults.File f)) in_old in_new is same fail = absurd fail
   make_stops None now s (input.Faulty faults.TooMany) in_old in_new is same fail = (tt, same)
   make_stops (Some bytes) now s (input.Faulty faults.TooMany) in_old in_new is same
       fail = (record { place = None; outcome = too_many s is fail }, same)
@@ -169,7 +167,7 @@ module _ (size : Option ℕ) where
   make_stops left now s input.OutOfMemory in_old in_new is same fail = same
 
   pub make_stands : (left : Option (List ℕ)) (s : Scanned) (done : Done)
-      → IfSome left (λ bytes. scan_meaning_of bytes ≡ Ok s) → MakesPrepared size s done
+      → IfSome left (λ bytes. mesh_meaning_of bytes ≡ Ok s) → MakesPrepared size s done
       → IfSome left (λ bytes. IsPreparedText size bytes (Ok done) None)
   make_stands None s done is makes = tt
   make_stands (Some bytes) s done is makes = made s done is makes

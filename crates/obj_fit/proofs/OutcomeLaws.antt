@@ -6,9 +6,8 @@ use Rattle.obj_prepare.specs.Joining.{place_in_list}
 use Rattle.std.proofs.Common.{◌≡◌, ℕ, List, length, Option, Result, Ok, Err, refl, sym, ap, ◌∙◌}
 use Rattle.std.proofs.Common.{subst, arith}
 use Rattle.pm_base.specs.Meshes.{Mesh}
-use Rattle.obj_scan.specs.Refusals.{Refused}
 use Rattle.obj_scan.specs.Judged.{Scanned}
-use Rattle.obj_scan.specs.Meaning.{scan_meaning_of}
+use Rattle.mesh_scan.specs.Meaning.{Refused, mesh_meaning_of}
 use Rattle.obj_prepare.specs.declared.notes.Notes.{Notes}
 use Rattle.obj_prepare.specs.declared.placing.Fit.{Fit}
 use Rattle.obj_prepare.specs.Named.{of_three}
@@ -18,7 +17,7 @@ use Rattle.obj_fit.specs.declared.fault.Fault.{Fault}
 use Rattle.obj_fit.specs.declared.fault.Fault.TheVariants as faults
 use Rattle.obj_fit.specs.Texts.{output_text, notes_text}
 use Rattle.obj_fit.specs.Outcome.{Done, MakesPrepared, cut_in, fit_in, places_in, counts_in}
-use Rattle.obj_fit.specs.Outcome.{rounded_in, warning_in, IsPreparedText, LeavesNoFace, bad_line}
+use Rattle.obj_fit.specs.Outcome.{rounded_in, warning_in, IsPreparedText, LeavesNoFace, bad_file}
 use Rattle.obj_fit.specs.Outcome.{too_many, no_face, made}
 
 one_refused : (found : Result Scanned Refused) (r q : Refused) → found ≡ Err r → found ≡ Err q
@@ -79,60 +78,60 @@ not_over places faces over leaves =
     absurd (omega (arith, t.is_side, leaves.none, ap (λ (m : Mesh). length m.faces) mesh))
 
 module _ (size : Option ℕ) (bytes : List ℕ) where
-  over_or_made : (s t : Scanned) (done : Done) → scan_meaning_of bytes ≡ Ok s
-      → scan_meaning_of bytes ≡ Ok t → HasTooMany (places_in size s) (of_three (cut_in size s))
+  over_or_made : (s t : Scanned) (done : Done) → mesh_meaning_of bytes ≡ Ok s
+      → mesh_meaning_of bytes ≡ Ok t → HasTooMany (places_in size s) (of_three (cut_in size s))
       → MakesPrepared size t done → ⊥
   over_or_made s t done is are over makes =
       not_too_many size s done over
       (subst (λ (u : Scanned). MakesPrepared size u done)
-      (one_scanned (scan_meaning_of bytes) t s are is) makes)
+      (one_scanned (mesh_meaning_of bytes) t s are is) makes)
 
-  none_or_made : (s t : Scanned) (done : Done) → scan_meaning_of bytes ≡ Ok s
-      → scan_meaning_of bytes ≡ Ok t → LeavesNoFace (places_in size s) (of_three (cut_in size s))
+  none_or_made : (s t : Scanned) (done : Done) → mesh_meaning_of bytes ≡ Ok s
+      → mesh_meaning_of bytes ≡ Ok t → LeavesNoFace (places_in size s) (of_three (cut_in size s))
       → MakesPrepared size t done → ⊥
   none_or_made s t done is are leaves makes = not_without size s done leaves
       (subst (λ (u : Scanned). MakesPrepared size u done)
-      (one_scanned (scan_meaning_of bytes) t s are is) makes)
+      (one_scanned (mesh_meaning_of bytes) t s are is) makes)
 
-  over_or_none : (s t : Scanned) → scan_meaning_of bytes ≡ Ok s → scan_meaning_of bytes ≡ Ok t
+  over_or_none : (s t : Scanned) → mesh_meaning_of bytes ≡ Ok s → mesh_meaning_of bytes ≡ Ok t
       → HasTooMany (places_in size s) (of_three (cut_in size s))
       → LeavesNoFace (places_in size t) (of_three (cut_in size t)) → ⊥
   over_or_none s t is are over leaves =
       not_over (places_in size s) (of_three (cut_in size s)) over
       (subst (λ (u : Scanned). LeavesNoFace (places_in size u) (of_three (cut_in size u)))
-      (one_scanned (scan_meaning_of bytes) t s are is) leaves)
+      (one_scanned (mesh_meaning_of bytes) t s are is) leaves)
 
   abbrev refusal : Refused → Result Done Fault
-  refusal r = Err (faults.Line r.fault r.line)
+  refusal r = Err (faults.File r.fault)
 
   pub one_outcome : (one other : Result Done Fault) (place there : Option ℕ)
       → IsPreparedText size bytes one place → IsPreparedText size bytes other there
       → (one ≡ other) × (place ≡ there)
-  one_outcome one other place there (bad_line r is) (bad_line q are) =
-      let same = one_refused (scan_meaning_of bytes) r q is are in
+  one_outcome one other place there (bad_file r is) (bad_file q are) =
+      let same = one_refused (mesh_meaning_of bytes) r q is are in
       (ap refusal same, ap (λ (f : Refused). f.place) same)
-  one_outcome one other place there (bad_line r is) (too_many t are over) =
-      absurd (not_both (scan_meaning_of bytes) r t is are)
-  one_outcome one other place there (bad_line r is) (no_face t are none) = absurd
-      (not_both (scan_meaning_of bytes) r t is are)
-  one_outcome one other place there (bad_line r is) (made t done are makes) =
-      absurd (not_both (scan_meaning_of bytes) r t is are)
-  one_outcome one other place there (too_many s is over) (bad_line q are) =
-      absurd (not_both (scan_meaning_of bytes) q s are is)
+  one_outcome one other place there (bad_file r is) (too_many t are over) =
+      absurd (not_both (mesh_meaning_of bytes) r t is are)
+  one_outcome one other place there (bad_file r is) (no_face t are none) = absurd
+      (not_both (mesh_meaning_of bytes) r t is are)
+  one_outcome one other place there (bad_file r is) (made t done are makes) =
+      absurd (not_both (mesh_meaning_of bytes) r t is are)
+  one_outcome one other place there (too_many s is over) (bad_file q are) =
+      absurd (not_both (mesh_meaning_of bytes) q s are is)
   one_outcome one other place there (too_many s is over) (too_many t are more) = (refl, refl)
   one_outcome one other place there (too_many s is over) (no_face t are none) = absurd
       (over_or_none s t is are over none)
   one_outcome one other place there (too_many s is over) (made t done are makes) =
       absurd (over_or_made s t done is are over makes)
-  one_outcome one other place there (no_face s is none) (bad_line q are) = absurd
-      (not_both (scan_meaning_of bytes) q s are is)
+  one_outcome one other place there (no_face s is none) (bad_file q are) = absurd
+      (not_both (mesh_meaning_of bytes) q s are is)
   one_outcome one other place there (no_face s is none) (too_many t are over) = absurd
       (over_or_none t s are is over none)
   one_outcome one other place there (no_face s is none) (no_face t are more) = (refl, refl)
   one_outcome one other place there (no_face s is none) (made t done are makes) = absurd
       (none_or_made s t done is are none makes)
-  one_outcome one other place there (made s done is makes) (bad_line q are) =
-      absurd (not_both (scan_meaning_of bytes) q s are is)
+  one_outcome one other place there (made s done is makes) (bad_file q are) =
+      absurd (not_both (mesh_meaning_of bytes) q s are is)
   one_outcome one other place there (made s done is makes) (too_many t are over) =
       absurd (over_or_made t s done are is over makes)
   one_outcome one other place there (made s done is makes) (no_face t are none) = absurd
@@ -141,5 +140,5 @@ module _ (size : Option ℕ) (bytes : List ℕ) where
       let same : done ≡ more =
       one_made size s done more makes
       (subst (λ (u : Scanned). MakesPrepared size u more)
-      (one_scanned (scan_meaning_of bytes) t s are is) again) in
+      (one_scanned (mesh_meaning_of bytes) t s are is) again) in
       (ap Ok same, refl)

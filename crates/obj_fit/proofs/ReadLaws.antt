@@ -10,15 +10,16 @@ use Rattle.obj_read.specs.Meaning.{meaning_of}
 use Rattle.obj_read.proofs.CommentLaws.{commented_is_read}
 use Rattle.obj_scan.specs.Judged.{Scanned}
 use Rattle.obj_scan.specs.Meaning.{scan_meaning_of}
+use Rattle.mesh_scan.specs.Meaning.{of_obj, mesh_meaning_of}
 use Rattle.obj_scan.specs.Laws.{scanned_mesh}
 use Rattle.obj_scan.proofs.ReadLaws.{canonical_scanned}
 use Rattle.obj_prepare.specs.Named.{of_three}
 use Rattle.obj_prepare.specs.Placing.{IsSize}
 use Rattle.obj_fit.specs.declared.fault.Fault.{Fault}
-use Rattle.obj_fit.specs.Outcome.{Done, MakesPrepared, fit_in, places_in, IsPreparedText, bad_line}
+use Rattle.obj_fit.specs.Outcome.{Done, MakesPrepared, fit_in, places_in, IsPreparedText, bad_file}
 use Rattle.obj_fit.specs.Outcome.{too_many, no_face, made}
 use Rattle.obj_fit.specs.Laws.{IsFitText, TextsAreRead}
-use Rattle.obj_fit.proofs.ScannedLaws.{meaning_sound}
+use Rattle.obj_fit.proofs.SoundLaws.{meaning_sound, comment_means}
 use Rattle.obj_fit.proofs.GridLaws.{places_on_grid, taken_on_grid, fit_of_measured}
 use Rattle.obj_fit.proofs.HeadLaws.{head_comment}
 
@@ -40,7 +41,7 @@ record IsCommented (text : List ℕ) (m : Mesh) : Type 0 where
   text_is : text ≡ (35 ∷ line) ++ 10 ∷ canonical_text 0 m
 
 made_written : (size : Option ℕ) (bytes : List ℕ) (s : Scanned) (done : Done) → IsSize size
-    → scan_meaning_of bytes ≡ Ok s → (m : MakesPrepared size s done) → IsCommented done.text m.mesh
+    → mesh_meaning_of bytes ≡ Ok s → (m : MakesPrepared size s done) → IsCommented done.text m.mesh
 made_written size bytes s done is means m =
     let fit = fit_in size s in
     let head = head_comment fit
@@ -57,7 +58,7 @@ made_written size bytes s done is means m =
     }
 
 made_is_read : (size : Option ℕ) (bytes : List ℕ) (s : Scanned) (done : Done) → IsSize size
-    → scan_meaning_of bytes ≡ Ok s → MakesPrepared size s done → IsFitText done.text
+    → mesh_meaning_of bytes ≡ Ok s → MakesPrepared size s done → IsFitText done.text
 made_is_read size bytes s done is means m =
     let w = made_written size bytes s done is means m in
     record {
@@ -73,24 +74,25 @@ made_is_read size bytes s done is means m =
     }
 
 pub mesh_is_read : (size : Option ℕ) (bytes : List ℕ) (s : Scanned) (done : Done) → IsSize size
-    → scan_meaning_of bytes ≡ Ok s → (m : MakesPrepared size s done)
+    → mesh_meaning_of bytes ≡ Ok s → (m : MakesPrepared size s done)
     → meaning_of 0 done.text ≡ Ok m.mesh
 unfolding made_is_read
 mesh_is_read size bytes s done is means m = (made_is_read size bytes s done is means m).read
 
 -- It is scanned as that mesh, too.
 pub made_scanned : (size : Option ℕ) (bytes : List ℕ) (s : Scanned) (done : Done) → IsSize size
-    → scan_meaning_of bytes ≡ Ok s → (m : MakesPrepared size s done)
-    → scan_meaning_of done.text ≡ Ok (scanned_mesh m.mesh)
+    → mesh_meaning_of bytes ≡ Ok s → (m : MakesPrepared size s done)
+    → mesh_meaning_of done.text ≡ Ok (scanned_mesh m.mesh)
 made_scanned size bytes s done is means m =
     let w = made_written size bytes s done is means m in
-    ap scan_meaning_of w.text_is
-    ∙ canonical_scanned w.line m.mesh w.line_is w.plain w.short m.formed
-    (made_on_grid size s done is m)
+    ap mesh_meaning_of w.text_is
+    ∙ comment_means (w.line ++ 10 ∷ canonical_text 0 m.mesh)
+    ∙ ap of_obj (canonical_scanned w.line m.mesh w.line_is w.plain w.short m.formed
+    (made_on_grid size s done is m))
 
 outcome_is_read : (size : Option ℕ) (bytes : List ℕ) (r : Result Done Fault) (place : Option ℕ)
     → IsSize size → IsPreparedText size bytes r place → IfOk r (λ done. IsFitText done.text)
-outcome_is_read size bytes found place is (bad_line r means) = tt
+outcome_is_read size bytes found place is (bad_file r means) = tt
 outcome_is_read size bytes found place is (too_many s means many) = tt
 outcome_is_read size bytes found place is (no_face s means none) = tt
 outcome_is_read size bytes found place is (made s done means makes) =

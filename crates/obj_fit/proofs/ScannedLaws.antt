@@ -1,9 +1,9 @@
--- What a text spells is within the limits, and each of its points is at most 10^32 units away from
--- 0 on each axis.
+-- What an OBJ text spells is within the limits, and each of its points is at most 10^32 units away
+-- from 0 on each axis.
 use Rattle.std.proofs.Common.{◌≡◌, ℕ, ◌+◌, ◌-◌, ◌^◌, ◌<◌, ◌≤◌, Bool, true, false, ◌==◌, ◌&&◌}
 use Rattle.std.proofs.lemmas.Grind.{common_steps}
 use Rattle.std.proofs.Common.{nat_lt, List, [], ◌∷◌, length, ℤ, Option, Some, None, Result, Ok, Err}
-use Rattle.std.proofs.Common.{IfOk, refl, subst, arith, if◌then◌else◌}
+use Rattle.std.proofs.Common.{IfOk, refl, arith, if◌then◌else◌}
 use Rattle.std.specs.Prelude.{nat_le, unsigned_abs}
 use Rattle.std.specs.List.{All}
 use Rattle.std.proofs.lemmas.Bool.{ltb-false, or_parts}
@@ -34,8 +34,9 @@ use Rattle.obj_scan.specs.Meaning.{line_judged}
 use Rattle.obj_prepare.specs.Named.{AreVerticesBelow}
 use Rattle.pm_ears.specs.Recutting.{IsPolygonWithin}
 use Rattle.obj_scan.specs.Meaning.{then_scanned_lines, at_end, scan_meaning_from, scan_meaning_of}
-use Rattle.obj_scan.specs.Meaning.{IsWithinLimits, first_number}
+use Rattle.obj_scan.specs.Meaning.{first_number}
 use Rattle.obj_scan.proofs.ScanLaws.{vertex_within, polygon_kept}
+use Rattle.mesh_scan.proofs.ExactLaws.{IsSound}
 
 abbrev IsExact : ℤ → Type 0
 IsExact z = unsigned_abs z ≤ 10 ^ 32
@@ -113,10 +114,6 @@ fields_suit n k (keyword ∷ more) =
 line_suits : (n k : ℕ) (text : List ℕ) → LineGives (Suits n k) (scanned_line n k text)
 unfolding scanned_line
 line_suits n k text = fields_suit n k (fields text)
-
-pub record IsSound (s : Scanned) : Type 0 where
-  pub exact : All AreExact s.points
-  pub within : IsWithinLimits s
 
 with_found_sound : (s : Scanned) (line : ℕ) (f : Found) → IsSound s
     → Suits (length s.points) (length s.faces) f → IsSound (with_scanned s line f)
@@ -200,8 +197,6 @@ nothing_sound = record {
   };
 }
 
-pub meaning_sound : (bytes : List ℕ) (s : Scanned) → scan_meaning_of bytes ≡ Ok s → IsSound s
+pub text_sound : (bytes : List ℕ) → IfOk (scan_meaning_of bytes) IsSound
 unfolding scan_meaning_of
-meaning_sound bytes s is =
-    subst (λ (r : Result Scanned Refused). IfOk r IsSound) is
-    (meaning_from_sound nothing_scanned (lines bytes) nothing_sound)
+text_sound bytes = meaning_from_sound nothing_scanned (lines bytes) nothing_sound

@@ -16,6 +16,7 @@ use Rattle.obj_read.proofs.FormedLaws.{meaning_formed}
 use Rattle.obj_read.proofs.PlacedLaws.{meaning_placed}
 use Rattle.obj_scan.specs.Judged.{Scanned}
 use Rattle.obj_scan.specs.Meaning.{scan_meaning_of}
+use Rattle.mesh_scan.specs.Meaning.{of_obj, mesh_meaning_of}
 use Rattle.obj_scan.specs.Laws.{scanned_mesh, with_passed, passed_in, scaled_up}
 use Rattle.obj_scan.proofs.ReadLaws.{read_scanned}
 use Rattle.obj_prepare.specs.declared.placing.Fit.TheVariants as fits
@@ -39,7 +40,7 @@ use Rattle.obj_fit.specs.Outcome.{Done, MakesPrepared, cut_in, fit_in, places_in
 use Rattle.obj_fit.specs.Outcome.{IsPreparedText, made}
 use Rattle.obj_fit.specs.Laws.{NeedsNothing, as_it_is, FitScansStay, FitTextsStay}
 use Rattle.obj_fit.proofs.RecutLaws.{cut_long, cut_named, cut_within}
-use Rattle.obj_fit.proofs.ScannedLaws.{meaning_sound}
+use Rattle.obj_fit.proofs.SoundLaws.{meaning_sound, text_means}
 use Rattle.obj_fit.proofs.StandingLaws.{standing_fit, standing_places}
 use Rattle.obj_prepare.specs.Nothing.{nothing_done}
 use Rattle.obj_prepare.proofs.NothingLaws.{nothing_told}
@@ -73,7 +74,7 @@ some_fans size s [] [] is are some = absurd (omega (arith, some))
 some_fans size s [] (f ∷ cut) is are some =
     grind (arith, common_steps, corners_named (f ∷ cut) 0, cut_named size s f.a)
 
-stays_made : (size : Option ℕ) (bytes : List ℕ) (s : Scanned) → scan_meaning_of bytes ≡ Ok s
+stays_made : (size : Option ℕ) (bytes : List ℕ) (s : Scanned) → mesh_meaning_of bytes ≡ Ok s
     → NeedsNothing size s → (k : ℕ) × AreInsideOut (net_of (cut_in size s)) (places_in size s) k
     × MakesPrepared size s (as_it_is size s k)
 stays_made size bytes s means needs =
@@ -146,7 +147,7 @@ stands_as_it_is n m k three placed used =
     }
 
 pub fit_texts_stay : FitTextsStay
-fit_texts_stay bytes m formed_so read some manifold fit =
+fit_texts_stay bytes m is_obj formed_so read some manifold fit =
     let formed = meaning_formed 0 bytes m read in
     let placed = meaning_placed 0 bytes m read in
     let three : of_three m.faces
@@ -162,7 +163,7 @@ fit_texts_stay bytes m formed_so read some manifold fit =
     } in
     let (k, inward, stays) =
     fit_scans_stay None bytes (with_passed n (scanned_mesh m))
-    (read_scanned bytes m formed_so read) needs in (
+    (text_means bytes is_obj ∙ ap of_obj (read_scanned bytes m formed_so read)) needs in (
       k,
       subst (λ (ps : List Place). AreInsideOut (net_of m.faces) ps k) places inward,
       subst (λ (d : Done). IsPreparedText None bytes (Ok d) None)

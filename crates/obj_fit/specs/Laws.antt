@@ -16,6 +16,9 @@ use Rattle.obj_read.specs.Meaning.{meaning_of}
 use Rattle.obj_scan.specs.Judged.{Scanned}
 use Rattle.obj_scan.specs.Meaning.{scan_meaning_of}
 use Rattle.obj_scan.specs.Laws.{IsFormed, scanned_mesh, passed_in}
+use Rattle.mesh_scan.specs.declared.format.Format.TheVariants as formats
+use Rattle.mesh_scan.specs.Formats.{format_of}
+use Rattle.mesh_scan.specs.Meaning.{mesh_meaning_of}
 use Rattle.obj_prepare.specs.declared.notes.Notes.{Notes}
 use Rattle.obj_prepare.specs.declared.placing.Fit.TheVariants as fits
 use Rattle.obj_prepare.specs.Named.{is_some_corner, of_three}
@@ -103,7 +106,7 @@ pub record TextLeadsBack (s : Scanned) (places : List Place) (text : List ℕ)
 -- What is written, where it has faces, leads back to the points of the text.
 abbrev pub TextsLeadBack : Type 0
 TextsLeadBack = (size : Option ℕ) (bytes : List ℕ) (s : Scanned) (done : Done) (place : Option ℕ)
-    (m : Mesh) → IsSize size → scan_meaning_of bytes ≡ Ok s
+    (m : Mesh) → IsSize size → mesh_meaning_of bytes ≡ Ok s
     → IsPreparedText size bytes (Ok done) place → meaning_of 0 done.text ≡ Ok m → 0 < length m.faces
     → TextLeadsBack s (places_in size s) done.text m
 
@@ -122,7 +125,7 @@ pub record IsAccounted (size : Option ℕ) (s : Scanned) (m : Mesh)
 -- So the numbers that are said of a mesh account for each vertex and triangle of its text.
 abbrev pub TextsAreAccounted : Type 0
 TextsAreAccounted = (size : Option ℕ) (bytes : List ℕ) (s : Scanned) (done : Done)
-    → scan_meaning_of bytes ≡ Ok s → (k : MakesPrepared size s done)
+    → mesh_meaning_of bytes ≡ Ok s → (k : MakesPrepared size s done)
     → IsAccounted size s k.mesh k.notes
 
 -- The text of a mesh, prepared without a size, comes back after a comment. Vertices that were split
@@ -153,8 +156,9 @@ TextsComeBack = (size : Option ℕ) (bytes : List ℕ) (done : Done) (place : Op
 -- with nothing said of it but what was passed over, closed surfaces that look inward and
 -- faces without area, where its lines are well formed.
 abbrev pub FitTextsStay : Type 0
-FitTextsStay = (bytes : List ℕ) (m : Mesh) → IsFormed bytes → meaning_of 0 bytes ≡ Ok m
-    → 0 < length m.faces → IsOrientedManifold (net_of m.faces) → AreFit m.points m.faces
+FitTextsStay = (bytes : List ℕ) (m : Mesh) → format_of bytes ≡ formats.Obj → IsFormed bytes
+    → meaning_of 0 bytes ≡ Ok m → 0 < length m.faces → IsOrientedManifold (net_of m.faces)
+    → AreFit m.points m.faces
     → (inside_out : ℕ) × AreInsideOut (net_of m.faces) m.points inside_out
     × IsPreparedText None bytes
     (Ok (record {
@@ -193,6 +197,6 @@ as_it_is size s inside_out = record {
 -- A text that needs nothing comes back as it is, for each size and for none.
 abbrev pub FitScansStay : Type 0
 FitScansStay = (size : Option ℕ) (bytes : List ℕ) (s : Scanned)
-    → scan_meaning_of bytes ≡ Ok s → NeedsNothing size s
+    → mesh_meaning_of bytes ≡ Ok s → NeedsNothing size s
     → (inside_out : ℕ) × AreInsideOut (net_of (cut_in size s)) (places_in size s) inside_out
     × IsPreparedText size bytes (Ok (as_it_is size s inside_out)) None

@@ -23,7 +23,7 @@ done_of m = record {
 -- Of points and triangles no mesh is made where too many vertices come out or no face, or memory
 -- is wanting.
 abbrev pub IsMakeFail : Option ℕ → Scanned → InputFail → Type 0
-IsMakeFail size s (input.Faulty (faults.Line e n)) = ⊥
+IsMakeFail size s (input.Faulty (faults.File f)) = ⊥
 IsMakeFail size s (input.Faulty faults.TooMany) = HasTooMany (places_in size s)
     (of_three (cut_in size s))
 IsMakeFail size s (input.Faulty faults.NoFaces) = LeavesNoFace (places_in size s)

@@ -1,4 +1,4 @@
--- What comes of an OBJ text.
+-- What comes of a file.
 use Rattle.std.specs.Prelude.{◌≡◌, ℕ, ◌-◌, ◌*◌, ◌<◌, ◌==◌, nat_le, List, length, Option, Some, None}
 use Rattle.std.specs.Prelude.{Result, Ok, Err, if◌then◌else◌}
 use Rattle.pm_base.specs.declared.mesh.Corners.{Corners}
@@ -7,9 +7,8 @@ use Rattle.pm_base.specs.Meshes.{Mesh, IsWellFormed}
 use Rattle.pm_base.specs.Sides.{net_of}
 use Rattle.pm_base.specs.Fans.{IsOrientedManifold}
 use Rattle.pm_ears.specs.Recutting.{recut, overlapping_count}
-use Rattle.obj_scan.specs.Refusals.{Refused}
 use Rattle.obj_scan.specs.Judged.{Scanned}
-use Rattle.obj_scan.specs.Meaning.{scan_meaning_of}
+use Rattle.mesh_scan.specs.Meaning.{Refused, mesh_meaning_of}
 use Rattle.obj_prepare.specs.declared.notes.Notes.{Notes}
 use Rattle.obj_prepare.specs.declared.placing.Fit.{Fit}
 use Rattle.obj_prepare.specs.declared.placing.Fit.TheVariants as fits
@@ -115,18 +114,17 @@ pub record LeavesNoFace (places : List Place) (faces : List Corners) : Type 0 wh
   pub prepared : IsPrepared places faces mesh
   pub none : length mesh.faces ≡ 0
 
--- The text has a line with a fault, or more vertices come of it than a mesh may have, or no face,
--- or a mesh is made of it; and how
--- many bytes decide that, where it isn't the end of the text.
+-- The file has a fault, or more vertices come of it than a mesh may have, or no face, or a mesh is
+-- made of it; and how many bytes decide that, where it isn't the end of the file.
 pub data IsPreparedText (size : Option ℕ) (bytes : List ℕ) : Result Done Fault → Option ℕ
     → Type 0 where
-  bad_line : (r : Refused) → scan_meaning_of bytes ≡ Err r
-      → IsPreparedText size bytes (Err (faults.Line r.fault r.line)) r.place
-  too_many : (s : Scanned) → scan_meaning_of bytes ≡ Ok s
+  bad_file : (r : Refused) → mesh_meaning_of bytes ≡ Err r
+      → IsPreparedText size bytes (Err (faults.File r.fault)) r.place
+  too_many : (s : Scanned) → mesh_meaning_of bytes ≡ Ok s
       → HasTooMany (places_in size s) (of_three (cut_in size s))
       → IsPreparedText size bytes (Err faults.TooMany) None
-  no_face : (s : Scanned) → scan_meaning_of bytes ≡ Ok s
+  no_face : (s : Scanned) → mesh_meaning_of bytes ≡ Ok s
       → LeavesNoFace (places_in size s) (of_three (cut_in size s))
       → IsPreparedText size bytes (Err faults.NoFaces) None
-  made : (s : Scanned) (done : Done) → scan_meaning_of bytes ≡ Ok s → MakesPrepared size s done
+  made : (s : Scanned) (done : Done) → mesh_meaning_of bytes ≡ Ok s → MakesPrepared size s done
       → IsPreparedText size bytes (Ok done) None

@@ -1,48 +1,94 @@
-//! Why nothing is made of a text.
+//! Why nothing is made of a file.
 ghost use Rattle.std.specs.Prelude.{◌≡◌, ◌≤◌, length};
-ghost use Rattle.obj_fit.specs.Fails.{number_of, line_of};
-ghost use Rattle.obj_fit.specs.Reasons.{line_reason, scan_reason, reason_of};
+ghost use Rattle.obj_fit.specs.Fails.{stl_number, ply_number, file_number, number_of, told};
+ghost use Rattle.obj_fit.specs.Fails.{line_at, byte_at, line_of, byte_of};
+ghost use Rattle.obj_fit.specs.Reasons.{reason_of};
 
-use obj_read::ObjFault;
-use obj_scan::ScanFault;
+use crate::reason::file_reason;
+use mesh_scan::MeshFault;
+use ply_read::{PlyFault, Spot};
+use stl_read::StlFault;
 
-// What is wrong with what is read of a line.
-fn line_reason(fault: ObjFault) -> &'static [u8]
-    ensures value { result.now ≡ line_reason fault }
-    ensures short { length result.now ≤ 40 }
+fn stl_number(fault: StlFault) -> u32
+    ensures { result ≡ stl_number fault }
 {
     match fault {
-        ObjFault::LineTooLong => b"more than 65,536 bytes",
-        ObjFault::Continuation => b"continued, but the text ends",
-        ObjFault::TooFewFields => b"fewer than three fields",
-        ObjFault::BadNumber => b"a field is no number",
-        ObjFault::NotWhole => b"a coordinate isn't whole",
-        ObjFault::OutOfRange => b"a number is out of range",
-        ObjFault::BadIndex => b"there is no such vertex",
-        ObjFault::NotTriangle => b"more than three corners",
-        ObjFault::TooMany => b"too many vertices, triangles or bytes",
-        ObjFault::RepeatedCorner => b"a vertex is named twice",
+        StlFault::CutOff => 21,
+        StlFault::MoreBytes => 22,
+        StlFault::NotFinite => 23,
+        StlFault::TooLarge => 24,
+        StlFault::TooManyVertices => 25,
+        StlFault::TooManyFaces => 26,
+        StlFault::UnexpectedWord => 27,
+        StlFault::BadNumber => 28,
     }
 }
 
-// What is wrong with a line.
-fn scan_reason(fault: ScanFault) -> &'static [u8]
-    ensures value { result.now ≡ scan_reason fault }
-    ensures short { length result.now ≤ 40 }
+fn ply_number(fault: PlyFault) -> u32
+    ensures { result ≡ ply_number fault }
 {
     match fault {
-        ScanFault::Line(fault) => line_reason(fault),
-        ScanFault::SixteenBits => b"16 bits a letter, not UTF-8",
-        ScanFault::LoneReturn => b"a CR inside the line",
-        ScanFault::GarbledWord => b"the first word is garbled",
+        PlyFault::NotPly => 41,
+        PlyFault::CutOff => 42,
+        PlyFault::UnexpectedLine => 43,
+        PlyFault::UnknownFormat => 44,
+        PlyFault::UnknownType => 45,
+        PlyFault::BadNumber => 46,
+        PlyFault::UnexpectedProperty => 47,
+        PlyFault::MissingProperty => 48,
+        PlyFault::UnexpectedElement => 49,
+        PlyFault::NoVertices => 50,
+        PlyFault::TriangleStrips => 51,
+        PlyFault::TooManyVertices => 52,
+        PlyFault::TooManyTriangles => 53,
+        PlyFault::BadIndex => 54,
+        PlyFault::NotFinite => 55,
+        PlyFault::TooLarge => 56,
+    }
+}
+
+fn file_number(fault: MeshFault) -> u32
+    ensures { result ≡ file_number fault }
+{
+    match fault {
+        MeshFault::Obj(fault, _) => fault.number(),
+        MeshFault::Stl(fault, _) => stl_number(fault),
+        MeshFault::Ply(fault, _) => ply_number(fault),
+        MeshFault::Foreign(_) => 14,
+        MeshFault::TooLong => 15,
+    }
+}
+
+// The number of a line or byte, up to the greatest that is told.
+fn told(n: usize) -> u32
+    ensures { result ≡ told n }
+{
+    u32::try_from(n).unwrap_or(u32::MAX)
+}
+
+fn line_at(spot: Spot) -> Option<u32>
+    ensures { result ≡ line_at spot }
+{
+    match spot {
+        Spot::Line(n) => Some(told(n)),
+        Spot::Byte(_) => None,
+    }
+}
+
+fn byte_at(spot: Spot) -> Option<u32>
+    ensures { result ≡ byte_at spot }
+{
+    match spot {
+        Spot::Line(_) => None,
+        Spot::Byte(n) => Some(told(n)),
     }
 }
 
 /// A fault of the input.
 #[derive(Clone, Copy, Debug, PartialEq, Eq)]
 pub enum Fault {
-    /// This line, counted from 1, has this fault.
-    Line(ScanFault, u32),
+    /// The file has this fault.
+    File(MeshFault),
     /// More vertices come out than a mesh may have.
     TooMany,
     /// No face comes out.
@@ -55,7 +101,7 @@ impl Fault {
         ensures { result ≡ number_of self }
     {
         match self {
-            Fault::Line(fault, _) => fault.number(),
+            Fault::File(fault) => file_number(fault),
             Fault::TooMany => 9,
             Fault::NoFaces => 12,
         }
@@ -67,19 +113,39 @@ impl Fault {
         ensures short { length result.now ≤ 40 }
     {
         match self {
-            Fault::Line(fault, _) => scan_reason(fault),
+            Fault::File(fault) => file_reason(fault),
             Fault::TooMany => b"more than 1,048,576 vertices come out",
             Fault::NoFaces => b"no face is left",
         }
     }
 
-    /// The line that has it, counted from 1, where one line has.
+    /// The line that has it, counted from 1, where one line has, up to 4,294,967,295.
     pub fn line(self) -> Option<u32>
         ensures { result ≡ line_of self }
     {
         match self {
-            Fault::Line(_, line) => Some(line),
-            Fault::TooMany | Fault::NoFaces => None,
+            Fault::File(MeshFault::Obj(_, line)) => Some(line),
+            Fault::File(MeshFault::Stl(_, spot)) => line_at(spot),
+            Fault::File(MeshFault::Ply(_, spot)) => line_at(spot),
+            Fault::File(MeshFault::Foreign(_)) => None,
+            Fault::File(MeshFault::TooLong) => None,
+            Fault::TooMany => None,
+            Fault::NoFaces => None,
+        }
+    }
+
+    /// The byte that has it, counted from 0, where one byte has, up to 4,294,967,295.
+    pub fn byte(self) -> Option<u32>
+        ensures { result ≡ byte_of self }
+    {
+        match self {
+            Fault::File(MeshFault::Obj(_, _)) => None,
+            Fault::File(MeshFault::Stl(_, spot)) => byte_at(spot),
+            Fault::File(MeshFault::Ply(_, spot)) => byte_at(spot),
+            Fault::File(MeshFault::Foreign(_)) => None,
+            Fault::File(MeshFault::TooLong) => None,
+            Fault::TooMany => None,
+            Fault::NoFaces => None,
         }
     }
 }

@@ -1,5 +1,5 @@
-//! Any OBJ text made fit: the mesh of it that is an oriented manifold on the grid, the line that
-//! tells how places lead back, and what is said of the work.
+//! Any OBJ, STL or PLY file made fit: the mesh of it that is an oriented manifold on the grid, the
+//! line that tells how places lead back, and what is said of the work.
 #![tactic(auto)]
 
 mod account;
@@ -12,6 +12,7 @@ mod lines;
 mod making;
 mod notes;
 mod outcomes;
+mod reason;
 mod rounded;
 mod text;
 mod thin;

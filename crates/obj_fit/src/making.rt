@@ -1,4 +1,4 @@
-//! A mesh that is an oriented manifold, made of any OBJ text.
+//! A mesh that is an oriented manifold, made of any OBJ, STL or PLY file.
 ghost use Rattle.std.specs.Prelude.{◌≡◌, ◌≤◌, length, false, None, Ok, IfOk, IfErr, IfSome, OnOk};
 ghost use Rattle.pm_base.specs.declared.limits.TheConstants.{MOST_FACES};
 ghost use Rattle.pm_base.specs.Meshes.{IsWellFormed, mesh_of};
@@ -19,10 +19,11 @@ use crate::fault::{Fault, InputFail};
 use crate::laying::{Laid, lay_out};
 use crate::notes::{head_line, notes_text};
 use crate::rounded::rounded_faces;
+use mesh_scan::{MeshFail, scan_mesh};
 use obj_prepare::{
     ExactPoint, Fit, LongestAxis, PrepareFail, Prepared, longest_axis, prepare, rounded_count,
 };
-use obj_scan::{Scan, ScanFail, scan_obj};
+use obj_scan::Scan;
 use pm_base::{Corners, Mesh, Point};
 use pm_io::Source;
 use std::alloc::{AllocError, Global};
@@ -143,8 +144,8 @@ fn make_of(alloc: Global, size: Option<u32>, scan: &Scan) -> Result<Made, InputF
     Ok(Made { head, mesh, notes })
 }
 
-/// Reads an OBJ text to its end, and makes a mesh of it. A line with a fault is refused as soon as
-/// the byte that shows the fault has come.
+/// Reads an OBJ, STL or PLY file to its end, and makes a mesh of it. An OBJ line with a fault is
+/// refused as soon as the byte that shows the fault has come, and the bytes that tell the format.
 pub fn make<S: Source>(alloc: Global, size: Option<u32>, input: &mut S) -> Result<Made, InputFail>
     requires size { IsSize size }
     requires not_ended { S.ended input.old ≡ false }
@@ -158,13 +159,11 @@ pub fn make<S: Source>(alloc: Global, size: Option<u32>, input: &mut S) -> Resul
         (λ e. StopsPreparing size e (S.left input.old) (S.left input.new) (S.faults input.old)
         (S.faults input.new)) }
 {
-    let scan = match scan_obj(alloc, input) {
+    let scan = match scan_mesh(alloc, input) {
         Ok(scan) => scan,
-        Err(ScanFail::Fault { fault, line }) => {
-            return Err(InputFail::Faulty(Fault::Line(fault, line)));
-        }
-        Err(ScanFail::Read) => return Err(InputFail::Read),
-        Err(ScanFail::OutOfMemory) => return Err(InputFail::OutOfMemory),
+        Err(MeshFail::Fault(fault)) => return Err(InputFail::Faulty(Fault::File(fault))),
+        Err(MeshFail::Read) => return Err(InputFail::Read),
+        Err(MeshFail::OutOfMemory) => return Err(InputFail::OutOfMemory),
     };
     match make_of(alloc, size, &scan) {
         Ok(made) => Ok(made),

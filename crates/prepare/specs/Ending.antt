@@ -8,7 +8,7 @@ use Rattle.obj_fit.specs.declared.fault.InputFail.TheVariants as input
 use Rattle.prepare.specs.declared.fault.RunFail.{RunFail}
 use Rattle.prepare.specs.declared.fault.RunFail.TheVariants as fails
 use Rattle.obj_fit.specs.Outcome.{Done, IsPreparedText}
-use Rattle.obj_fit.specs.Fails.{StopsPreparing, number_of, line_of}
+use Rattle.obj_fit.specs.Fails.{StopsPreparing, number_of, line_of, byte_of}
 use Rattle.obj_fit.specs.Reasons.{reason_of}
 use Rattle.pm_io.specs.Puts.{Said, Stayed}
 
@@ -35,14 +35,15 @@ pub record Finished (size : Option ℕ) (bytes : List ℕ) (old new err_old err_
   pub gained : Gains old new done.text
   pub said : Said err_old err_new err_before err_now done.notes
 
--- ` line N` of a line, and nothing where no line has the fault.
-abbrev pub place_text : Option ℕ → List ℕ
-place_text None = codes ""
-place_text (Some n) = codes " line " ++ decimal n
+-- ` line N` of a line, ` byte N` of a byte, and nothing where none has the fault.
+abbrev pub place_text : List ℕ → Option ℕ → List ℕ
+place_text what None = codes ""
+place_text what (Some n) = what ++ decimal n
 
--- The line of a fault: its number, the line that has it, and what it is.
+-- The line of a fault: its number, the line or byte that has it, and what it is.
 unfoldable pub prepare_fault_line : Fault → List ℕ
-prepare_fault_line f = codes "prepare: fault " ++ decimal (number_of f) ++ place_text (line_of f)
+prepare_fault_line f = codes "prepare: fault " ++ decimal (number_of f)
+    ++ place_text (codes " line ") (line_of f) ++ place_text (codes " byte ") (byte_of f)
     ++ codes " (" ++ reason_of f ++ codes ")\n"
 
 unfoldable pub prepare_fail_line : RunFail → List ℕ

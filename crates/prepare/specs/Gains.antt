@@ -7,7 +7,7 @@ use Rattle.pm_io.specs.Puts.{Said}
 use Rattle.pm_turn.specs.Told.{AreInsideOut}
 use Rattle.obj_read.specs.Meaning.{meaning_of}
 use Rattle.obj_scan.specs.Judged.{Scanned}
-use Rattle.obj_scan.specs.Meaning.{scan_meaning_of}
+use Rattle.mesh_scan.specs.Meaning.{mesh_meaning_of}
 use Rattle.obj_fit.specs.Outcome.{cut_in, places_in}
 use Rattle.obj_fit.specs.Laws.{IsFitText, ComesBack, NeedsNothing, as_it_is, TextLeadsBack}
 
@@ -15,7 +15,7 @@ use Rattle.obj_fit.specs.Laws.{IsFitText, ComesBack, NeedsNothing, as_it_is, Tex
 abbrev pub StaysAsItIs : Option ℕ → List ℕ → Option (List ℕ) → Option (List ℕ)
     → Option (List ℕ) → Option (List ℕ) → ℕ → ℕ → Type 0
 StaysAsItIs size bytes old new err_old err_new err_before err_now = (s : Scanned)
-    → scan_meaning_of bytes ≡ Ok s → NeedsNothing size s
+    → mesh_meaning_of bytes ≡ Ok s → NeedsNothing size s
     → (inside_out : ℕ) × AreInsideOut (net_of (cut_in size s)) (places_in size s) inside_out
     × Gains old new (as_it_is size s inside_out).text
     × Said err_old err_new err_before err_now (as_it_is size s inside_out).notes
@@ -35,5 +35,5 @@ pub record GainsWayBack (size : Option ℕ) (bytes : List ℕ)
   pub mesh : Mesh
   pub gained : Gains old new text
   pub read : meaning_of 0 text ≡ Ok mesh
-  pub leads : (s : Scanned) → scan_meaning_of bytes ≡ Ok s → 0 < length mesh.faces
+  pub leads : (s : Scanned) → mesh_meaning_of bytes ≡ Ok s → 0 < length mesh.faces
       → TextLeadsBack s (places_in size s) text mesh

@@ -1,5 +1,5 @@
-//! `prepare` makes any OBJ text fit to become an oriented manifold: `run` over the standard
-//! streams.
+//! `prepare` makes any OBJ, STL or PLY file fit to become an oriented manifold: `run` over the
+//! standard streams.
 #![tactic(auto)]
 
 mod fault;

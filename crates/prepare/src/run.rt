@@ -70,8 +70,8 @@ fn refuse_words<E: Sink>(err: &mut E, kind: ErrorKind) -> u8
     2
 }
 
-/// Makes a mesh of any OBJ text that is an oriented manifold of points on the grid, and answers the
-/// exit status.
+/// Makes a mesh of any OBJ, STL or PLY file that is an oriented manifold of points on the grid, and
+/// answers the exit status.
 ///
 /// `args` are the program's name and the words after it, or why they couldn't be gathered. Without
 /// words, points that fit the grid stand as they are, and others are scaled by their box; with one

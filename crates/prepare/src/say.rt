@@ -15,14 +15,15 @@ pub fn say<E: Sink>(err: &mut E, text: &[u8])
     let _ = put_all(err, text);
 }
 
-// Adds the line that has a fault, where one has.
-fn add_place(line: &mut Line, place: Option<u32>)
-    requires { length line.old ≤ 60 }
-    ensures text { line.new ≡ line.old ++ place_text place }
+// Adds the line or the byte that has a fault, where one has.
+fn add_place(line: &mut Line, what: &[u8], place: Option<u32>)
+    requires room { length line.old ≤ 60 }
+    requires short { length what.now ≤ 6 }
+    ensures text { line.new ≡ line.old ++ place_text what.now place }
     ensures short { length line.new ≤ length line.old + 16 }
 {
     if let Some(number) = place {
-        line.add(b" line ");
+        line.add(what);
         line.add_number(number);
     }
 }
@@ -35,7 +36,8 @@ fn put_fault(line: &mut Line, fault: Fault)
     line.clear();
     line.add(b"prepare: fault ");
     line.add_number(fault.number());
-    add_place(line, fault.line());
+    add_place(line, b" line ", fault.line());
+    add_place(line, b" byte ", fault.byte());
     line.add(b" (");
     line.add(fault.reason());
     line.add(b")\n");

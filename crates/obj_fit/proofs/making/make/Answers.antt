@@ -1,12 +1,12 @@
 use Rattle.obj_scan.specs.Fails.{scanned_of}
 use Rattle.obj_fit.specs.Making.{done_of}
-use Rattle.obj_fit.proofs.MakeLaws.{line_refuses, make_stops, make_stands}
+use Rattle.obj_fit.proofs.MakeLaws.{file_refuses, make_stops, make_stands}
 use Rattle.obj_fit.proofs.making.make.Goals as goal
 
 pub returns-in-Err-Fault-clause-err : goal.returns-in-Err-Fault-clause-err
 returns-in-Err-Fault-clause-err g c = (
   rw c.in-Err-Fault.field-0-is
-      (line_refuses c.args.size _ c.in-Err-Fault.fault c.in-Err-Fault.line
+      (file_refuses c.args.size _ c.in-Err-Fault.fault
       (rw c.in-Err-Fault.field-0-is at c.in-Err-Fault.ensures.err)),
   rw c.in-Err-Fault.field-0-is
       at c.in-Err-Fault.ensures.cause.same,
