@@ -11,6 +11,7 @@ import sys
 from pathlib import Path
 from typing import Callable, Dict, Iterable, Iterator, List, Tuple, Union
 
+from binary_builders import apart, empty_facets, facets, numbers
 from model.packed import packed_words
 
 TOP = Path(__file__).resolve().parent.parent
@@ -257,13 +258,21 @@ def with_crlf(data: bytes, given: str) -> bytes:
     return data.replace(b"\n", b"\r\n")
 
 
+def begun(data: bytes, given: str) -> bytes:
+    """The bytes with this text in the place of as many of the first ones."""
+    first = unescaped(given)
+    return first + data[len(first) :]
+
+
 BUILDERS: Dict[str, Callable[[str], Union[bytes, Data]]] = {
     "lines": lines, "text": text, "repeat": repeat, "byte": byte, "comments": comments,
     "views": views, "file": file, "header": header, "splits": splits, "collapses": collapses,
     "grid": grid, "cube": cube, "cone": cone, "book": book, "chain": chain, "square_of": square_of,
+    "numbers": numbers, "facets": facets, "empty_facets": empty_facets, "apart": apart,
 }  # fmt: skip
 FILTERS: Dict[str, Callable[[bytes, str], bytes]] = {
     "set": set_word, "byte": set_byte, "cut": cut, "crlf": with_crlf, "packed": packed,
+    "begun": begun,
 }  # fmt: skip
 
 

@@ -22,6 +22,7 @@ from typing import Callable, Dict, List, NamedTuple, Optional, Tuple
 
 from model import Answer, answer
 from model.packed import packed_words
+from random_files import random_file
 from random_inputs import bad_stream, damaged_text, random_digits, random_script
 from random_inputs import random_stream, random_text
 from random_meshes import random_mesh
@@ -127,6 +128,11 @@ def prepare_case(rng: Random) -> Case:
     return Case("prepare", size_words(rng), text)
 
 
+def file_case(rng: Random) -> Case:
+    """A PLY or STL file, often with a fault."""
+    return Case("prepare", size_words(rng), random_file(rng, random_soup(rng)))
+
+
 def prepared_case(rng: Random) -> Case:
     """What `prepare` wrote goes through `prepare` again, or through `canon` or `build`."""
     text = answer("prepare", size_words(rng), soup_text(rng, random_soup(rng))).output
@@ -170,6 +176,7 @@ KINDS: List[Tuple[Callable[[Random], Case], int]] = [
     (demo_case, 1),
     (words_case, 3),
     (prepare_case, 14),
+    (file_case, 10),
     (prepared_case, 6),
     (pack_case, 4),
     (unpack_case, 8),

@@ -21,6 +21,7 @@ with `prepare`, `simplify` and `pack`.
     commands   words and answers of `vdpm` and `simplify`
     packed     packed texts, and words and answers of `pack`
     scan       what any OBJ text spells
+    stl, ply   what files of these formats give; files, which format a file has
     prepare    the oriented manifold that is made of it, and what is said of the work
 """
 from typing import List

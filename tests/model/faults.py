@@ -3,12 +3,14 @@ from typing import NamedTuple
 
 
 class Fault(Exception):
-    """The input has a fault of this number; `place` is its place word and value, if it has them."""
+    """The input has a fault of this number; `place` is its place word and value, if it has them,
+    and `reason` what is said of it, where the number alone doesn't tell that."""
 
-    def __init__(self, number: int, place: str = "") -> None:
+    def __init__(self, number: int, place: str = "", reason: str = "") -> None:
         super().__init__(f"{number} {place}".rstrip())
         self.number = number
         self.place = place
+        self.reason = reason
 
 
 class Answer(NamedTuple):

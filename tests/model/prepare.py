@@ -1,10 +1,11 @@
-"""What `prepare` makes of a text: points brought onto the grid, an oriented manifold, and notes."""
+"""What `prepare` makes of a file: points brought onto the grid, an oriented manifold, and notes."""
 from collections import Counter, defaultdict
 from fractions import Fraction
 from typing import Dict, FrozenSet, List, NamedTuple, Optional, Set, Tuple
 
 from .commands import number_of_word
 from .faults import Answer, Fault, not_understood
+from .files import soup_of_file
 from .mesh import (
     GREATEST_COORDINATE,
     Corners,
@@ -31,7 +32,7 @@ from .notes import (
     of_welded,
 )
 from .polygons import cut
-from .scan import PASSED_OVER, UNITS, Soup, nearest, soup_of_text
+from .scan import PASSED_OVER, UNITS, Soup, nearest
 
 
 NO_FACES = 12
@@ -393,10 +394,11 @@ def answer(words: List[str], data: bytes) -> Answer:
     if words and size is None:
         return not_understood("prepare")
     try:
-        made = prepared(soup_of_text(data), size)
+        made = prepared(soup_of_file(data), size)
         if not made.mesh.faces:
             raise Fault(NO_FACES)
     except Fault as fault:
-        reason = TOO_MANY_OUT if str(fault) == "9" else REASONS[fault.number]
+        told = TOO_MANY_OUT if str(fault) == "9" else fault.reason
+        reason = told or REASONS[fault.number]
         return Answer(1, b"", f"prepare: fault {fault} ({reason})\n")
     return Answer(0, head_line(made).encode() + canonical_text(made.mesh, 0), notes_text(made))

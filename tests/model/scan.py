@@ -59,6 +59,10 @@ class Soup(NamedTuple):
     inexact: List[int]  # the points that aren't exactly what was read
 
 
+def empty_soup() -> Soup:
+    return Soup([], [], [], [], [], [])
+
+
 def nearest(value: Fraction) -> int:
     """The nearest whole number, halves away from 0."""
     size = int(abs(value) + Fraction(1, 2))
@@ -153,7 +157,7 @@ def read_of(number: int, line: bytes) -> bytes:
 def soup_of_text(text: bytes) -> Soup:
     """The points and triangles of a text, or the first fault of its first line with one. Of lines
     that go together the first is named."""
-    soup, begun, first = Soup([], [], [], [], [], []), b"", 1
+    soup, begun, first = empty_soup(), b"", 1
     for number, line in enumerate(lines_of(text), 1):
         if len(line) > MOST_LINE_BYTES:
             raise Fault(TOO_LONG, f"line {number}")

@@ -152,8 +152,8 @@ TextsComeBack = (size : Option ℕ) (bytes : List ℕ) (done : Done) (place : Op
     → IsSize size → IsPreparedText size bytes (Ok done) place → meaning_of 0 done.text ≡ Ok m
     → ComesBack done.text m
 
--- The text of an oriented manifold with faces whose vertices are used and stand apart comes back
--- with nothing said of it but what was passed over, closed surfaces that look inward and
+-- The OBJ text of an oriented manifold with faces whose vertices are used and stand apart comes
+-- back with nothing said of it but what was passed over, closed surfaces that look inward and
 -- faces without area, where its lines are well formed.
 abbrev pub FitTextsStay : Type 0
 FitTextsStay = (bytes : List ℕ) (m : Mesh) → format_of bytes ≡ formats.Obj → IsFormed bytes
