@@ -250,11 +250,11 @@ uint32_t vdpm_build(const uint8_t *text, size_t length, uint32_t faces, uint32_t
 uint32_t vdpm_simplify(const uint8_t *text, size_t length, uint32_t faces, uint32_t digits,
                        uint32_t keep_border, vdpm_made *made, vdpm_fault *fault);
 
-/* Makes any OBJ text fit for the two above, as `prepare` does: vdpm_made_bytes has the text then,
- * and vdpm_made_notes the lines that the program says of it. `size` is 0, and points that fit the
- * grid stand as they are, or from 1 to 32,767: the longest axis of the box goes from -size to size.
- * A fault of a line has that as its place. Answers as vdpm_build does; VDPM_OUT_OF_RANGE is for a
- * greater size. */
+/* Makes any OBJ, PLY or STL file fit for the two above, as `prepare` does: vdpm_made_bytes has an
+ * OBJ text then, and vdpm_made_notes the lines that the program says of it. `size` is 0, and points
+ * that fit the grid stand as they are, or from 1 to 32,767: the longest axis of the box goes from
+ * -size to size. A fault of a line has that as its place, one of a byte none. Answers as vdpm_build
+ * does; VDPM_OUT_OF_RANGE is for a greater size. */
 uint32_t vdpm_prepare(const uint8_t *text, size_t length, uint32_t size, vdpm_made *made,
                       vdpm_fault *fault);
 

@@ -12,16 +12,18 @@ SHORT = {
     "f": ["float", "float32"], "d": ["double", "float64"],
 }  # fmt: skip
 FORMATS = {"": "ascii", "<": "binary_little_endian", ">": "binary_big_endian"}
-NUMBERS = ["nan", "-inf", "1e999", "1e15", "-1", "x", "1.", "+2", "007", "4294967296", "", "0 0"]
+NUMBERS = "nan -inf 1e999 1e15 -1 x 1. +2 007 4294967296".split() + ["", "0 0"]
 HEADER_LINES = [
     "", "comment x", "obj_info", "format ascii 1.0", "format ascii 1.1", "format ply 1.0",
     "element face 0", "element vertex 2", "element vertex 1048577", "element edge",
     "element tristrips 1", "element edge -1", "property float x", "property float32 q",
     "property list uchar int vertex_index", "property list float int vertex_indices",
-    "property list uchar float vertex_indices", "property int vertex_indices", "property list uchar",
-    "property bool x", "property float", "end_header", "end", "end_header x", "PLY",
+    "property list uchar float vertex_indices", "property int vertex_indices", "property float",
+    "property list uchar", "property bool x", "end_header", "end", "end_header x", "PLY",
 ]  # fmt: skip
-WORDS = [b"nan", b"1e40", b"1e15", b"x", b"vertex", b"SOLID", b"endsolid", b"facet", b"loop", b"1 2"]
+WORDS = b"nan 1e40 1e15 x vertex SOLID endsolid facet loop".split()
+BYTES = [0, 10, 13, 32, 45, 57, 127, 128, 255]
+NOT_FINITE = [b"\x00\x00\x80\x7f", b"\x00\x00\xc0\xff", b"\x00\x00\x80\x7f\x00\x00\xf0\x7f"]
 
 
 class Property(NamedTuple):
@@ -117,7 +119,8 @@ def ply_file(rng: Random, soup: Soup) -> bytes:
     item = rng.choice(fitting("bBhHiiiI", corners))
     name = rng.choice(["vertex_indices", "vertex_indices", "vertex_index"])
     indices = Property(name, item, rng.choice("bBBBhHiI"))
-    named: List[List[Sequence[float]]] = [[face[: rng.choice([99, 99, 99, 99, 2])]] for face in faces]
+    most = rng.choice([99, 99, 99, 99, 2])
+    named: List[List[Sequence[float]]] = [[face[:most]] for face in faces]
     if rng.random() < 0.2:
         ply.elements("material", [Property("m", "B")], [[[1]], [[2]]])
     ply.elements("vertex", axes, [[[c] for c in point] for point in points])
@@ -173,9 +176,9 @@ def damaged(rng: Random, data: bytes) -> bytes:
     if how == 0:
         return data[:at]
     if how == 1:
-        return data[:at] + bytes([rng.choice([0, 10, 13, 32, 45, 57, 127, 128, 255])]) + data[at + 1 :]
+        return data[:at] + bytes([rng.choice(BYTES)]) + data[at + 1 :]
     if how == 2:
-        return data[:at] + b"\x00\x00\x80\x7f\x00\x00\xf0\x7f"[: rng.choice([4, 8])] + data[at + 4 :]
+        return data[:at] + rng.choice(NOT_FINITE) + data[at + 4 :]
     words = data.split(b" ")
     place = rng.randrange(len(words))
     if how == 3:

@@ -58,6 +58,14 @@ class Hints(unittest.TestCase):
             self.assertEqual(run.stderr, line + b"an OBJ text\n")
             self.assertEqual((run.returncode, run.stdout), (0, given[:1]))
 
+    def test_prepare_reads_ply_and_stl(self) -> None:
+        binary = b"v".ljust(80) + (1).to_bytes(4, "little") + bytes(50)
+        for given in (b"ply\nformat ascii 1.0\n", b"solid cube\nfacet", b"v 0 0 0\n", binary):
+            self.assertEqual(said("prepare", given).stderr, b"")
+        self.assertIn(b"an STL file", said("simplify", binary).stderr)
+        self.assertIn(b"read here is an OBJ, PLY or STL file", said("prepare", b"glTF").stderr)
+        self.assertIn(b"no line", said("prepare", b"hello\n").stderr)
+
     def test_what_is_read(self) -> None:
         stream, mesh = b"VDPM\1\0\0\0", b"# a mesh\nv 0 0 0\n"
         self.assertEqual(said("vdpm", stream, "check").stderr, b"")

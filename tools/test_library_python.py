@@ -3,6 +3,7 @@
 The bytes and arrays that it answers are compared in test_library.py and test_library_making.py.
 """
 import pydoc
+import struct
 import unittest
 from fractions import Fraction
 from typing import Any, Callable, Dict, List, Tuple
@@ -175,13 +176,27 @@ class NotTexts(unittest.TestCase):
         stl = bytes(80) + (1).to_bytes(4, "little") + bytes(50)
         self.assert_told("'model.obj', the path of a text", "model.obj")
         self.assert_told("the path of a text", str(OBJ))
-        self.assert_told("it is a PLY", b"ply\nformat ascii 1.0\n")
-        self.assert_told("it is an STL", b"solid it\n facet normal 0 0 1\n")
-        self.assert_told("it is an STL", stl)
+        made = (vdpm.build, vdpm.simplify)
+        self.assert_told("it is a PLY", b"ply\nformat ascii 1.0\n", *made)
+        self.assert_told("it is an STL", b"solid it\n facet normal 0 0 1\n", *made)
+        self.assert_told("it is an STL", stl, *made)
         self.assert_told("it is a stream", STREAM)
         self.assert_told("it is a GLB", b"glTF\2\0\0\0")
         self.assert_told("no line begins with f in its 16 bytes", b"v 0 0 0\nv 1 1 1\n", vdpm.build)
         self.assert_told("no line begins with f in its 0 bytes", "", vdpm.build, vdpm.simplify)
+
+    def test_ply_and_stl_are_prepared(self) -> None:
+        corners = (0.0, 0.0, 0.0, 10.0, 0.0, 0.0, 0.0, 10.0, 0.0)
+        stl = bytes(80) + (1).to_bytes(4, "little") + struct.pack("<12fH", 0, 0, 1, *corners, 0)
+        text = b"# coordinates as they stood\nv 0 0 0\nv 10 0 0\nv 0 10 0\nf 1 2 3\n"
+        self.assertEqual(vdpm.prepare(stl).text, text)
+        with self.assertRaises(vdpm.TextFault) as raised:
+            vdpm.prepare(stl[:-1])
+        self.assertEqual((raised.exception.number, raised.exception.place), (21, None))
+        with self.assertRaises(vdpm.TextFault) as raised:
+            vdpm.prepare(b"ply\nformat ascii 1.1\n")
+        self.assertNotIsInstance(raised.exception, vdpm.NotMesh)
+        self.assertEqual((raised.exception.number, raised.exception.place), (44, 2))
 
     def test_what_is_no_text_at_all_is_a_wrong_type(self) -> None:
         for given in (OBJ, 5, None, [1, 2]):

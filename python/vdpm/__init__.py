@@ -10,7 +10,7 @@
         frame = session.frame()
         print(len(frame.nodes), "vertices,", len(frame.faces), "faces")
 
-Making: `prepare` makes any OBJ text fit, `simplify` and `build` make the stream of one.
+Making: `prepare` makes any OBJ, PLY or STL file fit, `simplify` and `build` make the stream of one.
 Showing: a `Session` shows a stream, `Session.view` adapts it to a view, and `Session.frame` and
 `Session.change` answer arrays: numpy's where numpy is there, else flat `array.array`s.
 

@@ -22,6 +22,10 @@ KINDS = (
 )  # fmt: skip
 
 
+# Those that `prepare` reads.
+READ = ("a PLY", "an STL")
+
+
 class Prepared(NamedTuple):
     """An OBJ text that is fit for `build` and `simplify`, and what was done.
 
@@ -57,11 +61,12 @@ def _is_binary_stl(data: bytes) -> bool:
     return len(data) >= 84 and len(data) == 84 + 50 * int.from_bytes(data[80:84], "little")
 
 
-def _what_it_is(data: bytes) -> Optional[str]:
-    """What is told of bytes that are known to be no OBJ text."""
+def _what_it_is(data: bytes, table: Table) -> Optional[str]:
+    """What is told of bytes that are known to be no file that is read."""
     kinds = [kind for begins, kind in KINDS if re.match(begins, data)]
-    if kinds or _is_binary_stl(data):
-        return f"it is {(kinds or ['an STL'])[0]}"
+    kinds += ["an STL"] if _is_binary_stl(data) else []
+    if kinds:
+        return None if table is OF_ANY_TEXT and kinds[0] in READ else f"it is {kinds[0]}"
     name = data.decode(errors="replace")
     if len(data) < 4096 and "\n" not in name and (SUFFIX.search(name) or _is_file(name)):
         return f"it is {name!r}, the path of a text: open(path, 'rb').read() is one"
@@ -99,14 +104,14 @@ def _of_text(library: ctypes.CDLL, table: Table, function: Any, allow_empty: boo
     try:
         made = _made(library, table, function, data, len(data), *asked)
     except TextFault as fault:
-        told = _what_it_is(data)
+        told = _what_it_is(data, table)
         if told is None:
             raise
         raise NotMesh(told, fault.number, fault.place) from fault
     if not allow_empty and not FACE.search(data):
         told = (f"no line begins with f in its {len(data)} bytes, which begin with {data[:32]!r}; "
                 "allow_empty=True makes a stream of it")
-        raise NotMesh(_what_it_is(data) or told)
+        raise NotMesh(_what_it_is(data, table) or told)
     return made
 
 
@@ -143,14 +148,14 @@ def simplify(text: Text, faces: int = 0, digits: int = 0, keep_border: bool = Fa
 
 
 def prepare(text: Text, size: Optional[int] = None, library: Optional[str] = None) -> Prepared:
-    """Makes any OBJ text fit for `build` and `simplify`, as the program `prepare` does.
+    """Makes any OBJ, PLY or STL file fit for `build` and `simplify`, as the program `prepare` does.
 
-    text: the text itself, not its path, as bytes or str.
+    text: the file's bytes, not its path; an OBJ text may be a str.
     size: None, and places that fit the grid stand as they are; or from 1 to 32,767: the longest
     axis of the box goes from -size to size.
 
-    Raises TextFault, with the line, where the program refuses the text; NotMesh, which is one,
-    where it is no OBJ text; ValueError; and MemoryError.
+    Raises TextFault, with the line if one has the fault, where the program refuses the file;
+    NotMesh, which is one, where it is of another kind; ValueError; and MemoryError.
     """
     data, loaded = _text_of(text), load(library)
     if size is not None and number_to(MOST_SIZE, size, "size") == 0:

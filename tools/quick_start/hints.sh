@@ -47,6 +47,8 @@ kind_of() {
         PK..*) echo "a ZIP archive" ;;
         .PNG* | GIF8* | ....JFIF* | ......JFIF* | ......Exif*) echo "an image" ;;
         %PDF*) echo "a PDF document" ;;
+        *) [ "$(tail -c +84 <"$1" 2>/dev/null | head -c 1 | od -An -tu1)" != '   0' ] ||
+            echo "an STL file" ;;
     esac
 }
 
@@ -57,13 +59,17 @@ tell_kind() {
         vdpmexpand | vdpmcheck | vdpmview | vdpmlive | pack) reads='a stream of vdpm' ;;
         pack--unpack) reads='a packed stream' ;;
         vdpmdemo) return ;;
+        prepare*) reads='an OBJ, PLY or STL file' ;;
     esac
     [ -f "$file" ] || return 0
     kind=$(kind_of "$file")
+    case $name$kind in
+        'preparea PLY file' | 'preparean STL file') return 0 ;;
+    esac
     if [ -n "$kind" ]; then
         [ "$kind" = "$reads" ] ||
             echo "$name: standard input looks like $kind; what is read here is $reads" >&2
-    elif [ "$reads" = 'an OBJ text' ] && ! grep -qam1 '^[[:blank:]]*v' "$file"; then
+    elif [ "${reads#an OBJ}" != "$reads" ] && ! grep -qam1 '^[[:blank:]]*v' "$file"; then
         echo "$name: no line of standard input begins with v, so it has no mesh" >&2
     fi
 }
