@@ -95,7 +95,7 @@ class Cures(Case):
             manual.OBJ: range(1, 13),
             manual.STREAM: [11, *range(20, 30), 33],
             manual.SCRIPT: [30, 31, 32],
-            manual.PREPARE: [1, 2, 3, 4, 6, 7, 9],
+            manual.PREPARE: [1, 2, 3, 4, 6, 7, *range(9, 16), *range(21, 29), *range(41, 57)],
         }
         for heading, numbers in faults.items():
             for number in numbers:
