@@ -207,6 +207,21 @@ uint32_t vdpm_place(vdpm_viewer *viewer, uint32_t node, int32_t *out, size_t roo
 uint32_t vdpm_means(vdpm_viewer *viewer, uint32_t channels, const uint16_t *by_vertex,
                     size_t length, uint16_t *by_node, size_t room);
 
+/* Writes what all nodes have of numbers by vertex of the complete mesh that go with positions, as
+ * the coordinates of a texture: in each channel that of the linear map which fits the numbers of
+ * the vertices under a node best (least squares), at the node's own position, and between the least
+ * and the greatest of them. With C = channels, and leaves and nodes as vdpm_counts tells them:
+ * `by_vertex`  C leaves numbers, each at most 2,097,152 away from 0, as 65,536 times u and v: those
+ *              of the first vertex of the text that the stream was made of, then those of the
+ *              second, in its order
+ * `by_node`    C nodes numbers: those of node 0, then those of node 1
+ * The room is counted in numbers, and may be more; the rest of it stays as it was. What is shown
+ * doesn't bear on it. Answers VDPM_DONE; VDPM_OUT_OF_RANGE, where `length` isn't C leaves or a
+ * number is out of its range; VDPM_NO_ROOM; VDPM_NO_MEMORY; or VDPM_NOT_SO. Nothing is written
+ * where it isn't VDPM_DONE. */
+uint32_t vdpm_fits(vdpm_viewer *viewer, uint32_t channels, const int32_t *by_vertex, size_t length,
+                   int32_t *by_node, size_t room);
+
 /* Tells which vertices and faces of the text that the stream was made of nodes and faces are,
  * counted from 0 in its order, so that what the text has beside its mesh can be told by them. With
  * nodes as vdpm_counts tells it, and *faces as is told here, the faces in all:

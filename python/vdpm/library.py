@@ -120,6 +120,7 @@ def load(path: Optional[str] = None) -> ctypes.CDLL:
         "ancestor": [handle, number, NUMBERS],
         "place": [handle, number, SIGNED, size],
         "means": [handle, number, SHORT, size, SHORT, size],
+        "fits": [handle, number, SIGNED, size, SIGNED, size],
         "inputs": [handle, NUMBERS, size, NUMBERS, size, NUMBERS],
         "version": [],
         "close": [handle],
@@ -162,12 +163,17 @@ def check_made(status: int, told: Told, table: Table) -> None:
     check(status)
 
 
-def number_to(most: int, number: Any, name: str) -> int:
-    """A whole number from 0 to `most`: ctypes would cut off what doesn't fit."""
+def number_from(least: int, most: int, number: Any, name: str) -> int:
+    """A whole number from `least` to `most`: ctypes would cut off what doesn't fit."""
     it = Fraction(0) if type(number) is int else exact(number, name)
-    if it.denominator != 1 or not 0 <= number <= most:
-        raise ValueError(f"{name} is {number}, and not a whole number from 0 to {most:,}")
+    if it.denominator != 1 or not least <= number <= most:
+        raise ValueError(f"{name} is {number}, and not a whole number from {least:,} to {most:,}")
     return int(number)
+
+
+def number_to(most: int, number: Any, name: str) -> int:
+    """A whole number from 0 to `most`."""
+    return number_from(0, most, number, name)
 
 
 def bytes_of(given: Any, what: str = "a text") -> bytes:

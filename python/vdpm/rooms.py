@@ -10,9 +10,9 @@ except ImportError:
 else:
     numpy = found
 
-from .library import NUMBERS, SHORT, SIGNED, number_to
+from .library import NUMBERS, SHORT, SIGNED, number_from
 
-MOST_VALUE = 65535
+MOST_VALUE, MOST_FITTED = 65535, 1 << 21
 # By kind: what points at such numbers, their name in numpy, and their bytes.
 KINDS: Dict[str, Tuple[Any, str, int]] = {
     "I": (NUMBERS, "uint32", 4), "i": (SIGNED, "int32", 4), "H": (SHORT, "uint16", 2),
@@ -32,18 +32,28 @@ def room_for(kind: str, count: int) -> Room:
     return plain, ctypes.cast((ctypes.c_uint8 * (size * max(count, 1))).from_buffer(held), pointed)
 
 
-def values_in_room(given: Any) -> Tuple[int, Any]:
-    """How many numbers there are, each from 0 to 65,535, and a pointer to them in a row."""
+def _in_room(kind: str, given: Any, least: int, most: int) -> Tuple[int, Any]:
+    """How many numbers there are, each from `least` to `most`, and a pointer to them in a row."""
     numbers = list(given) if numpy is None else numpy.asarray(given).ravel()
     if len(numbers) > 0:
         if numpy is not None and numbers.dtype.kind not in "ui":
             raise TypeError("values aren't whole numbers")
         ends = (min(numbers), max(numbers)) if numpy is None else (numbers.min(), numbers.max())
         for end in ends:
-            number_to(MOST_VALUE, end, "a value")
-    room, at = room_for("H", len(numbers))
-    room[:] = numbers if numpy is not None else array.array("H", numbers)
+            number_from(least, most, end, "a value")
+    room, at = room_for(kind, len(numbers))
+    room[:] = numbers if numpy is not None else array.array(kind, numbers)
     return len(room), at
+
+
+def values_in_room(given: Any) -> Tuple[int, Any]:
+    """How many numbers there are, each from 0 to 65,535, and a pointer to them in a row."""
+    return _in_room("H", given, 0, MOST_VALUE)
+
+
+def numbers_in_room(given: Any) -> Tuple[int, Any]:
+    """The same of numbers from -2,097,152 to 2,097,152."""
+    return _in_room("i", given, -MOST_FITTED, MOST_FITTED)
 
 
 def rooms_for_change(sizes: Sequence[int]) -> List[Room]:

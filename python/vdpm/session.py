@@ -6,15 +6,12 @@ from typing import TYPE_CHECKING, Any, List, Optional, Sequence
 from .fields import MOST_OF_EYE, MOST_WAY, Number, pixels, planes_of, whole
 from .library import (BY_DEVIATION, BY_ERROR, MOST_NUMBER, NO_ROOM, NONE, Handle, Look, Moves, Text,
                       bytes_of, check, load, number_to)
-from .rooms import copied, in_rows, in_threes, room_for, rooms_for_change, values_in_room
-from .shapes import Bounds, Change, Frame, Hit, Inputs, Level, Moved, Place, Shape, Sizes, Strips
-
-if TYPE_CHECKING:
-    from numpy import uint16
-    from numpy.typing import NDArray
+from .rooms import copied, in_rows, in_threes, room_for, rooms_for_change
+from .shapes import Bounds, Change, Frame, Hit, Level, Moved, Place, Shape, Sizes, Strips
+from .tables import Tables
 
 
-class Session:
+class Session(Tables):
     """A hierarchy that is being shown, as a context manager, which closes it at its end.
 
     Any thread may call it; a call waits until that of another thread is done. What a call answers
@@ -256,47 +253,6 @@ class Session:
         with self._lock:
             check(self._library.vdpm_place(self._viewer, node, out, 3))
         return out[0], out[1], out[2]
-
-    def means(self, values: Any, channels: int = 1) -> "NDArray[uint16]":
-        """What each node has, by number, of what the vertices of the complete mesh have: the
-        rounded mean over the leaves under it, in each channel. It is the same whatever is shown:
-        `means(colours, 3)[frame.nodes]` are the colours of a frame's vertices.
-
-        values: so many whole numbers from 0 to 65,535 as channels for each vertex of the mesh that
-        the stream was made of, in its order; in numpy of shape (L, channels) or flat.
-
-        Answers uint16 of shape (N, channels) for the N nodes, (N,) for one channel; without numpy a
-        flat `array.array`. Raises ValueError where the values don't fit.
-        """
-        number_to(MOST_NUMBER, channels, "channels")
-        count, by_vertex = values_in_room(values)
-        with self._lock:
-            sizes = self.sizes()
-            if count != channels * sizes.leaves:
-                raise ValueError(f"{count} values, and not {channels} for each of {sizes.leaves} "
-                                 "vertices")
-            room, by_node = room_for("H", channels * sizes.nodes)
-            check(self._library.vdpm_means(self._viewer, channels, by_vertex, count, by_node,
-                                           len(room)))
-        answer: "NDArray[uint16]" = in_rows(room, channels) if channels > 1 else room
-        return answer
-
-    def inputs(self) -> Inputs:
-        """Which vertices and faces of the text that the stream was made of nodes and faces are. It
-        is the same whatever is shown: `names[session.inputs().by_face[frame.faces]]` are the names
-        of a frame's faces, where `names` has one for each face of the text."""
-        count = ctypes.c_uint32()
-        with self._lock:
-            nodes, by_node = room_for("I", self.sizes().nodes)
-            none, nowhere = room_for("I", 0)
-            status = self._library.vdpm_inputs(self._viewer, by_node, len(nodes), nowhere,
-                                               len(none), count)
-            if status != NO_ROOM:
-                check(status)
-            faces, by_face = room_for("I", count.value)
-            check(self._library.vdpm_inputs(self._viewer, by_node, len(nodes), by_face,
-                                            len(faces), count))
-        return Inputs(nodes, faces)
 
     def _told(self, function: Any, node: int) -> Optional[int]:
         number = ctypes.c_uint32()

@@ -83,6 +83,7 @@ static void views_of_nothing(vdpm_viewer *viewer) {
                                     &changes), VDPM_DONE);
     told("vdpm_means", vdpm_means(viewer, 3, NULL, 0, NULL, 0), VDPM_DONE);
     told("vdpm_means", vdpm_means(viewer, 0, NULL, 0, NULL, 0), VDPM_DONE);
+    told("vdpm_fits", vdpm_fits(viewer, 2, NULL, 0, NULL, 0), VDPM_DONE);
     told("vdpm_inputs", vdpm_inputs(viewer, NULL, 0, NULL, 0, &number), VDPM_DONE);
     told("no faces", number, 0);
     number = 7;

@@ -51,6 +51,7 @@ fn main(rt: HostRuntime) {
     nodes::vdpm_ancestor(alloc, &mut handle, 0, &mut number);
     nodes::vdpm_place(alloc, &mut handle, 0, &mut signed);
     means::vdpm_means(alloc, &mut handle, 0, &[0u16; 1], &mut [0u16; 1]);
+    fits::vdpm_fits(alloc, &mut handle, 0, &[0i32; 1], &mut [0i32; 1]);
     inputs::vdpm_inputs(alloc, &mut handle, &mut a, &mut b, &mut number);
     let look = Look {
         eye_x: 0, eye_y: 0, eye_z: 0, focal: 0, tolerance: 0, silhouette: 0, measure: 0,

@@ -1,10 +1,12 @@
 //! What the exported functions do with a viewer.
-ghost use Rattle.std.specs.Prelude.{◌≡◌, ◌≢◌, ◌≤◌, ◌<◌, ◌*◌, ◌↔◌, ℕ, List, length};
+ghost use Rattle.std.specs.Prelude.{◌≡◌, ◌≢◌, ◌≤◌, ◌<◌, ◌*◌, ◌↔◌, ℕ, None, List, length};
 ghost use Rattle.pm_base.specs.Counts.{set_of};
 ghost use Rattle.pm_forest.specs.Forest.{node_count, leaf_count, splitter_of, maker_of};
 ghost use Rattle.pm_forest.specs.Fronts.{ancestor_of};
 ghost use Rattle.pm_arrays.specs.Arrays.{coordinates_of};
 ghost use Rattle.pm_paint.specs.Means.{mean_array};
+ghost use Rattle.pm_fits.specs.Faults.{number_fault};
+ghost use Rattle.pm_fits.specs.Channels.{fit_array};
 ghost use Rattle.pm_viewer.specs.Causes.{IsRefusal};
 ghost use Rattle.vdpm_c.specs.Border.{LineDone, Refused, AreCountsOf, IsCopied};
 ghost use Rattle.vdpm_c.specs.Border.{line_status, record_told};
@@ -187,6 +189,36 @@ pub(crate) fn means(
     }
     match viewer.means(alloc, channels, by_vertex) {
         Ok(means) => copy(&means, by_node),
+        Err(_) => NO_MEMORY,
+    }
+}
+
+// Writes the fits of all nodes.
+pub(crate) fn fits(
+    alloc: Global,
+    viewer: &Viewer,
+    channels: u32,
+    by_vertex: &[i32],
+    by_node: &mut [i32],
+) -> u32
+    ensures done { result ≡ 0
+        → IsCopied (fit_array viewer.now.shown.h channels by_vertex.now) by_node.old by_node.new }
+    ensures out_of_range { result ≡ 2
+        ↔ (number_fault (leaf_count viewer.now.shown.h * channels) by_vertex.now ≢ None) }
+    ensures no_room { result ≡ 7
+        ↔ (number_fault (leaf_count viewer.now.shown.h * channels) by_vertex.now ≡ None)
+        × (length by_node.old < node_count viewer.now.shown.h * channels) }
+    ensures statuses { result ≢ 0 → result ≢ 2 → result ≢ 7 → result ≡ 5 }
+    ensures unwritten { result ≢ 0 → by_node.new ≡ by_node.old }
+{
+    if viewer.number_fault(channels, by_vertex).is_some() {
+        return OUT_OF_RANGE;
+    }
+    if by_node.len() < viewer.nodes() as usize * channels as usize {
+        return NO_ROOM;
+    }
+    match viewer.fits(alloc, channels, by_vertex) {
+        Ok(fits) => copy(&fits, by_node),
         Err(_) => NO_MEMORY,
     }
 }

@@ -4,6 +4,7 @@
 
 mod changes;
 mod exports;
+mod fits;
 mod holding;
 mod inputs;
 mod inside;
