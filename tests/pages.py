@@ -28,7 +28,7 @@ MOST_BYTES = 8192
 FOR_USERS = ("README.md", "docs/FORMATS.md", "docs/GUIDE.md")
 MOST_WORDS_OF_README, MOST_WORDS = 900, 57000
 # Pages whose backquoted names are of the code, beside those of the crates.
-OF_CODE = ("docs/PROMISES.md", "docs/DEFINITIONS.md", "docs/OVERVIEW.md")
+OF_CODE = ("docs/PROMISES.md", "docs/CRATES.md", "docs/DEFINITIONS.md", "docs/OVERVIEW.md")
 NAME = r"`[^`\n]+`"
 JOINED = rf"{NAME}(?:(?:,| and|, and) {NAME})*"
 CITED = re.compile(rf"({JOINED}): ({JOINED})")

@@ -1,5 +1,6 @@
 -- The first bytes that a source has left.
-use Rattle.std.specs.Prelude.{◌≡◌, ◌⊎◌, ℕ, ◌<◌, ◌≤◌, List, ◌++◌, length, take, Option, Result, Ok, Err}
+use Rattle.std.specs.Prelude.{◌≡◌, ◌⊎◌, ℕ, ◌<◌, ◌≤◌, List, ◌++◌, length, take, Option, Result}
+use Rattle.std.specs.Prelude.{Ok, Err}
 use Rattle.pm_io.specs.Bytes.{Loses, AtEnd}
 use Rattle.pm_io.specs.Causes.{Rose}
 use Rattle.pack.specs.declared.input.InputFail.{InputFail}
