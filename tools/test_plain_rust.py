@@ -190,12 +190,16 @@ class Stops(unittest.TestCase):
         self.assert_stops([
             "fn f() { for i in 3.. { } }", "fn f() { g((a..).take(3)) }", "fn f() { [x..] }",
             "fn f() { let r = f()..; }", "fn f() { S { a: 1, ..b } }", "fn f() { S { a, ..(b) } }",
+            "fn f() { S { a: 1, ..b::new(c) } }", "fn f() { S { a: 1, ..b.c() } }",
             "fn f(x: &dyn T) {}", "fn f() { x.clone(); }", "fn f() { x.map(T::clone(y)) }",
             "fn f() { iter::once(1) }", "fn f() { iter::empty() }", "fn f() { thread::spawn(x) }",
             "fn f() { s.try_send(x) }", "fn f<T: Send>() {}", "use anyhow::Error;",
             "macro_rules! m { () => {} }", "static A: u8 = 1;", "impl Drop for S {}",
             "fn f() { write!(s, x); }", "fn f() { format!(in a; x); }",
         ])  # fmt: skip
+
+    def test_a_base_that_is_made_there_goes(self) -> None:
+        self.assertIn("..T::new()", plain("fn f() -> T { T { a: 1, ..T::new() } }"))
 
     def test_what_isnt_known(self) -> None:
         self.assert_stops([

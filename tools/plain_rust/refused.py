@@ -56,14 +56,24 @@ def refuse_word(code: List[Token], at: int) -> None:
 
 
 def refuse_range(code: List[Token], at: int) -> None:
-    """Stops at a range without an end, unless it is an index, and at `..base`."""
+    """Stops at a range without an end, unless it is an index, and at `..base`, unless the base is
+    made there by a call without arguments: no other name has it, and a drop does nothing else."""
     before, after = get(code, at - 1), get(code, at + 2)
     begins = before.kind in ("word", "number") or before.text in (")", "]", "?")
-    if before.is_mark(",") and (after.kind in ("word", "string") or after.text in ("*", "&", "(")):
+    is_base = after.kind in ("word", "string") or after.text in ("*", "&", "(")
+    if before.is_mark(",") and is_base and not is_bare_call(code, at + 2):
         raise Refusal(code[at].line, "a value that takes its fields from another")
     if begins and (after is END or after.text in RANGE_ENDS):
         if not (after.is_mark("]") and is_index(code, at)):
             raise Refusal(code[at].line, "a range without an end, which ends otherwise in Rust")
+
+
+def is_bare_call(code: List[Token], at: int) -> bool:
+    """Whether a path stands here, and after it a call without arguments."""
+    begin = at
+    while get(code, at).kind == "word" or get(code, at).text in (":", "::"):
+        at += 1
+    return at > begin and get(code, at).is_mark("(") and get(code, at + 1).is_mark(")")
 
 
 def is_index(code: List[Token], at: int) -> bool:
