@@ -9,7 +9,6 @@ use Rattle.obj_lines.specs.Text.{until}
 use Rattle.obj_read.specs.Meaning.{meaning_of}
 use Rattle.obj_read.proofs.CommentLaws.{commented_is_read}
 use Rattle.obj_scan.specs.Judged.{Scanned}
-use Rattle.obj_scan.specs.Meaning.{scan_meaning_of}
 use Rattle.mesh_scan.specs.Meaning.{of_obj, mesh_meaning_of}
 use Rattle.obj_scan.specs.Laws.{scanned_mesh}
 use Rattle.obj_scan.proofs.ReadLaws.{canonical_scanned}
