@@ -9,6 +9,8 @@ mod bounds;
 #[cfg(test)]
 mod devices;
 #[cfg(test)]
+mod fits;
+#[cfg(test)]
 mod forest;
 #[cfg(test)]
 mod fronts;
