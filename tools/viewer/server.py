@@ -23,6 +23,7 @@ from typing import Callable, Dict, Optional, Tuple
 from .address import Address
 from .arrays import packed
 from .drape import Drape
+from .model import tell
 from .page_files import FILES, PAGE
 from .program import ALL_MOVES, Answer, BadScript, ProgramEnded
 from .showing import Showing
@@ -114,6 +115,7 @@ class Page(BaseHTTPRequestHandler):
             return
         if path == "end" and not self.server.is_ready:
             self._send(200, TEXT, b"")
+            tell("cancelled in the window")
             self.server.cancel()
         elif path != "start" or not self.server.is_ready:
             self._refuse(404, "there is no such page")
