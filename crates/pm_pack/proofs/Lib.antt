@@ -1,4 +1,6 @@
+pub mod RingLaws
 pub mod GuessedLaws
+pub mod FirstsLaws
 pub mod TextLaws
 pub mod StepLaws
 pub mod PackLaws

@@ -23,7 +23,7 @@ use Rattle.pm_format.specs.Standing.{Decoding, IsDecoderAfter, HasFaultAlready, 
 use Rattle.pm_format.proofs.WholeLaws.{whole_text}
 use Rattle.pm_format.proofs.WordLaws.{words_append, length-spelled}
 use Rattle.pm_format.proofs.TextLaws.{spelled-append}
-use Rattle.pm_pack.specs.Pasts.{guess_of}
+use Rattle.pm_pack.specs.Pasts.{guess_of, firsts_of}
 use Rattle.pm_pack.specs.Texts.{Known, word_choices, words_choices, known_after}
 use Rattle.pm_pack.specs.Texts.{all_known}
 use Rattle.pm_pack.specs.Packed.{IsStream}
@@ -31,7 +31,7 @@ use Rattle.pm_pack.specs.declared.reading.UnpackFail.{UnpackFail}
 use Rattle.pm_pack.specs.declared.reading.UnpackFail.TheVariants as fails
 use Rattle.pm_pack.specs.Unpacking.{HasRead, IsCut, ReadsOn, ReadsAll, CutsOff, SaysFault}
 use Rattle.pm_pack.specs.Unpacking.{Feeds, Steps, named}
-use Rattle.pm_pack.proofs.GuessedLaws.{bit-untold}
+use Rattle.pm_pack.proofs.FirstsLaws.{none-untold}
 use Rattle.pm_pack.proofs.TextLaws.{makes-join, words-append, words-one, words-none}
 use Rattle.pm_pack.proofs.TextLaws.{known-more}
 
@@ -76,8 +76,8 @@ pub short-untold : {P : Type 0} (k : predictor.Ghosts P) (m : Known P) (code : L
     → length code < 4 → (w : ℕ) → ¬ Can (Reading (first code)) (word_choices k m w)
 unfolding word_choices
 short-untold k m code short w =
-    bit-untold k m.learnt (Reading (first code)) (guess_of m.seen)
-    (λ bit. short-choice code bit _ short) w
+    none-untold k m.learnt (Reading (first code)) (guess_of m.seen) (firsts_of m.seen)
+    (λ q bit. short-choice code bit (k.share m.learnt q) short) w
 
 -- What a word did to the reading.
 pub cut-off : {P : Type 0} (k : predictor.Ghosts P) (from known : Known P) (code text : List ℕ)

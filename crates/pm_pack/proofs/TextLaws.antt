@@ -9,10 +9,11 @@ use Rattle.pm_coder.specs.Coders.{Coding, Reading, made, all_made, Can, Makes, P
 use Rattle.pm_coder.proofs.IntervalLaws.{at_least}
 use Rattle.pm_coder.proofs.CoderLaws.{readers-go_one_way, parts-join}
 use Rattle.pm_coder.proofs.DifferLaws.{guesses-part}
-use Rattle.pm_pack.specs.Pasts.{guess_of}
+use Rattle.pm_pack.specs.Pasts.{guess_of, firsts_of}
 use Rattle.pm_pack.specs.Texts.{Known, word_choices, known_after, words_choices, all_known}
 use Rattle.pm_pack.specs.Texts.{AreWords}
-use Rattle.pm_pack.proofs.GuessedLaws.{words-differ, guess-small}
+use Rattle.pm_pack.proofs.GuessedLaws.{guess-small}
+use Rattle.pm_pack.proofs.FirstsLaws.{guesses-differ}
 
 -- Choices after others.
 pub all_made-append : (xs ys : List Choice) (a : Coding)
@@ -113,7 +114,7 @@ pub words-part : {P : Type 0} (k : predictor.Ghosts P) (m : Known P) (w v : ℕ)
 unfolding word_choices
 words-part k m w v lw lv other =
     guesses-part k m.learnt _ _
-    (words-differ (guess_of m.seen) w v (guess-small m.seen) lw lv other)
+    (guesses-differ (guess_of m.seen) (firsts_of m.seen) w v (guess-small m.seen) lw lv other)
 
 -- The words begin with others.
 pub record Begins (short long : List ℕ) : Type 0 where

@@ -1,7 +1,7 @@
--- A word by a guess of it.
+-- A word by guesses of it.
 use Rattle.std.specs.Prelude.{ℕ, ◌+◌, ◌-◌, ◌*◌, ◌/◌, ◌%◌, ◌==◌, nat_le, true, false}
-use Rattle.std.specs.Prelude.{if◌then◌else◌, List, [], ◌∷◌}
-use Rattle.pm_coder.specs.Questions.{Answer, answer, question}
+use Rattle.std.specs.Prelude.{if◌then◌else◌, List, [], ◌∷◌, length}
+use Rattle.pm_coder.specs.Questions.{Question, Answer, answer, question}
 use Rattle.pm_coder.specs.Guesses.{number_answers}
 use Rattle.pm_pack.specs.declared.word.Guess.{Guess}
 
@@ -35,3 +35,15 @@ word_answers g word =
     if g.word == word then answer (question g.set (g.context ∷ []) 0) true ∷ []
     else answer (question g.set (g.context ∷ []) 0) false
     ∷ number_answers (g.set + 1) (g.context ∷ []) (miss g.word word)
+
+-- The question whether a word is a guess of which so many are left.
+abbrev pub asks : Guess → ℕ → Question
+asks g left = question g.set (g.context ∷ []) left
+
+-- The answers for a word by more guesses: for each in turn whether it is the word, up to the first
+-- that is, and else the answers by the last guess.
+unfoldable pub guessed_answers : Guess → List ℕ → ℕ → List Answer
+guessed_answers g [] word = word_answers g word
+guessed_answers g (first ∷ rest) word =
+    if first == word then answer (asks g (length (first ∷ rest))) true ∷ []
+    else answer (asks g (length (first ∷ rest))) false ∷ guessed_answers g rest word

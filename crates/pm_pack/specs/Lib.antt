@@ -1,6 +1,7 @@
 pub mod Fields
 pub mod Hashes
 pub mod Guesses
+pub mod Rings
 pub mod Pasts
 pub mod Texts
 pub mod Packed

@@ -5,6 +5,7 @@ mod fields;
 mod next;
 mod past;
 mod reading;
+mod ring;
 mod slots;
 #[cfg(test)]
 mod tests;

@@ -5,7 +5,7 @@ ghost use Rattle.pm_pack.specs.Texts.{nothing_seen, word_choices, known_after};
 
 use crate::OutOfMemory;
 use crate::past::Past;
-use crate::word::code_word;
+use crate::word::code_guessed;
 use pm_coder::{Coder, Fault, Predictor};
 use std::alloc::Global;
 use std::marker::Model;
@@ -37,7 +37,7 @@ impl<P: Predictor + Drop> Known<P> {
     }
 
     /// The next word: who writes writes the one that is wanted, and who reads answers the one that
-    /// was written, whatever is wanted. It makes at most 63 choices. `Fault::OutOfMemory` may come
+    /// was written, whatever is wanted. It makes at most 73 choices. `Fault::OutOfMemory` may come
     /// from either, since what was seen grows.
     #[tactic(auto, unfolding(crate::specs::Texts::word_choices, crate::specs::Texts::known_after))]
     pub(crate) fn code_next<C: Coder>(&mut self, coder: &mut C, wanted: u32) -> Result<u32, Fault>
@@ -50,7 +50,8 @@ impl<P: Predictor + Drop> Known<P> {
             → ¬ Can (C.coding coder.old) (word_choices P.Predictor self.old w)) }
     {
         let guess = self.seen.guess();
-        let word = code_word(&mut self.learnt, coder, guess, wanted)?;
+        let firsts = self.seen.firsts();
+        let word = code_guessed(&mut self.learnt, coder, guess, firsts.as_slice(), wanted)?;
         let Ok(()) = self.seen.take(word) else {
             return Err(Fault::OutOfMemory);
         };

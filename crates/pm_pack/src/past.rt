@@ -1,16 +1,18 @@
 //! What was seen of a stream text, and what it lets guess of the next word.
-ghost use Rattle.std.specs.Prelude.{◌≡◌, ◌+◌, ◌-◌, ◌==◌, ◌≤◌, ◌++◌, ℕ, List, IfOk, get_or};
-ghost use Rattle.std.specs.Prelude.{if◌then◌else◌, slice_set, length};
-ghost use Rattle.pm_pack.specs.Pasts.{node_at, end_of, root_made, first_child, second_child};
-ghost use Rattle.pm_pack.specs.Pasts.{nodes_made, word_kept, seen_after, guess_of, split_node};
+ghost use Rattle.std.specs.Prelude.{◌≡◌, ◌-◌, ◌≤◌, IfOk, get_or, slice_set};
+ghost use Rattle.pm_pack.specs.Pasts.{node_at, end_of, has_leaf, root_made, first_child};
+ghost use Rattle.pm_pack.specs.Pasts.{second_child, word_kept, seen_after, guess_of, split_node};
 ghost use Rattle.pm_pack.specs.Pasts.{word_at};
 ghost use Rattle.pm_pack.specs.Texts.{nothing_seen};
 
 mod guessing;
+mod units;
 
 use crate::OutOfMemory;
 use crate::fields::Spot;
+use crate::ring::{Faces, MOST, Spoke};
 use crate::word::Guess;
+use arrayvec::ArrayVec;
 use std::alloc::Global;
 use std::marker::Model;
 
@@ -42,14 +44,26 @@ impl Node {
     {
         self.first.saturating_add(self.width)
     }
+
+    fn has_leaf(self, leaf: u32) -> bool
+        ensures { result ≡ has_leaf self leaf }
+    {
+        self.first <= leaf && leaf < self.end()
+    }
 }
 
-/// Where the text is, by field the last word of that field, and the nodes so far.
+/// Where the text is, by field the last word of that field, the nodes and the faces so far, by node
+/// a side that starts at it, the sides round the node that the record splits, and the side of the
+/// record's left face on which its right face stands.
 #[derive(Drop)]
 pub(crate) struct Past {
     spot: Spot,
     words: Vec<u32>,
     nodes: Vec<Node>,
+    faces: Faces,
+    starts: Vec<u32>,
+    ring: ArrayVec<Spoke, MOST>,
+    inner: u32,
 }
 
 impl Model for Past {
@@ -57,7 +71,15 @@ impl Model for Past {
 
     ghost Value = { Seen };
 
-    ghost view = { λ p. record { spot = p.spot; words = p.words.items; nodes = p.nodes.items } };
+    ghost view = { λ p. record {
+      spot = p.spot;
+      words = p.words.items;
+      nodes = p.nodes.items;
+      faces = p.faces;
+      starts = p.starts.items;
+      ring = p.ring.items;
+      inner = p.inner;
+    } };
 }
 
 impl Past {
@@ -70,10 +92,14 @@ impl Past {
             spot: Spot::first(),
             words: vec![in alloc; 0; FIELDS]?,
             nodes: Vec::new(alloc),
+            faces: Faces::new(alloc),
+            starts: Vec::new(alloc),
+            ring: ArrayVec::new(),
+            inner: 0,
         })
     }
 
-    /// The guess of the next word.
+    /// The last guess of the next word.
     #[tactic(auto, unfolding(crate::specs::Pasts::guess_of))]
     pub(crate) fn guess(&self) -> Guess
         ensures value { result ≡ guess_of self.now }
@@ -86,39 +112,21 @@ impl Past {
         }
     }
 
-    /// Takes the next word. O(1) time but for the growth of the nodes.
+    /// Takes the next word. O(1) time but for the growth of the nodes and the faces.
     #[tactic(auto, unfolding(crate::specs::Pasts::seen_after))]
     pub(crate) fn take(&mut self, word: u32) -> Result<(), OutOfMemory>
         ensures { IfOk result (λ _. self.new ≡ seen_after self.old word) }
     {
         let field = self.spot.field;
         self.keep(word);
-        self.make_nodes(field)
+        self.end_unit(field)
     }
 
     fn keep(&mut self, word: u32)
         ensures { self.new ≡ word_kept self.old word }
     {
-        set_word(&mut self.words, self.spot.field, word);
+        set_at(&mut self.words, self.spot.field as usize, word);
         self.spot = self.spot.after(word);
-    }
-
-    // Makes the nodes of a unit that ends with this field.
-    fn make_nodes(&mut self, field: u32) -> Result<(), OutOfMemory>
-        ensures { IfOk result (λ _. self.new ≡ record {
-          spot = self.old.spot;
-          words = self.old.words;
-          nodes = self.old.nodes ++ nodes_made field self.old;
-        }) }
-    {
-        if field == 11 {
-            let root = self.root_made();
-            self.nodes.push(root)?;
-        } else if field == 26 {
-            let children = [self.first_child(), self.second_child()];
-            self.nodes.extend_from_slice(&children)?;
-        }
-        Ok(())
     }
 
     // The last word that is this field.
@@ -195,10 +203,10 @@ fn node_at(nodes: &[Node], i: usize) -> Node
     if i < nodes.len() { nodes[i] } else { NO_NODE }
 }
 
-fn set_word(words: &mut Vec<u32>, field: u32, word: u32)
-    ensures { words.new.items ≡ slice_set words.old.items field word }
+fn set_at(numbers: &mut Vec<u32>, i: usize, n: u32)
+    ensures { numbers.new.items ≡ slice_set numbers.old.items i n }
 {
-    if (field as usize) < words.len() {
-        words[field as usize] = word;
+    if i < numbers.len() {
+        numbers[i] = n;
     }
 }

@@ -22,7 +22,7 @@ const SPLIT: [u8; 168] = [
     1, 0, 0, 0, 2, 0, 0, 0, 2, 0, 0, 0, 0, 0, 0, 0, 1, 0, 0, 0,
 ];
 
-// Their packed texts, by a plain packer that was written after docs/FORMATS.md alone.
+// Their packed texts, by the packer of tests/model/packed.py.
 const PACKED_TRIANGLE: [u8; 24] = [
     86, 68, 80, 75, 1, 128, 0, 0, 0, 202, 190, 238, 169, 205, 54, 27, 94, 170, 146, 189, 47, 84,
     82, 224,
@@ -30,7 +30,7 @@ const PACKED_TRIANGLE: [u8; 24] = [
 
 const PACKED_SPLIT: [u8; 32] = [
     86, 68, 80, 75, 1, 128, 0, 0, 0, 202, 190, 238, 169, 201, 55, 138, 107, 218, 185, 175, 83, 163,
-    172, 160, 8, 253, 231, 254, 34, 248, 209, 96,
+    172, 160, 8, 253, 213, 88, 40, 81, 152, 0,
 ];
 
 // No mesh at all.

@@ -1,9 +1,9 @@
-//! A word by a guess of it.
-ghost use Rattle.std.specs.Prelude.{◌≡◌, ◌≢◌, ℕ, ◌<◌, ◌≤◌, IfOk, IfErr};
+//! A word by guesses of it.
+ghost use Rattle.std.specs.Prelude.{◌≡◌, ◌≢◌, ℕ, ◌<◌, ◌≤◌, IfOk, IfErr, length};
 ghost use Rattle.pm_coder.specs.Coders.{Coding, Can, IsWriting};
 ghost use Rattle.pm_coder.specs.Guesses.{Tells, told};
 ghost use Rattle.pm_pack.specs.Guesses.{ahead, moved_ahead, folded, unfolded, miss, missed};
-ghost use Rattle.pm_pack.specs.Guesses.{word_answers};
+ghost use Rattle.pm_pack.specs.Guesses.{word_answers, guessed_answers};
 
 use pm_coder::{Coder, Fault, Predictor, guess, guess_number};
 
@@ -19,9 +19,52 @@ pub(crate) struct Guess {
     pub(crate) context: u32,
 }
 
-/// A word: who writes writes the one that is wanted, and who reads answers the one that was
-/// written, whatever is wanted. It makes at most 63 choices.
-pub(crate) fn code_word<P: Predictor, C: Coder>(
+/// A word by guesses of it: whether it is the first, the second and so on of `firsts`, and else by
+/// the last one. Who writes writes the word that is wanted, and who reads answers the one that was
+/// written, whatever is wanted. It makes at most 63 choices and one for each of `firsts`. A guess
+/// that isn't the word can't be told later: who reads answers `Cut` then, since no word is told so.
+pub(crate) fn code_guessed<P: Predictor, C: Coder>(
+    predictor: &mut P,
+    coder: &mut C,
+    near: Guess,
+    firsts: &[u32],
+    wanted: u32,
+) -> Result<u32, Fault>
+    requires set { near.set < 4294967294 }
+    requires few { length firsts.now < 4294967296 }
+    ensures ok { IfOk result (λ w. Tells P.Predictor predictor.old (C.coding coder.old)
+        (guessed_answers near firsts.now w) predictor.new (C.coding coder.new)) }
+    ensures wanted { IfOk result (λ w. IsWriting (C.coding coder.old) → w ≡ wanted) }
+    ensures memory { IfErr result (λ e. e ≡ Fault.OutOfMemory → IsWriting (C.coding coder.old)) }
+    ensures cut { IfErr result (λ e. e ≡ Fault.Cut → (w : ℕ) → w < 4294967296 → ¬ Can
+        (C.coding coder.old) (told P.Predictor predictor.old (guessed_answers near firsts.now w))) }
+{
+    match firsts {
+        [] => code_word(predictor, coder, near, wanted),
+        [first, rest @ ..] => {
+            let contexts = [near.context];
+            let left = firsts.len() as u32;
+            if guess(
+                predictor,
+                coder,
+                near.set,
+                &contexts,
+                left,
+                wanted == *first,
+            )? {
+                return Ok(*first);
+            }
+            let word = code_guessed(predictor, coder, near, rest, wanted)?;
+            if word == *first {
+                return Err(Fault::Cut);
+            }
+            Ok(word)
+        }
+    }
+}
+
+// A word by one guess.
+fn code_word<P: Predictor, C: Coder>(
     predictor: &mut P,
     coder: &mut C,
     near: Guess,
