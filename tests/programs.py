@@ -14,6 +14,8 @@ READING: Dict[str, List[str]] = {"vdpm": ["canon"], "prepare": [], "simplify": [
 # The statuses that a program may end with.
 STATUSES = range(6)
 TRIANGLE = b"v 0 0 0\nv 1 0 0\nv 0 1 0\nf 1 2 3\n"
+# What `pack` reads: the stream of no mesh.
+NOTHING = b"VDPM\1" + bytes(19)
 
 
 class NoProgram(Exception):
@@ -33,8 +35,9 @@ class Programs:
         """
         for name, path in self.paths.items():
             words = [str(path), *READING.get(name, [])]
+            given = NOTHING if name == "pack" else TRIANGLE
             try:
-                done = subprocess.run(words, input=TRIANGLE, stdout=subprocess.DEVNULL, check=False)
+                done = subprocess.run(words, input=given, stdout=subprocess.DEVNULL, check=False)
             except OSError as fault:
                 raise NoProgram(f"{path} can't be run: {fault.strerror}") from fault
             if done.returncode not in STATUSES:
