@@ -44,7 +44,7 @@ pub record ReadsAll {P : Type 0} (k : predictor.Ghosts P) (from : Known P) (code
   pub text_is : text ≡ spelled words
   pub stream : IsStream text
 
--- The code bytes end in a word.
+-- The code bytes end in a word, or tell none.
 pub record CutsOff {P : Type 0} (k : predictor.Ghosts P) (from : Known P) (code : List ℕ) : Type 0
   where
     pub words : List ℕ

@@ -20,7 +20,7 @@ use std::alloc::Global;
 pub enum UnpackFail {
     /// They begin otherwise.
     NotPacked,
-    /// They end too early.
+    /// They end too early, or tell a word as none is told.
     Cut,
     /// Bytes follow the packed text.
     Trailing,
