@@ -66,7 +66,7 @@ class Packing(Case):
         for word in ("http:", "https:", "src=", "@import", "import(", "fetch(", "WebSocket"):
             self.assertNotIn(word, page)
         self.assertEqual(page.count("<script"), 2)
-        self.assertLess(len(page), 60000)
+        self.assertLess(len(page), 70000)
 
     def test_the_command_writes_it(self) -> None:
         words = [sys.executable, str(TOP / "viewer"), "--program", str(program()), "--film"]
