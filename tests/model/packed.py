@@ -22,7 +22,7 @@ REASONS: Dict[int, str] = {
     33: "not 1 to 4",
     TRAILING: "bytes follow the stream",
     NOT_PACKED: "it begins otherwise than a packed text",
-    CUT: "the packed text is cut off",
+    CUT: "the packed text is cut off or damaged",
     PACKED_TRAILING: "bytes follow the packed text",
 }
 

@@ -39,7 +39,7 @@ unfoldable pub fault_line : Fault → List ℕ
 fault_line (faults.Stream e) = stream_line e
 fault_line faults.Trailing = bare_line 29 (codes "bytes follow the stream")
 fault_line faults.NotPacked = bare_line 34 (codes "it begins otherwise than a packed text")
-fault_line faults.Cut = bare_line 35 (codes "the packed text is cut off")
+fault_line faults.Cut = bare_line 35 (codes "the packed text is cut off or damaged")
 fault_line faults.PackedTrailing = bare_line 36 (codes "bytes follow the packed text")
 
 -- Why the program ended early.

@@ -14,7 +14,7 @@ pub enum Fault {
     Trailing,
     /// It begins otherwise than packed texts.
     NotPacked,
-    /// The packed text is cut off.
+    /// The packed text is cut off, or tells a word that none may tell.
     Cut,
     /// A byte follows the packed text.
     PackedTrailing,

@@ -94,7 +94,7 @@ fn put_fault(line: &mut Line, fault: Fault)
         Fault::Stream(fault) => put_stream_fault(line, fault),
         Fault::Trailing => put_number(line, 29, b"bytes follow the stream"),
         Fault::NotPacked => put_number(line, 34, b"it begins otherwise than a packed text"),
-        Fault::Cut => put_number(line, 35, b"the packed text is cut off"),
+        Fault::Cut => put_number(line, 35, b"the packed text is cut off or damaged"),
         Fault::PackedTrailing => put_number(line, 36, b"bytes follow the packed text"),
     }
 }
