@@ -10,8 +10,8 @@ use Rattle.pm_pack.specs.Guesses.{ahead, moved_ahead}
 use Rattle.pm_pack.specs.Rings.{Faces, next_side, previous_side, at_side, input_at, linked}
 use Rattle.pm_pack.specs.Rings.{with_face, ring_of, fars, nearest}
 
--- Where the text is, by field the last word of that field, the nodes and the faces so far, by node a
--- side that starts at it, the sides round the node that the record splits, and the side of the
+-- Where the text is, by field the last word of that field, the nodes and the faces so far, by node
+-- a side that starts at it, the sides round the node that the record splits, and the side of the
 -- record's left face on which its right face stands.
 pub record Seen : Type 0 where
   pub spot : Spot
