@@ -7,7 +7,7 @@ use Rattle.pm_commands.specs.declared.fault.Fault.{Fault}
 use Rattle.pm_commands.specs.Input.{IsFaulty}
 use Rattle.pm_viewer.specs.Causes.{Tells}
 use Rattle.obj_fit.specs.declared.fault.Fault as fit
-use Rattle.obj_fit.specs.Fails.{HasPreparedFault, number_of, line_of}
+use Rattle.obj_fit.specs.Fails.{HasPreparedFault, number_of, line_of, byte_of}
 use Rattle.pm_making.specs.declared.fail.BuildFail.{BuildFail}
 use Rattle.pm_making.specs.declared.fail.BuildFail.TheVariants as fails
 use Rattle.pm_making.specs.Making.{MadeText}
@@ -57,9 +57,15 @@ abbrev pub size_told : ℕ → Option ℕ
 size_told zero = None
 size_told (suc n) = Some (suc n)
 
--- The text was refused as `prepare` refuses it, and this is the number of its fault, and its line.
+-- The first of two numbers that is there.
+abbrev pub first_of : Option ℕ → Option ℕ → Option ℕ
+first_of (Some line) byte = Some line
+first_of None byte = byte
+
+-- The text was refused as `prepare` refuses it, and this is the number of its fault, and its line,
+-- or else its byte.
 pub record UnfitText (size : Option ℕ) (text : List ℕ) (told : FaultTold) : Type 0 where
   pub fault : fit.Fault
   pub is : HasPreparedFault size text fault
   pub number_is : told.number ≡ number_of fault
-  pub place_is : told.place ≡ place_told (line_of fault)
+  pub place_is : told.place ≡ place_told (first_of (line_of fault) (byte_of fault))

@@ -3,6 +3,7 @@ ghost use Rattle.std.specs.Prelude.{◌≡◌, ◌≢◌, ◌≤◌, ℕ, List, 
 ghost use Rattle.obj_prepare.specs.Placing.{IsSize};
 ghost use Rattle.pm_making.specs.Fitting.{IsUnfit};
 ghost use Rattle.vdpm_c.specs.Making.{HasMade, FaultIsTold, UnfitText, border_told, size_told};
+ghost use Rattle.vdpm_c.specs.Making.{first_of};
 
 use crate::holding::put_made;
 use crate::statuses::{DONE, FAULTY, NO_MEMORY};
@@ -63,6 +64,16 @@ pub(crate) fn size_told(size: u32) -> Option<u32>
     if size == 0 { None } else { Some(size) }
 }
 
+// The line that has a fault, or else the byte.
+fn first_of(line: Option<u32>, byte: Option<u32>) -> Option<u32>
+    ensures { result ≡ first_of line byte }
+{
+    match line {
+        Some(_) => line,
+        None => byte,
+    }
+}
+
 // The fault of a text that isn't made fit goes out.
 pub(crate) fn unfit(fail: PrepareFail, fault: &mut FaultTold) -> u32
     ensures status { result ≢ 1 → result ≡ 5 }
@@ -75,7 +86,7 @@ pub(crate) fn unfit(fail: PrepareFail, fault: &mut FaultTold) -> u32
     };
     *fault = FaultTold {
         number: why.number(),
-        place: why.line().map_or(0, u64::from),
+        place: first_of(why.line(), why.byte()).map_or(0, u64::from),
     };
     FAULTY
 }
