@@ -247,7 +247,8 @@ typedef struct vdpm_made {
  * are 0 beside each answer but VDPM_FAULTY. */
 typedef struct vdpm_fault {
     uint32_t number; /* 0 where there is none */
-    uint64_t place;  /* the line, face or vertex, counted from 1; 0 where it has none */
+    uint64_t place;  /* the line, face or vertex, counted from 1, or the byte of a binary file,
+                        counted from 0; 0 where it has none */
 } vdpm_fault;
 
 /* Makes the stream of an OBJ text, `length` bytes, as `vdpm build FACES --digits DIGITS` does: its
@@ -268,8 +269,7 @@ uint32_t vdpm_simplify(const uint8_t *text, size_t length, uint32_t faces, uint3
 /* Makes any OBJ, PLY or STL file fit for the two above, as `prepare` does: vdpm_made_bytes has an
  * OBJ text then, and vdpm_made_notes the lines that the program says of it. `size` is 0, and points
  * that fit the grid stand as they are, or from 1 to 32,767: the longest axis of the box goes from
- * -size to size. A fault of a line has that as its place, one of a byte none. Answers as vdpm_build
- * does; VDPM_OUT_OF_RANGE is for a greater size. */
+ * -size to size. Answers as vdpm_build does; VDPM_OUT_OF_RANGE is for a greater size. */
 uint32_t vdpm_prepare(const uint8_t *text, size_t length, uint32_t size, vdpm_made *made,
                       vdpm_fault *fault);
 
