@@ -27,6 +27,8 @@ class WithWindows(Case):
     def setUp(self) -> None:
         self.page = browser()
         self.page.told.clear()
+        # (a page whose server is gone asks for it on and on)
+        self.addCleanup(self.page.go, "about:blank")
         self.settings: Dict[str, str] = {**os.environ, "XDG_CACHE_HOME": str(self.folder())}
         self.said = self.folder() / "said"
 

@@ -55,11 +55,11 @@ class Detail(Page):
     def test_the_tolerance_is_of_deviations_or_of_distances(self) -> None:
         few = self.faces()
         self.assertTrue(self.asked().startswith("vd "))
-        self.assertIn("flat ground stays coarse", self.text("judged-said"))
+        self.assertIn("Flat ground stays coarse", self.text("judged-said"))
         self.choose("distance")
         self.settle()
         self.assertTrue(self.asked().startswith("v "))
-        self.assertIn("on flat ground too", self.text("judged-said"))
+        self.assertIn("Flat ground is refined too", self.text("judged-said"))
         self.assertGreater(self.faces(), 1.3 * few)
         told = replies_to(program(), model("asteroid.obj").stream, f"{self.asked()}\nm\n".encode())
         self.assertEqual(int(told.split()[5]), self.faces())
