@@ -1,12 +1,12 @@
 """A hierarchy that is being shown."""
 import ctypes
 import threading
-from typing import TYPE_CHECKING, Any, List, Optional, Sequence
+from typing import Any, List, Optional, Sequence
 
 from .fields import MOST_OF_EYE, MOST_WAY, Number, pixels, planes_of, whole
 from .library import (BY_DEVIATION, BY_ERROR, MOST_NUMBER, NO_ROOM, NONE, Handle, Look, Moves, Text,
                       bytes_of, check, load, number_to)
-from .rooms import copied, in_rows, in_threes, room_for, rooms_for_change
+from .rooms import copied, in_threes, room_for, rooms_for_change
 from .shapes import Bounds, Change, Frame, Hit, Level, Moved, Place, Shape, Sizes, Strips
 from .tables import Tables
 

@@ -48,12 +48,12 @@ def fit(leaves: Sequence[Spotted], at: Point) -> int:
     slope = drop_digits(spread(spots, numbers), k)
     if max(abs(n) for row in (x, y, z) for n in row) > MATRIX_MOST:
         return mean
-    if max(map(abs, slope)) > SLOPE_MOST:
+    if max(abs(n) for n in slope) > SLOPE_MOST:
         return mean
     cofactors = cross(y, z), cross(z, x), cross(x, y)
     divisor = dot(x, cofactors[0])
     solved = dot(cofactors[0], slope), dot(cofactors[1], slope), dot(cofactors[2], slope)
-    if divisor <= 0 or max(map(abs, solved)) > STEEPEST * divisor:
+    if divisor <= 0 or max(abs(n) for n in solved) > STEEPEST * divisor:
         return mean
     return mean + rise(spots, at, solved, divisor)
 
