@@ -192,7 +192,7 @@ class NotTexts(unittest.TestCase):
         self.assertEqual(vdpm.prepare(stl).text, text)
         with self.assertRaises(vdpm.TextFault) as raised:
             vdpm.prepare(stl[:-1])
-        self.assertEqual((raised.exception.number, raised.exception.place), (21, None))
+        self.assertEqual((raised.exception.number, raised.exception.place), (21, 133))
         with self.assertRaises(vdpm.TextFault) as raised:
             vdpm.prepare(b"ply\nformat ascii 1.1\n")
         self.assertNotIsInstance(raised.exception, vdpm.NotMesh)
