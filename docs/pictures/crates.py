@@ -24,9 +24,9 @@ WAYS: List[Way] = [
         ("pm_format", "hierarchy"), ("pm_load", "base front"), ("pm_session", "lines"),
         ("pm_refine", "moves"), ("pm_front", "front"), ("pm_frame", "frame text"),
     ]),
-    ("prepare", "#4f7f3a", "any OBJ text", [
-        ("obj_lines", "lines"), ("obj_scan", "triangles"), ("obj_prepare", "places"),
-        ("pm_turn", "turned faces"), ("pm_fans", "surface"), ("obj_write", "OBJ text"),
+    ("prepare", "#4f7f3a", "any file", [
+        ("mesh_scan", "format"), ("obj_scan", "triangles"), ("obj_prepare", "positions"),
+        ("pm_turn", "flipped faces"), ("pm_fans", "surface"), ("obj_write", "OBJ text"),
     ]),
 ]
 
