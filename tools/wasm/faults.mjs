@@ -11,9 +11,13 @@ const OF_TEXT = {
   1: "line", 2: "line", 3: "line", 4: "line", 5: "line", 6: "line", 7: "line", 8: "line",
   9: "line", 10: "line", 11: "face", 12: "vertex",
 };
-/** Of a text that `prepare` reads, each fault has a line or no place.
+/** Of a file that `prepare` reads, each fault has a line or no place; of an STL or a PLY file it
+ * has a line of a text, or a byte.
  * @type {Record<number, string>} */
 const OF_ANY_TEXT = { ...OF_TEXT, 11: "line", 13: "line" };
+for (const [first, last] of [[21, 28], [41, 56]]) {
+  for (let number = first; number <= last; number++) OF_ANY_TEXT[number] = "line or byte";
+}
 
 /** @typedef {Record<number, string>} Words */
 export const WORDS = { OF_STREAM, OF_TEXT, OF_ANY_TEXT };
