@@ -3,7 +3,7 @@
 It is over lists and numbers, and looks at everything anew each time. So it is slow, and for meshes
 of a few hundred faces. It shares no code with the programs; tests/random_cases.py compares them
 with it. `python3 tests/model vdpm WORDS.. < input` answers as `./vdpm WORDS..` should, and so it is
-with `prepare`, `simplify` and `pack`.
+with `prepare`, `simplify`, `pack` and `paint`.
 
     mesh       points, faces, sides, twins, fans, the canonical text
     obj        what an OBJ text means
@@ -20,13 +20,15 @@ with `prepare`, `simplify` and `pack`.
     script     the lines of a script
     commands   words and answers of `vdpm` and `simplify`
     packed     packed texts, and words and answers of `pack`
+    fits       fits of numbers to the leaves of nodes
+    paint      coats, and words and answers of `paint`
     scan       what any OBJ text spells
     stl, ply   what files of these formats give; files, which format a file has
     prepare    the oriented manifold that is made of it, and what is said of the work
 """
 from typing import List
 
-from . import commands, packed, prepare
+from . import commands, packed, paint, prepare
 from .faults import Answer
 
 
@@ -37,6 +39,7 @@ def answer(program: str, words: List[str], data: bytes) -> Answer:
         "prepare": prepare.answer,
         "simplify": commands.simplify_answer,
         "pack": packed.answer,
+        "paint": paint.answer,
     }
     return programs[program](words, data)
 

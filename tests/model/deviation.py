@@ -58,11 +58,20 @@ def normals_under(h: Hierarchy, node: int) -> List[Point]:
     return [normal(*face) for face in faces_under(h, node)]
 
 
+def border_of(h: Hierarchy) -> List[int]:
+    """The sides of the leaf mesh without a twin."""
+    faces, twins = h.leaf_faces(), h.leaf_twins()
+    return [side for face in faces for side in range(3 * face, 3 * face + 3) if side not in twins]
+
+
+def has_border(h: Hierarchy) -> bool:
+    return border_of(h) != []
+
+
 def border_under(h: Hierarchy, node: int) -> List[Point]:
-    """The directions of the sides of the leaf mesh without a twin that have an end under a node."""
-    faces, twins, points = h.leaf_faces(), h.leaf_twins(), h.leaf_points()
-    alone = [side for face in faces for side in range(3 * face, 3 * face + 3) if side not in twins]
-    sides = [ends(faces, side) for side in alone]
+    """The directions of the border sides that have an end under a node."""
+    faces, points = h.leaf_faces(), h.leaf_points()
+    sides = [ends(faces, side) for side in border_of(h)]
     under = [pair for pair in sides if any(h.nodes[node].holds(leaf) for leaf in pair)]
     return [minus(points[there], points[start]) for start, there in under]
 

@@ -2,7 +2,7 @@
 from typing import List, NamedTuple, Set, Tuple
 
 from .bounds import Bounds, all_bounds
-from .deviation import deviation_of
+from .deviation import deviation_of, has_border
 from .front import Front, needs
 from .hierarchy import Hierarchy
 from .mesh import Point, dot, minus
@@ -44,26 +44,28 @@ def looks_large(view: View, size: int, radius: int, tolerance: int, squared: int
     return seen * seen > tolerance * tolerance * squared
 
 
-def is_wanted(view: View, place: Point, bounds: Bounds, size: int) -> bool:
-    """The node isn't outside, may be turned to the eye, and looks large: larger than the tolerance,
-    or than that for outlines where it may be turned away too."""
+def is_wanted(view: View, place: Point, bounds: Bounds, size: int, sees_both: bool) -> bool:
+    """The node isn't outside, may be turned to the eye unless both sides count, and looks large:
+    larger than the tolerance, or than that for outlines where it may be turned away too."""
     way = minus(place, view.eye)
     squared = dot(way, way)
     least, greatest = facing(view, place, bounds)
     is_large = looks_large(view, size, bounds.radius, view.tol, squared)
     is_outline = greatest >= 0 and looks_large(view, size, bounds.radius, view.sil, squared)
-    return not is_outside(view, place, bounds.radius) and least <= 0 and (is_large or is_outline)
+    may_be_seen = sees_both or least <= 0
+    return not is_outside(view, place, bounds.radius) and may_be_seen and (is_large or is_outline)
 
 
 def target_of(h: Hierarchy, view: View) -> Set[int]:
     """The least closed set that has each record whose node is wanted: what its records need is
     added until nothing is wanting."""
     bounds = all_bounds(h)
+    sees_both = view.is_by_deviation and has_border(h)
     target = set()
     for k, record in enumerate(h.records):
         own = bounds[record.s]
         size = deviation_of(h, record.s) if view.is_by_deviation else own.error
-        if is_wanted(view, h.nodes[record.s].place, own, size):
+        if is_wanted(view, h.nodes[record.s].place, own, size, sees_both):
             target.add(k)
     while True:
         needed = {other for k in target for other in needs(h, k)}

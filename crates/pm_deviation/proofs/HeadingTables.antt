@@ -1,12 +1,13 @@
 -- Lists of headings, and the table of leaves while they are gone through.
 use Rattle.std.proofs.Common.{◌≡◌, ℕ, ◌+◌, ◌*◌, ◌<◌, eqb, cond, Bool, true, false, ◌||◌, List, []}
 use Rattle.std.proofs.Common.{◌∷◌, ◌++◌, length, map, take, get_or, set, Option, None}
+use Rattle.std.specs.Prelude.{nat_lt}
 use Rattle.std.proofs.Common.{refl, sym, ap, subst, ◌∙◌, arith}
 use Rattle.std.proofs.lemmas.Grind.{common_steps}
 use Rattle.std.specs.List.{filter, range_with_len}
 use Rattle.std.specs.Option.{is_none}
 use Rattle.std.proofs.Math.Seq.{take-length}
-use Rattle.std.proofs.lemmas.Bool.{cond-false, eq-eqb, ne_eqb}
+use Rattle.std.proofs.lemmas.Bool.{cond-false, eq-eqb, ne_eqb, lt-ltb}
 use Rattle.std.proofs.lemmas.List.{take_more, length-append}
 use Rattle.pm_base.proofs.Numbers.{range_parts}
 use Rattle.pm_forest.specs.declared.parts.Face.{Face}
@@ -26,10 +27,12 @@ use Rattle.pm_deviation.specs.declared.heading.Heading.{Heading}
 use Rattle.pm_deviation.specs.declared.spread.Spread.{Spread}
 use Rattle.pm_deviation.specs.Spreads.{join, joined_all}
 use Rattle.pm_deviation.specs.Normals.{unit_box, part_along, spread_of}
-use Rattle.pm_deviation.specs.Borders.{is_border_side_under}
+use Rattle.pm_deviation.specs.Borders.{is_border_side_under, has_border}
 use Rattle.pm_deviation.specs.Lines.{side_way, line_spread_of}
 use Rattle.pm_deviation.specs.Tables.{leaves_of, no_heading, heading_along, spread_among, IsHeading}
 use Rattle.pm_deviation.specs.Tables.{AreHeadings, HaveSpreads, AreOwn, IsFaceHeading, AreOfFaces}
+use Rattle.pm_deviation.proofs.BorderLaws.{has_border_in, has_border_in-none, has_border_in-passed}
+use Rattle.pm_deviation.proofs.BorderLaws.{has_border_in-found, has_border_in-all}
 use Rattle.pm_deviation.proofs.NodeTables.{pushed}
 use Rattle.pm_deviation.proofs.SpreadLaws.{join-twice, joined_all-one_more}
 
@@ -158,6 +161,7 @@ line_spread_in-more h u n v =
 pub record AreBorderHeadings (h : Hierarchy) (n : ℕ) (ds : List Heading) : Type 0 where
   pub each : AreHeadings h ds
   pub seen : (u : Axis) (v : ℕ) → spread_among h ds u v ≡ line_spread_in h u n v
+  pub border : nat_lt 0 (length ds) ≡ has_border_in h n
 
 pub sides_none : (h : Hierarchy) (ds : List Heading) → ds ≡ [] → AreBorderHeadings h 0 ds
 unfolding spread_among line_spread_in
@@ -165,6 +169,7 @@ sides_none h ds is = record {
   each = λ i l. absurd (omega (arith, l, ap length is));
   seen = λ u v. ap (λ l. joined_all (map (heading_along u)
       (filter (λ d. has_corner_under h v (leaves_of d)) l))) is;
+  border = ap (λ (l : List Heading). nat_lt 0 (length l)) is ∙ sym (has_border_in-none h);
 }
 
 -- a side with a twin
@@ -174,6 +179,7 @@ side_passed h n ds twin was = record {
   each = was.each;
   seen = λ u v. was.seen u v
       ∙ sym (line_spread_in-more h u n v ∙ cond-false _ _ _ (not_under h n v twin));
+  border = was.border ∙ sym (has_border_in-passed h n twin);
 }
 
 -- a side without one
@@ -188,6 +194,9 @@ side_more h n old new d alone was is heading a b c parts = record {
       ∙ ap (λ t. cond t (join (spread_among h old u v) (heading_along u d))
       (spread_among h old u v)) (under_same h n v d alone a b c)
       ∙ (rw (parts, was.seen u v) refl) ∙ sym (line_spread_in-more h u n v);
+  border =
+      lt-ltb 0 (length new) (omega (arith, ap length is, length-append old (d ∷ [])))
+      ∙ sym (has_border_in-found h n alone);
 }
 
 pub sides_all : (h : Hierarchy) (n : ℕ) (ds : List Heading) → n ≡ 3 * face_count h
@@ -196,6 +205,10 @@ unfolding line_spread_in line_spread_of
 sides_all h n ds all was u v =
     was.seen u v ∙ ap (λ m. joined_all (map (λ e. part_along u (side_way h e))
     (filter (is_border_side_under h v) (range_with_len 0 m)))) all
+
+pub sides_tell : (h : Hierarchy) (n : ℕ) (ds : List Heading) → n ≡ 3 * face_count h
+    → AreBorderHeadings h n ds → nat_lt 0 (length ds) ≡ has_border h
+sides_tell h n ds all was = was.border ∙ has_border_in-all h n all
 
 -- The table of nodes by the first n headings: what the node of each leaf has.
 pub record AreSeenTo (h : Hierarchy) (ds : List Heading) (u : Axis) (n : ℕ)

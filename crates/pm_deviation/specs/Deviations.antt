@@ -2,8 +2,8 @@
 -- from the lines of the border there, and from these along an axis that meets them. On flat ground
 -- and at straight borders it is small where the error isn't.
 use Rattle.std.specs.Prelude.{◌≡◌, ℕ, zero, suc, ◌+◌, ◌*◌, ◌<◌, ◌==◌, ◌||◌, if◌then◌else◌, min, max}
-use Rattle.std.specs.Prelude.{List, length, Bool, Option, None, Some, IfSome, is_some, pos, neg_ℤ}
-use Rattle.std.specs.Prelude.{slice_index_or, unwrap_or, ◌^◌, []}
+use Rattle.std.specs.Prelude.{List, length, Bool, false, Option, None, Some, IfSome, is_some, pos}
+use Rattle.std.specs.Prelude.{neg_ℤ, slice_index_or, ◌^◌, []}
 use Rattle.std.specs.Int.{div_ceil}
 use Rattle.pm_base.specs.Geometry.{Direction, square_of}
 use Rattle.pm_base.specs.Rounded.{distance_of, root_up}
@@ -14,6 +14,7 @@ use Rattle.pm_bounds.specs.Bounds.{Bounds, AreBoundsOf, error_of}
 use Rattle.pm_deviation.specs.declared.unit_box.UnitBox.{UnitBox}
 use Rattle.pm_deviation.specs.Spreads.{along, most_of}
 use Rattle.pm_deviation.specs.Normals.{unit_box_of, cosine_of}
+use Rattle.pm_deviation.specs.Borders.{has_border}
 use Rattle.pm_deviation.specs.Lines.{way, line_box_of, line_cosine_of}
 use Rattle.pm_deviation.specs.Farthest.{has_few_leaves, way_along, farthest_plane}
 
@@ -98,27 +99,39 @@ deviation_of h v =
     (max (tilted (plane_deviation_of h v) (cosine_of h v))
     (tilted (line_deviation_of h v) (line_cosine_of h v)))
 
--- The bounds of all nodes, and their deviations where they were asked for, by node.
+-- The deviations of all nodes, by node, and whether the leaf mesh has a border.
+pub record Deviations : Type 0 where
+  pub by_node : List ℕ
+  pub has_border : Bool
+
+-- The bounds of all nodes, and their deviations where they were asked for.
 pub record Measures : Type 0 where
   pub bounds : Bounds
-  pub deviations : Option (List ℕ)
+  pub deviations : Option Deviations
 
 abbrev pub has_deviations : Measures → Bool
 has_deviations m = is_some m.deviations
 
 -- The list of them; empty where there is none.
-abbrev pub deviations_in : Option (List ℕ) → List ℕ
-deviations_in ds = unwrap_or ds []
+abbrev pub deviations_in : Option Deviations → List ℕ
+deviations_in None = []
+deviations_in (Some ds) = ds.by_node
+
+-- Whether they tell of a border.
+abbrev pub border_in : Option Deviations → Bool
+border_in None = false
+border_in (Some ds) = ds.has_border
 
 -- One for each of so many nodes, and none is large.
 pub record AreDeviationLists (nodes : ℕ) (deviations : List ℕ) : Type 0 where
   pub len : length deviations ≡ nodes
   pub small : (v : ℕ) → v < length deviations → slice_index_or deviations v 0 < 2 ^ 38
 
--- These are the deviations of h.
-pub record AreDeviationsOf (h : Hierarchy) (deviations : List ℕ) : Type 0 where
-  pub nodes : length deviations ≡ node_count h
-  pub each : (v : ℕ) → v < node_count h → slice_index_or deviations v 0 ≡ deviation_of h v
+-- These are the deviations of h, and they tell whether it has a border.
+pub record AreDeviationsOf (h : Hierarchy) (ds : Deviations) : Type 0 where
+  pub nodes : length ds.by_node ≡ node_count h
+  pub each : (v : ℕ) → v < node_count h → slice_index_or ds.by_node v 0 ≡ deviation_of h v
+  pub border : ds.has_border ≡ has_border h
 
 -- These are the measures of h.
 pub record AreMeasuresOf (h : Hierarchy) (m : Measures) : Type 0 where

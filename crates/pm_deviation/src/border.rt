@@ -1,5 +1,5 @@
 //! The headings of the border of the leaf mesh: its sides without a twin.
-ghost use Rattle.std.specs.Prelude.{◌≡◌, ◌<◌, ◌*◌, IfOk, IfSome, length};
+ghost use Rattle.std.specs.Prelude.{◌≡◌, ◌<◌, ◌*◌, nat_lt, IfOk, IfSome, length};
 ghost use Rattle.pm_base.specs.Meshes.{mesh_of, IsWellFormed};
 ghost use Rattle.pm_base.specs.Sides.{net_of, NoSideTwice};
 ghost use Rattle.pm_twins.specs.Table.{IsTableOf};
@@ -7,6 +7,7 @@ ghost use Rattle.pm_forest.specs.Forest.{leaf_count};
 ghost use Rattle.pm_forest.specs.Faces.{face_count, from_leaf, to_leaf};
 ghost use Rattle.pm_beyond.specs.Walks.{leaf_net};
 ghost use Rattle.pm_deviation.specs.Normals.{unit_box};
+ghost use Rattle.pm_deviation.specs.Borders.{has_border};
 ghost use Rattle.pm_deviation.specs.Lines.{side_way, line_spread_of};
 ghost use Rattle.pm_deviation.specs.Tables.{IsHeading, AreHeadings, HaveSpreads};
 
@@ -67,6 +68,8 @@ pub(crate) fn border_headings(alloc: Global, h: &Hierarchy) -> Result<Vec<Headin
     ensures are { IfOk result (λ headings. AreHeadings h.now headings.items) }
     ensures spreads { IfOk result (λ headings.
         HaveSpreads h.now (line_spread_of h.now) headings.items) }
+    ensures border { IfOk result (λ headings. nat_lt 0 (length headings.items)
+        ≡ has_border h.now) }
 {
     let twins = leaf_twins(alloc, h)?;
     let mut headings = Vec::new(alloc);

@@ -6,15 +6,17 @@ ghost use Rattle.pm_forest.specs.Forest.{node_count};
 ghost use Rattle.pm_beyond.specs.Walks.{leaf_net};
 ghost use Rattle.pm_bounds.specs.Bounds.{AreBoundsOf};
 ghost use Rattle.pm_deviation.specs.Normals.{cosine_of};
-ghost use Rattle.pm_deviation.specs.Lines.{line_cosine_of};
+ghost use Rattle.pm_deviation.specs.Lines.{line_spread_of, line_cosine_of};
 ghost use Rattle.pm_deviation.specs.Deviations.{tilted, deviation_of, AreDeviationsOf};
 ghost use Rattle.pm_deviation.specs.Deviations.{AreDeviationLists};
 ghost use Rattle.pm_deviation.specs.Tables.{AreOfNodes, ArePlaneDeviations, AreLineDeviations};
+ghost use Rattle.pm_deviation.specs.Tables.{AreHeadings, HaveSpreads};
 
 use crate::OutOfMemory;
 use crate::border::border_headings;
 use crate::cosines::cosines;
 use crate::face_headings::face_headings;
+use crate::heading::Heading;
 use crate::lines::line_deviations;
 use crate::planes::plane_deviations;
 use pm_base::NodeId;
@@ -92,15 +94,15 @@ fn from_planes(alloc: Global, h: &Hierarchy) -> Result<Tilts, OutOfMemory>
 }
 
 // Those from the lines of border sides.
-fn from_lines(alloc: Global, h: &Hierarchy) -> Result<Tilts, OutOfMemory>
-    requires { NoSideTwice (leaf_net h.now) }
+fn from_lines(alloc: Global, h: &Hierarchy, border: &[Heading]) -> Result<Tilts, OutOfMemory>
+    requires are { AreHeadings h.now border.now }
+    requires spreads { HaveSpreads h.now (line_spread_of h.now) border.now }
     ensures distances { IfOk result (λ t. AreLineDeviations h.now t.distances.items) }
     ensures cosines { IfOk result (λ t. AreOfNodes h.now 0 (line_cosine_of h.now)
         t.cosines.items) }
 {
-    let headings = border_headings(alloc, h)?;
-    let cosines = cosines(alloc, h, &headings)?;
-    let distances = line_deviations(alloc, h, &headings)?;
+    let cosines = cosines(alloc, h, border)?;
+    let distances = line_deviations(alloc, h, border)?;
     Ok(Tilts { distances, cosines })
 }
 
@@ -126,22 +128,39 @@ fn node_deviation(
     deviation(error, planes.of(node), lines.of(node))
 }
 
-/// The deviation of each node.
-pub(crate) fn deviations(
-    alloc: Global,
-    h: &Hierarchy,
-    bounds: &Bounds,
-) -> Result<Vec<u64>, OutOfMemory>
-    requires bounds { AreBoundsOf h.now bounds.now }
-    requires once { NoSideTwice (leaf_net h.now) }
-    ensures are { IfOk result (λ ds. AreDeviationsOf h.now ds.items) }
-    ensures lists { IfOk result (λ ds. AreDeviationLists (node_count h.now) ds.items) }
-{
-    let planes = from_planes(alloc, h)?;
-    let lines = from_lines(alloc, h)?;
-    let mut deviations = Vec::with_capacity(alloc, h.nodes() as usize)?;
-    for node in 0..h.nodes() {
-        deviations.push(node_deviation(h, bounds, &planes, &lines, NodeId(node)))?;
+/// The deviation of each node, and whether the leaf mesh has a border.
+#[derive(Drop)]
+pub(crate) struct Deviations {
+    pub(crate) by_node: Vec<u64>,
+    pub(crate) has_border: bool,
+}
+
+impl Deviations {
+    /// Those of a hierarchy.
+    pub(crate) fn of(
+        alloc: Global,
+        h: &Hierarchy,
+        bounds: &Bounds,
+    ) -> Result<Deviations, OutOfMemory>
+        requires bounds { AreBoundsOf h.now bounds.now }
+        requires once { NoSideTwice (leaf_net h.now) }
+        ensures are { IfOk result (λ ds. AreDeviationsOf h.now (record {
+          by_node = ds.by_node.items;
+          has_border = ds.has_border;
+        })) }
+        ensures lists { IfOk result (λ ds. AreDeviationLists (node_count h.now)
+            ds.by_node.items) }
+    {
+        let planes = from_planes(alloc, h)?;
+        let border = border_headings(alloc, h)?;
+        let lines = from_lines(alloc, h, &border)?;
+        let mut by_node = Vec::with_capacity(alloc, h.nodes() as usize)?;
+        for node in 0..h.nodes() {
+            by_node.push(node_deviation(h, bounds, &planes, &lines, NodeId(node)))?;
+        }
+        Ok(Deviations {
+            by_node,
+            has_border: !border.is_empty(),
+        })
     }
-    Ok(deviations)
 }

@@ -3,9 +3,10 @@ ghost use Rattle.std.specs.Prelude.{◌≡◌, ◌<◌, ◌^◌, IfOk, true, fal
 ghost use Rattle.pm_base.specs.Sides.{NoSideTwice};
 ghost use Rattle.pm_beyond.specs.Walks.{leaf_net};
 ghost use Rattle.pm_deviation.specs.Deviations.{AreMeasuresOf, has_deviations, deviations_in};
+ghost use Rattle.pm_deviation.specs.Deviations.{border_in};
 
 use crate::OutOfMemory;
-use crate::deviations::deviations;
+use crate::deviations::Deviations;
 use pm_base::NodeId;
 use pm_bounds::Bounds;
 use pm_forest::Hierarchy;
@@ -13,11 +14,12 @@ use std::alloc::Global;
 use std::marker::Model;
 
 /// The bounds of all nodes of a hierarchy and, where they were asked for, their deviations, 8 bytes
-/// a node. Contracts see the bounds, and the list of deviations by node.
+/// a node, and whether the leaf mesh has a border. Contracts see the bounds, the list of deviations
+/// by node, and that.
 #[derive(Drop)]
 pub struct Measures {
     bounds: Bounds,
-    deviations: Option<Vec<u64>>,
+    deviations: Option<Deviations>,
 }
 
 impl Model for Measures {
@@ -29,11 +31,14 @@ impl Model for Measures {
 
     ghost view = { λ m. record {
       bounds = m.bounds;
-      deviations = option_map (λ ds. ds.items) m.deviations;
+      deviations = option_map (λ ds. record {
+        by_node = ds.by_node.items;
+        has_border = ds.has_border;
+      }) m.deviations;
     } };
 
     ghost invariant = { λ m. IfSome m.deviations
-        (λ ds. AreDeviationLists (length m.bounds.errors) ds.items) };
+        (λ ds. AreDeviationLists (length m.bounds.errors) ds.by_node.items) };
 }
 
 impl Measures {
@@ -57,7 +62,7 @@ impl Measures {
         ensures some { IfOk result (λ m. has_deviations m ≡ true) }
     {
         let bounds = Bounds::of(alloc, h)?;
-        let deviations = deviations(alloc, h, &bounds)?;
+        let deviations = Deviations::of(alloc, h, &bounds)?;
         Ok(Measures {
             bounds,
             deviations: Some(deviations),
@@ -86,8 +91,19 @@ impl Measures {
         ensures small { result < 2 ^ 38 }
     {
         match &self.deviations {
-            Some(deviations) => deviations[node.0 as usize],
+            Some(deviations) => deviations.by_node[node.0 as usize],
             None => 0,
+        }
+    }
+
+    /// Whether the leaf mesh has a side without a twin, so that its faces are seen from both sides.
+    pub fn has_border(&self) -> bool
+        requires { has_deviations self.now ≡ true }
+        ensures { result ≡ border_in self.now.deviations }
+    {
+        match &self.deviations {
+            Some(deviations) => deviations.has_border,
+            None => false,
         }
     }
 }

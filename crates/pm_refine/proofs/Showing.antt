@@ -120,7 +120,10 @@ module _ (h : Hierarchy) (shape : HasShape h) (view : View) (by : view.measure �
         elim (unwanted_for_a_reason h shape view v l unasked) [
           | inl behind ↦ absurd (in_front behind)
           | inr other ↦ elim other [
-            | inl away ↦ absurd (turned away)
+            | inl (away, one) ↦ elim one [
+              | inl error ↦ absurd (cc (by, error))
+              | inr closed ↦ absurd (turned closed away)
+            ]
             | inr small ↦ small
           ]
         ]

@@ -1,5 +1,5 @@
 -- What the target of a view by deviations shows.
-use Rattle.std.specs.Prelude.{◌≡◌, ℕ, ◌+◌, ◌*◌, ◌<◌, ◌≤◌, pos, ◌+ℤ◌, ◌*ℤ◌, unsigned_abs}
+use Rattle.std.specs.Prelude.{◌≡◌, ℕ, ◌+◌, ◌*◌, ◌<◌, ◌≤◌, false, pos, ◌+ℤ◌, ◌*ℤ◌, unsigned_abs}
 use Rattle.pm_base.specs.Geometry.{dist2_of, norm2_of, square_of}
 use Rattle.pm_base.specs.Sides.{face_of}
 use Rattle.pm_forest.specs.Forest.{Hierarchy}
@@ -9,16 +9,18 @@ use Rattle.pm_forest.specs.Meshes.{leaf_place}
 use Rattle.pm_forest.specs.Places.{place_of_node}
 use Rattle.pm_forest.specs.Rules.{HasShape}
 use Rattle.pm_bounds.specs.Bounds.{normal_of}
+use Rattle.pm_deviation.specs.Borders.{has_border}
 use Rattle.pm_deviation.specs.Laws.{value_of}
 use Rattle.pm_view.specs.declared.measure.Measure.TheVariants as measures
 use Rattle.pm_view.specs.Views.{View}
 use Rattle.pm_view.specs.Laws.{IsBehind, IsTurnedAway}
 use Rattle.pm_refine.specs.Adapting.{view_target}
 
--- What is under the node isn't all behind a plane of the view, and not all turned away from its
--- eye.
+-- What is under the node isn't all behind a plane of the view; and, where the mesh has no border,
+-- not all turned away from its eye.
 abbrev pub IsLookedAt : Hierarchy → View → ℕ → Type 0
-IsLookedAt h view v = (IsBehind h view v → ⊥) × (IsTurnedAway h view v → ⊥)
+IsLookedAt h view v =
+    (IsBehind h view v → ⊥) × (has_border h ≡ false → IsTurnedAway h view v → ⊥)
 
 -- The point of three nodes' triangle that has weights i, j and k is no farther from the plane of a
 -- face than the tolerance, as seen from the corner of the face where its side e begins. The plane's

@@ -5,7 +5,7 @@ use Rattle.std.specs.Option.{is_some}
 use Rattle.pm_forest.specs.Forest.{Hierarchy, node_count}
 use Rattle.pm_io.specs.Digits.{unsigned_of}
 use Rattle.pm_deviation.specs.Deviations.{Measures, AreMeasuresOf, AreDeviationsOf, has_deviations}
-use Rattle.pm_deviation.specs.Deviations.{deviations_in, deviation_of}
+use Rattle.pm_deviation.specs.Deviations.{Deviations, deviations_in, deviation_of}
 use Rattle.pm_view.specs.declared.measure.Measure.{Measure}
 use Rattle.pm_view.specs.declared.measure.Measure.TheVariants as measures
 use Rattle.pm_view.specs.declared.fields.ViewKind.{ViewKind}
@@ -51,7 +51,7 @@ pub deviation_is : (h : Hierarchy) (m : Measures) (v : ℕ) → AreMeasuresOf h 
     → slice_index_or (deviations_in m.deviations) v 0 ≡ deviation_of h v
 deviation_is h m v are some l = go m.deviations some are.deviations
   where
-    go : (ds : Option (List ℕ)) → is_some ds ≡ true → IfSome ds (AreDeviationsOf h)
+    go : (ds : Option Deviations) → is_some ds ≡ true → IfSome ds (AreDeviationsOf h)
         → slice_index_or (deviations_in ds) v 0 ≡ deviation_of h v
     go None none each = absurd (cc none)
     go (Some ds) there each = each.each v l

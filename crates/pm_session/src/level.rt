@@ -14,7 +14,7 @@ use pm_io::Line;
 /// The level of detail that a front shows: how many nodes and faces, how many records are split,
 /// and the greatest error and the greatest deviation of a node, in units.
 #[derive(Clone, Copy, Debug, PartialEq, Eq)]
-pub(crate) struct Level {
+pub struct Level {
     pub nodes: u32,
     pub faces: u32,
     pub split: u32,

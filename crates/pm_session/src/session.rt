@@ -1,11 +1,12 @@
 //! A session over one hierarchy. All its memory is taken when it starts.
-ghost use Rattle.std.specs.Prelude.{◌≡◌, ◌<◌, true, IfErr, OnOk, OnErr};
+ghost use Rattle.std.specs.Prelude.{◌≡◌, ◌<◌, true, length, IfErr, OnOk, OnErr};
 ghost use Rattle.pm_io.specs.Bytes.{Gains, GainsPart};
 ghost use Rattle.pm_io.specs.Causes.{Rose};
 ghost use Rattle.pm_io.specs.Puts.{Puts};
 ghost use Rattle.pm_forest.specs.Forest.{record_count};
 ghost use Rattle.pm_base.specs.Counts.{set_of};
 ghost use Rattle.pm_beyond.specs.Moves.{split_fault, collapse_fault};
+ghost use Rattle.pm_front.specs.Shown.{active_nodes, kept_faces};
 ghost use Rattle.pm_frame.specs.Frame.{frame_text};
 ghost use Rattle.pm_change.specs.Texts.{change_text};
 ghost use Rattle.pm_pick.specs.Picks.{pick_of};
@@ -22,14 +23,15 @@ ghost use Rattle.pm_session.specs.Script.{
   is_fraction,
   morph_reply,
 };
-ghost use Rattle.pm_session.specs.Level.{level_reply};
+ghost use Rattle.pm_session.specs.Level.{level_reply, split_count, greatest_error};
+ghost use Rattle.pm_session.specs.Level.{greatest_deviation};
 ghost use Rattle.pm_session.specs.Session.{LineEnds, LineCounts};
 ghost use Rattle.pm_session.specs.Session.{state_of};
 
 use crate::command::{Command, command_of};
 use crate::ending::{LineFail, Next, after_reply};
 use crate::grammar::Grammar;
-use crate::level::put_level;
+use crate::level::{Level, put_level};
 use crate::morphing::{is_fraction, put_morph};
 use crate::picking::put_pick;
 use crate::reply::{put_adapted, put_answer, put_shape};
@@ -160,13 +162,27 @@ impl Session {
         put_all(out, line.as_slice())
     }
 
-    // Writes the level of detail, in a script of `live`.
-    fn level<K: Sink>(&self, out: &mut K) -> Result<(), WriteFault>
+    /// The level of detail that the front shows, in a script of `live`. It costs a pass over the
+    /// records and two over the nodes.
+    pub fn level(&self) -> Level
+        requires { self.now.grammar ≡ Grammar.Live }
+        ensures nodes { result.nodes ≡ length (active_nodes self.now.h (set_of self.now.flags)) }
+        ensures faces { result.faces ≡ length (kept_faces self.now.h (set_of self.now.flags)) }
+        ensures split { result.split ≡ split_count self.now.h (set_of self.now.flags) }
+        ensures error { result.error ≡ greatest_error self.now.h (set_of self.now.flags) }
+        ensures deviation { result.deviation
+            ≡ greatest_deviation self.now.h (set_of self.now.flags) }
+    {
+        self.tools.level(&self.front)
+    }
+
+    // Writes it.
+    fn tell_level<K: Sink>(&self, out: &mut K) -> Result<(), WriteFault>
         requires { self.now.grammar ≡ Grammar.Live }
         ensures { Puts K.Sink out.old out.new (level_reply self.now.h (set_of self.now.flags))
             result }
     {
-        let level = self.tools.level(&self.front);
+        let level = self.level();
         let mut line = Line::new();
         put_level(&mut line, level);
         put_all(out, line.as_slice())
@@ -251,7 +267,7 @@ impl Session {
             Command::Show => after_reply(self.show(out)),
             Command::Measure => after_reply(self.measure(out)),
             Command::Strip => after_reply(self.strip(out)),
-            Command::Level => after_reply(self.level(out)),
+            Command::Level => after_reply(self.tell_level(out)),
             Command::Change => after_reply(self.tell_change(out)),
             Command::Budget(moves) => {
                 self.set_budget(moves);

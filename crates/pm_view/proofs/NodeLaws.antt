@@ -1,7 +1,8 @@
 -- The laws of wanted nodes, from the bounds that a hierarchy's nodes have.
-use Rattle.std.proofs.Common.{◌≡◌, ℕ, ◌*◌, ◌<◌, true, false, ◌&&◌, not, ◌⊎◌, inl, inr, subst, arith}
+use Rattle.std.proofs.Common.{◌≡◌, ℕ, ◌*◌, ◌<◌, true, false, ◌&&◌, not, ◌⊎◌, inl, inr, refl, subst}
+use Rattle.std.proofs.Common.{arith}
 use Rattle.std.proofs.lemmas.Grind.{common_steps}
-use Rattle.std.specs.Prelude.{◌≤◌, pos, int_le, unsigned_abs}
+use Rattle.std.specs.Prelude.{◌≤◌, unsigned_abs}
 use Rattle.std.proofs.Math.Nat.{le_refl, le_trans}
 use Rattle.std.proofs.lemmas.Nat.{mul-le}
 use Rattle.pm_base.specs.Geometry.{dist2_of, norm2_of, square_of}
@@ -15,6 +16,7 @@ use Rattle.pm_forest.specs.Meshes.{leaf_place}
 use Rattle.pm_bounds.specs.Bounds.{normal_of, leaf_radius, error_of, radius_of}
 use Rattle.pm_bounds.proofs.Covering.{near, errors_grow, radii_grow, child_number, leaves_covered}
 use Rattle.pm_bounds.proofs.Covering.{corners_covered, normals_boxed, boxes_nest}
+use Rattle.pm_deviation.specs.Borders.{has_border}
 use Rattle.pm_deviation.specs.Laws.{value_of}
 use Rattle.pm_deviation.proofs.GrowingLaws.{grow}
 use Rattle.pm_deviation.proofs.NearLaws.{planes_near}
@@ -24,10 +26,10 @@ use Rattle.pm_deviation.specs.Deviations.{plane_deviation_of, deviation_of}
 use Rattle.pm_view.specs.declared.measure.Measure.{Measure}
 use Rattle.pm_view.specs.declared.measure.Measure.TheVariants as measures
 use Rattle.pm_view.specs.Views.{View}
-use Rattle.pm_view.specs.Wanted.{bounded, size_of, is_outside_any, least_facing, looks_large}
-use Rattle.pm_view.specs.Wanted.{is_wanted}
+use Rattle.pm_view.specs.Wanted.{bounded, size_of, sees_both, is_outside_any, may_be_seen}
+use Rattle.pm_view.specs.Wanted.{looks_large, is_wanted}
 use Rattle.pm_view.specs.Laws.{IsCornerNear, IsBehind, IsTurnedAway, IsWithinTolerance}
-use Rattle.pm_view.specs.Laws.{IsNearPlanes, IsWithin, IsTiny}
+use Rattle.pm_view.specs.Laws.{IsOneSided, IsNearPlanes, IsWithin, IsTiny}
 use Rattle.pm_view.proofs.Premises.{IsChild, IsCorner, LooksWithin}
 use Rattle.pm_view.proofs.Passing.{focal_times, wanted_passes, reasons, plain}
 
@@ -50,6 +52,7 @@ module _ (h : Hierarchy) (shape : HasShape h) where
     deviation = (grow h shape k v l makes).deviation;
     radius = child_number h shape (leaf_radius h) (radius_of h) (radii_grow h shape) k v l makes;
     nested = boxes_nest h shape k v l makes;
+    two_sided = refl;
   }
 
   corner : (v e : ℕ) → v < node_count h → IsCornerNear h v e
@@ -115,8 +118,14 @@ module _ (h : Hierarchy) (shape : HasShape h) where
       (λ e c. fine (normal_of h (corners_of h (face_of e))) (leaf_place h (from_leaf h e))
       (corner v e l c))
 
+  -- which side is seen is told of all nodes
+  one_sided : (m : Measure) (v : ℕ) → sees_both m (bounded h v) ≡ false
+      → (m ≡ measures.Error) ⊎ (has_border h ≡ false)
+  one_sided measures.Error v one = inl refl
+  one_sided measures.Deviation v one = inr one
+
   pub unwanted_for_a_reason : (view : View) (v : ℕ) → v < node_count h → is_wanted h view v ≡ false
-      → IsBehind h view v ⊎ (IsTurnedAway h view v ⊎ IsTiny h view v)
+      → IsBehind h view v ⊎ ((IsTurnedAway h view v × IsOneSided h view) ⊎ IsTiny h view v)
   unwanted_for_a_reason view v l e =
       elim (reasons (bounded h v) view e) [
         | inl (f, in_view, behind) ↦
@@ -127,9 +136,12 @@ module _ (h : Hierarchy) (shape : HasShape h) where
                   (leaf_place h (from_leaf h s)) (corner v s l c),
             )
         | inr other ↦ elim other [
-          | inl away ↦
-              inr (inl (λ s c. away (normal_of h (corners_of h (face_of s)))
-              (leaf_place h (from_leaf h s)) (corner v s l c)))
+          | inl (away, one) ↦
+              inr (inl (
+                λ s c. away (normal_of h (corners_of h (face_of s)))
+                    (leaf_place h (from_leaf h s)) (corner v s l c),
+                one_sided view.measure v one,
+              ))
           | inr tiny ↦ inr (inr (
             within v l view view.tol tiny.0,
             elim tiny.1 [
@@ -145,6 +157,6 @@ module _ (h : Hierarchy) (shape : HasShape h) where
 pub one_tolerance : (h : Hierarchy) (view : View) (v : ℕ) → view.sil ≡ view.tol →
     let b = bounded h v in
     is_wanted h view v
-    ≡ (not (is_outside_any view.planes b.place b.radius) && int_le (least_facing b view.eye)
-    (pos 0) && looks_large b view view.tol)
+    ≡ (not (is_outside_any view.planes b.place b.radius) && may_be_seen b view && looks_large b view
+    view.tol)
 one_tolerance h view v same = grind (arith, common_steps, plain)

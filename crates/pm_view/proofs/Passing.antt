@@ -16,7 +16,7 @@ use Rattle.pm_view.specs.declared.plane.Plane.{Plane}
 use Rattle.pm_view.specs.Views.{View}
 use Rattle.pm_view.specs.Wanted.{Bounded, value_at, is_outside, is_outside_any, least_facing}
 use Rattle.pm_view.specs.Wanted.{greatest_facing, may_turn_away, size_of, looks_larger, looks_large}
-use Rattle.pm_view.specs.Wanted.{is_large, passes}
+use Rattle.pm_view.specs.Wanted.{is_large, sees_both, may_be_seen, passes}
 use Rattle.pm_view.specs.Laws.{way}
 use Rattle.pm_view.proofs.Premises.{IsChild, IsCorner, IsBehindOne, FacesAway, FacesTo, LooksWithin}
 use Rattle.pm_view.proofs.Premises.{LooksTiny}
@@ -101,6 +101,22 @@ facing_passes s b eye h e =
     is_at_most (least_facing b eye) (pos 0)
     (≤ℤ_by (least_facing b eye) (least_facing s eye) (pos 0) (facing_child s b eye h)
     (at_most (least_facing s eye) (pos 0) e))
+
+-- both sides of a child's faces are seen where those of its parent are
+sides_pass : (child parent : Bounded) (m : Measure) → IsChild child parent
+    → sees_both m child ≡ sees_both m parent
+sides_pass s b measures.Error h = refl
+sides_pass s b measures.Deviation h = h.two_sided
+
+pub seen_passes : (child parent : Bounded) (v : View) → IsChild child parent
+    → may_be_seen child v ≡ true → may_be_seen parent v ≡ true
+seen_passes s b v h e =
+    elim (or_cases (sees_both v.measure s) (int_le (least_facing s v.eye) (pos 0)) e) [
+      | inl both ↦ or_left (sees_both v.measure b) (int_le (least_facing b v.eye) (pos 0))
+          (sym (sides_pass s b v.measure h) ∙ both)
+      | inr front ↦ or_right (sees_both v.measure b) (int_le (least_facing b v.eye) (pos 0))
+          (facing_passes s b v.eye h front)
+    ]
 
 -- size
 -- (e f + t r + t d) is at most (e' f + t r'), with e at most e' and r + d at most r'
@@ -221,9 +237,10 @@ plain b v same =
     ∙ absorbed (looks_large b v v.tol) (may_turn_away b v.eye)
 
 -- size first, and of each tolerance what is left to ask
-pub asked_in_turn : (o f t w s : Bool) → ((t || s) && not o && (f && (t || w)))
-    ≡ (not o && f && (t || (w && s)))
-asked_in_turn o f t w s = grind (arith, common_steps)
+pub asked_in_turn : (o b f t w s : Bool)
+    → ((t || s) && not o && ((t && b) || ((b || f) && (t || w))))
+    ≡ (not o && (b || f) && (t || (w && s)))
+asked_in_turn o b f t w s = grind (arith, common_steps)
 
 -- all three
 pub wanted_passes : (child parent : Bounded) (v : View) → IsChild child parent
@@ -237,20 +254,26 @@ wanted_passes s b v h e =
       not-true,
       not_from_false,
       outside_any_within,
-      facing_passes s b,
+      seen_passes s b,
       large_passes s b,
     )
 
+-- The view sees no more than one side of the node's faces.
+abbrev pub SeesOneSide : Bounded → View → Type 0
+SeesOneSide b v = sees_both v.measure b ≡ false
+
 pub reasons : (b : Bounded) (v : View) → passes b v ≡ false → IsBehindOne v.planes b
-    ⊎ (FacesAway b v.eye ⊎ LooksTiny b v)
+    ⊎ ((FacesAway b v.eye × SeesOneSide b v) ⊎ LooksTiny b v)
 reasons b v e =
-    elim (and_cases (not (is_outside_any v.planes b.place b.radius) && int_le (least_facing b v.eye)
-    (pos 0)) (is_large b v) e) [
+    elim (and_cases (not (is_outside_any v.planes b.place b.radius) && may_be_seen b v)
+    (is_large b v) e) [
       | inl h ↦ elim
-          (and_cases (not (is_outside_any v.planes b.place b.radius))
-          (int_le (least_facing b v.eye) (pos 0)) h) [
+          (and_cases (not (is_outside_any v.planes b.place b.radius)) (may_be_seen b v) h) [
             | inl k ↦ inl (behind_one v.planes b (not-false _ k))
-            | inr k ↦ inr (inl (turned_away b v.eye k))
+            | inr k ↦
+                let parts = or_parts (sees_both v.measure b) (int_le (least_facing b v.eye) (pos 0))
+                k in
+                inr (inl (turned_away b v.eye parts.1, parts.0))
           ]
       | inr h ↦ inr (inr (tiny b v h))
     ]

@@ -1,6 +1,6 @@
 -- What the tests of a node rest on: how the bounds of a child and of its parent hang together, and
 -- the corners of the faces under a node.
-use Rattle.std.specs.Prelude.{ℕ, ◌+◌, ◌*◌, ◌≤◌, ◌⊎◌, List, ℤ, pos, ◌+ℤ◌, ◌-ℤ◌, ◌<ℤ◌}
+use Rattle.std.specs.Prelude.{◌≡◌, ℕ, ◌+◌, ◌*◌, ◌≤◌, ◌⊎◌, List, ℤ, pos, ◌+ℤ◌, ◌-ℤ◌, ◌<ℤ◌}
 use Rattle.std.specs.List.{Contains}
 use Rattle.pm_base.specs.Place.{Place}
 use Rattle.pm_base.specs.Geometry.{Direction, dot_of, dist2_of}
@@ -11,7 +11,8 @@ use Rattle.pm_view.specs.Wanted.{Bounded, size_of, value_at, least_product, grea
 use Rattle.pm_view.specs.Laws.{way}
 
 -- Some d is at least the distance of a child and its parent, and error and radius grow by it;
--- deviations don't fall, and the child's box lies in the parent's.
+-- deviations don't fall, the child's box lies in the parent's, and both are seen from as many
+-- sides.
 pub record IsChild (child parent : Bounded) : Type 0 where
   pub d : ℕ
   pub near : dist2_of parent.place child.place ≤ d * d
@@ -19,6 +20,7 @@ pub record IsChild (child parent : Bounded) : Type 0 where
   pub deviation : child.deviation ≤ parent.deviation
   pub radius : child.radius + d ≤ parent.radius
   pub nested : IsNested child.box parent.box
+  pub two_sided : child.two_sided ≡ parent.two_sided
 
 -- q is within the radius, and n in the box.
 pub record IsCorner (b : Bounded) (n : Direction) (q : Place) : Type 0 where

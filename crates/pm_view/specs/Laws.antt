@@ -1,5 +1,5 @@
 -- The laws of wanted nodes, for a hierarchy of the right shape.
-use Rattle.std.specs.Prelude.{◌≡◌, ℕ, ◌*◌, ◌<◌, ◌≤◌, ◌⊎◌, true, false, not, ◌&&◌, int_le, pos, ◌-ℤ◌}
+use Rattle.std.specs.Prelude.{◌≡◌, ℕ, ◌*◌, ◌<◌, ◌≤◌, ◌⊎◌, true, false, not, ◌&&◌, pos, ◌-ℤ◌}
 use Rattle.std.specs.Prelude.{◌<ℤ◌, unsigned_abs}
 use Rattle.std.specs.List.{Contains}
 use Rattle.pm_base.specs.Place.{Place}
@@ -11,12 +11,13 @@ use Rattle.pm_forest.specs.Places.{place_of_node}
 use Rattle.pm_forest.specs.Rules.{HasShape}
 use Rattle.pm_forest.specs.Meshes.{leaf_place}
 use Rattle.pm_bounds.specs.Bounds.{normal_of}
+use Rattle.pm_deviation.specs.Borders.{has_border}
 use Rattle.pm_deviation.specs.Laws.{value_of}
 use Rattle.pm_view.specs.declared.measure.Measure.{Measure}
 use Rattle.pm_view.specs.declared.measure.Measure.TheVariants as measures
 use Rattle.pm_view.specs.declared.plane.Plane.{Plane}
 use Rattle.pm_view.specs.Views.{View}
-use Rattle.pm_view.specs.Wanted.{value_at, bounded, is_outside_any, least_facing, looks_large}
+use Rattle.pm_view.specs.Wanted.{value_at, bounded, is_outside_any, may_be_seen, looks_large}
 use Rattle.pm_view.specs.Wanted.{is_wanted}
 
 -- From q to p.
@@ -42,6 +43,11 @@ IsTurnedAway h view v =
     (e : ℕ) → IsCornerNear h v e
     → pos 0 <ℤ dot_of (normal_of h (corners_of h (face_of e)))
     (way (leaf_place h (from_leaf h e)) view.eye)
+
+-- Of faces that are turned away nothing is seen: the view judges by errors, or the mesh has no
+-- border.
+abbrev pub IsOneSided : Hierarchy → View → Type 0
+IsOneSided h view = (view.measure ≡ measures.Error) ⊎ (has_border h ≡ false)
 
 -- Each of their faces is turned to the eye, at each of its corners: the outline doesn't run through
 -- the node.
@@ -93,7 +99,7 @@ abbrev pub UnwantedForAReason : Type 0
 UnwantedForAReason =
     (h : Hierarchy) → HasShape h → (view : View) (v : ℕ) → v < node_count h
     → is_wanted h view v ≡ false
-    → IsBehind h view v ⊎ (IsTurnedAway h view v ⊎ IsTiny h view v)
+    → IsBehind h view v ⊎ ((IsTurnedAway h view v × IsOneSided h view) ⊎ IsTiny h view v)
 
 -- A view whose two tolerances are one wants what the tests by this tolerance alone want: whether
 -- the outline may run through a node makes no difference.
@@ -102,5 +108,5 @@ OneToleranceIsPlain =
     (h : Hierarchy) (view : View) (v : ℕ) → view.sil ≡ view.tol →
     let b = bounded h v in
     is_wanted h view v
-    ≡ (not (is_outside_any view.planes b.place b.radius) && int_le (least_facing b view.eye)
-    (pos 0) && looks_large b view view.tol)
+    ≡ (not (is_outside_any view.planes b.place b.radius) && may_be_seen b view && looks_large b view
+    view.tol)

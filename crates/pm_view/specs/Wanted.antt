@@ -1,6 +1,6 @@
 -- The three tests by which a view wants a node (Hoppe 1997), in whole numbers.
-use Rattle.std.specs.Prelude.{◌≡◌, true, ℕ, ◌+◌, ◌*◌, Bool, ◌&&◌, ◌||◌, not, nat_lt, List, ℤ, pos}
-use Rattle.std.specs.Prelude.{◌+ℤ◌, ◌-ℤ◌, ◌*ℤ◌, int_lt, int_le, unsigned_abs}
+use Rattle.std.specs.Prelude.{◌≡◌, true, false, ℕ, ◌+◌, ◌*◌, Bool, ◌&&◌, ◌||◌, not, nat_lt, List}
+use Rattle.std.specs.Prelude.{ℤ, pos, ◌+ℤ◌, ◌-ℤ◌, ◌*ℤ◌, int_lt, int_le, unsigned_abs}
 use Rattle.std.specs.Int.{int_min, int_max}
 use Rattle.std.specs.List.{list_any}
 use Rattle.pm_base.specs.Place.{Place}
@@ -9,19 +9,22 @@ use Rattle.pm_forest.specs.Forest.{Hierarchy}
 use Rattle.pm_forest.specs.Places.{place_of_node}
 use Rattle.pm_bounds.specs.declared.normal_box.NormalBox.{NormalBox}
 use Rattle.pm_bounds.specs.Bounds.{error_of, radius_of, normal_box_of, box_round}
+use Rattle.pm_deviation.specs.Borders.{has_border}
 use Rattle.pm_deviation.specs.Deviations.{deviation_of, Measures, AreMeasuresOf, has_deviations}
 use Rattle.pm_view.specs.declared.measure.Measure.{Measure}
 use Rattle.pm_view.specs.declared.measure.Measure.TheVariants as measures
 use Rattle.pm_view.specs.declared.plane.Plane.{Plane}
 use Rattle.pm_view.specs.Views.{View}
 
--- A node as the tests see it: its place and its bounds.
+-- A node as the tests see it: its place, its bounds, and whether both sides of the mesh are seen,
+-- since it has a border.
 pub record Bounded : Type 0 where
   pub place : Place
   pub error : ℕ
   pub deviation : ℕ
   pub radius : ℕ
   pub box : NormalBox
+  pub two_sided : Bool
 
 abbrev pub bounded : Hierarchy → ℕ → Bounded
 bounded h v = record {
@@ -30,12 +33,18 @@ bounded h v = record {
   deviation = deviation_of h v;
   radius = radius_of h v;
   box = normal_box_of h v;
+  two_sided = has_border h;
 }
 
 -- The number of a node by which a view judges it.
 abbrev pub size_of : Measure → Bounded → ℕ
 size_of measures.Error b = b.error
 size_of measures.Deviation b = b.deviation
+
+-- A view by deviations sees both sides of faces where the mesh has a border.
+abbrev pub sees_both : Measure → Bounded → Bool
+sees_both measures.Error b = false
+sees_both measures.Deviation b = b.two_sided
 
 -- The value of a plane at a place, and its normal, which isn't made unit.
 abbrev pub value_at : Plane → Place → ℤ
@@ -100,10 +109,13 @@ may_turn_away b eye = int_le (pos 0) (greatest_facing b eye)
 unfoldable pub is_large : Bounded → View → Bool
 is_large b v = looks_large b v v.tol || (may_turn_away b v.eye && looks_large b v v.sil)
 
+-- Both sides of the node's faces are seen, or one of them may be turned to the eye.
+abbrev pub may_be_seen : Bounded → View → Bool
+may_be_seen b v = sees_both v.measure b || int_le (least_facing b v.eye) (pos 0)
+
 abbrev pub passes : Bounded → View → Bool
 passes b v =
-    not (is_outside_any v.planes b.place b.radius) && int_le (least_facing b v.eye) (pos 0) &&
-    is_large b v
+    not (is_outside_any v.planes b.place b.radius) && may_be_seen b v && is_large b v
 
 -- The view wants node v of h.
 abbrev pub is_wanted : Hierarchy → View → ℕ → Bool

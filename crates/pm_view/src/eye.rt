@@ -1,5 +1,5 @@
 //! Where a view looks from.
-ghost use Rattle.std.specs.Prelude.{◌≡◌, ◌≤◌, ◌^◌, ℕ, true, false, pos, int_le};
+ghost use Rattle.std.specs.Prelude.{Bool, ◌≡◌, ◌≤◌, ◌^◌, ℕ, true, false, pos, int_le};
 ghost use Rattle.std.specs.Prelude.{IfSome, OnSome, IfNone};
 ghost use Rattle.pm_base.specs.Geometry.{dist2_of};
 ghost use Rattle.pm_bounds.specs.Boxes.{IsSmallBox};
@@ -69,13 +69,14 @@ impl Eye {
     fn least_facing(&self, place: Point, radius: u64, normals: NormalBox) -> i128
         requires radius_small { radius ≤ 2 ^ 38 }
         requires box_small { IsSmallBox normals }
-        ensures { (error deviation : ℕ)
+        ensures { (error deviation : ℕ) (two_sided : Bool)
             → result ≡ least_facing (record {
               place = place;
               error = error;
               deviation = deviation;
               radius = radius;
               box = normals;
+              two_sided = two_sided;
             }) self.now }
     {
         let (low, high) = (normals.low, normals.high);
@@ -89,13 +90,14 @@ impl Eye {
     fn least_facing_small_ball(&self, place: Point, radius: u64, normals: NormalBox) -> i64
         requires radius_small { radius ≤ SMALL_RADIUS }
         requires box_small { IsSmallBox normals }
-        ensures { (error deviation : ℕ)
+        ensures { (error deviation : ℕ) (two_sided : Bool)
             → result ≡ least_facing (record {
               place = place;
               error = error;
               deviation = deviation;
               radius = radius;
               box = normals;
+              two_sided = two_sided;
             }) self.now }
     {
         let (low, high) = (normals.low, normals.high);
@@ -109,7 +111,7 @@ impl Eye {
     pub(crate) fn may_face(&self, place: Point, radius: u64, normals: NormalBox) -> bool
         requires radius_small { radius ≤ 2 ^ 38 }
         requires box_small { IsSmallBox normals }
-        ensures { (error deviation : ℕ)
+        ensures { (error deviation : ℕ) (two_sided : Bool)
             → result ≡ int_le
             (least_facing (record {
               place = place;
@@ -117,6 +119,7 @@ impl Eye {
               deviation = deviation;
               radius = radius;
               box = normals;
+              two_sided = two_sided;
             }) self.now) (pos 0) }
     {
         if radius <= SMALL_RADIUS {
@@ -131,15 +134,15 @@ impl Eye {
     fn greatest_facing(&self, place: Point, radius: u64, normals: NormalBox) -> i128
         requires radius_small { radius ≤ 2 ^ 38 }
         requires box_small { IsSmallBox normals }
-        ensures { (error deviation : ℕ)
+        ensures { (error deviation : ℕ) (two_sided : Bool)
             → result ≡ greatest_facing
             (record {
               place = place;
               error = error;
               deviation = deviation;
               radius = radius;
-              box =
-                  normals;
+              box = normals;
+              two_sided = two_sided;
             }) self.now }
     {
         let (low, high) = (normals.low, normals.high);
@@ -153,13 +156,14 @@ impl Eye {
     pub(crate) fn may_turn_away(&self, place: Point, radius: u64, normals: NormalBox) -> bool
         requires radius_small { radius ≤ 2 ^ 38 }
         requires box_small { IsSmallBox normals }
-        ensures { (error deviation : ℕ)
+        ensures { (error deviation : ℕ) (two_sided : Bool)
             → result ≡ may_turn_away (record {
               place = place;
               error = error;
               deviation = deviation;
               radius = radius;
               box = normals;
+              two_sided = two_sided;
             }) self.now }
     {
         self.greatest_facing(place, radius, normals) >= 0

@@ -1,6 +1,6 @@
 //! Views, and what each of their tests asks.
 ghost use Rattle.std.specs.Prelude.{◌≡◌, ◌≤◌, ◌^◌, ◌&&◌, ◌||◌, ℕ, nat_le, true, false, pos, int_le};
-ghost use Rattle.std.specs.Prelude.{IfSome, OnSome, IfNone};
+ghost use Rattle.std.specs.Prelude.{Bool, IfSome, OnSome, IfNone};
 ghost use Rattle.std.specs.List.{list_all};
 ghost use Rattle.pm_bounds.specs.Boxes.{IsSmallBox};
 ghost use Rattle.pm_view.specs.declared.limits.TheConstants.{GREATEST_FOCAL_LENGTH};
@@ -168,29 +168,32 @@ impl View {
         is_outside_any(self.planes.as_slice(), place, radius)
     }
 
-    // Whether a face in the ball, with its normal in the box, may be turned to the eye; and, unless
-    // the node is large without an outline too, whether one may be turned away.
+    // Whether a face in the ball, with its normal in the box, may be turned to the eye, unless both
+    // sides are seen; and, unless the node is large without an outline too, whether one may be
+    // turned away.
     pub(crate) fn may_show(
         &self,
         place: Point,
         radius: u64,
         normals: NormalBox,
+        sees_both: bool,
         is_large: bool,
     ) -> bool
         requires radius_small { radius ≤ 2 ^ 38 }
         requires box_small { IsSmallBox normals }
-        ensures { (error deviation : ℕ)
+        ensures { (error deviation : ℕ) (two_sided : Bool)
             → let b : Bounded = record {
               place = place;
               error = error;
               deviation = deviation;
               radius = radius;
               box = normals;
+              two_sided = two_sided;
             } in
-            result ≡ (int_le (least_facing b self.now.eye) (pos 0) &&
+            result ≡ ((sees_both || int_le (least_facing b self.now.eye) (pos 0)) &&
             (is_large || may_turn_away b self.now.eye)) }
     {
-        self.eye.may_face(place, radius, normals)
+        (sees_both || self.eye.may_face(place, radius, normals))
             && (is_large || self.eye.may_turn_away(place, radius, normals))
     }
 

@@ -1,9 +1,10 @@
 //! Whether a view wants a node refined.
 ghost use Rattle.std.specs.Prelude.{◌≡◌, ℕ, ◌+◌, ◌<◌, ◌^◌, ◌⊎◌, true, false};
-ghost use Rattle.pm_forest.specs.Forest.{node_count, record_count, s_of, Makes};
+ghost use Rattle.pm_forest.specs.Forest.{Hierarchy, node_count, record_count, s_of, Makes};
 ghost use Rattle.pm_bounds.specs.Bounds.{IsBallOf};
-ghost use Rattle.pm_view.specs.Wanted.{Serves, bounded, size_of, is_wanted};
-ghost use Rattle.pm_view.specs.Laws.{IsBehind, IsTurnedAway, IsTiny};
+ghost use Rattle.pm_deviation.specs.Deviations.{AreMeasuresOf, has_deviations};
+ghost use Rattle.pm_view.specs.Wanted.{Serves, bounded, size_of, sees_both, is_wanted};
+ghost use Rattle.pm_view.specs.Laws.{IsBehind, IsTurnedAway, IsOneSided, IsTiny};
 
 use crate::{Measure, Steps, View};
 use pm_base::NodeId;
@@ -24,6 +25,18 @@ fn size_of(h: &Hierarchy, measures: &Measures, node: NodeId, ball: &Ball, view: 
     match view.measure() {
         Measure::Error => ball.error,
         Measure::Deviation => measures.deviation(node),
+    }
+}
+
+// Whether the view sees both sides of faces.
+fn sees_both(measures: &Measures, view: &View) -> bool
+    requires { view.now.measure ≡ Measure.Deviation → has_deviations measures.now ≡ true }
+    ensures { (h : Hierarchy) → AreMeasuresOf h measures.now → (v : ℕ)
+        → result ≡ sees_both view.now.measure (bounded h v) }
+{
+    match view.measure() {
+        Measure::Error => false,
+        Measure::Deviation => measures.has_border(),
     }
 }
 
@@ -49,20 +62,25 @@ fn passes<L: Ledger>(
     steps.tick();
     let size = size_of(h, measures, node, ball, view);
     let is_large = view.looks_large(ball.place, size, ball.radius);
+    let sees_both = sees_both(measures, view);
     (is_large || view.outline_looks_large(ball.place, size, ball.radius))
         && !view.is_behind(ball.place, ball.radius)
-        && view.may_show(
-            ball.place,
-            ball.radius,
-            measures.bounds().normals(node),
-            is_large,
-        )
+        && (is_large && sees_both
+            || view.may_show(
+                ball.place,
+                ball.radius,
+                measures.bounds().normals(node),
+                sees_both,
+                is_large,
+            ))
 }
 
 /// Whether the view wants the node refined: no plane of the view has the node's whole ball behind
 /// it, a face under the node may be turned to the eye, and the node's error, or its deviation where
 /// the view judges by that, looks larger than the tolerance, or than the tolerance for outlines
-/// where a face under the node may be turned away too. It counts one step, and takes no memory.
+/// where a face under the node may be turned away too. Where the view judges by deviations and the
+/// mesh has a border, both sides of faces are seen, and they may be turned either way. It counts
+/// one step, and takes no memory.
 pub fn wants<L: Ledger>(
     h: &Hierarchy,
     measures: &Measures,
@@ -77,7 +95,8 @@ pub fn wants<L: Ledger>(
     ensures parent { result ≡ true → (k : ℕ) → k < record_count h.now → Makes h.now k node.0
         → is_wanted h.now view.now (s_of h.now k) ≡ true }
     ensures reason { result ≡ false → IsBehind h.now view.now node.0
-        ⊎ (IsTurnedAway h.now view.now node.0 ⊎ IsTiny h.now view.now node.0) }
+        ⊎ ((IsTurnedAway h.now view.now node.0 × IsOneSided h.now view.now)
+        ⊎ IsTiny h.now view.now node.0) }
 {
     h.invariant();
     passes(

@@ -3,6 +3,7 @@ use Rattle.std.specs.Option.{is_none}
 use Rattle.pm_forest.specs.Faces.{face_count}
 use Rattle.pm_beyond.specs.Walks.{leaf_twin}
 use Rattle.pm_deviation.proofs.HeadingTables.{sides_none, side_passed, side_more, sides_all}
+use Rattle.pm_deviation.proofs.HeadingTables.{sides_tell}
 use Rattle.pm_deviation.proofs.SideLaws.{twin_told}
 use Rattle.pm_deviation.proofs.border.border_headings.Goals.{then-is_none+in_ok-push, else-is_none}
 use Rattle.pm_deviation.proofs.border.border_headings.Goals as goal
@@ -38,6 +39,16 @@ returns-clause-are c = c.loop-side.invariant.each
 pub returns-clause-spreads : goal.returns-clause-spreads
 returns-clause-spreads c =
     sides_all c.args.h.now c.loop-side.side c.loop-side.headings.items
+    (omega (
+      arith,
+      c.loop-side-test.false,
+      c.loop-side.auto.side-end,
+      c.faces-side-end.ensures.value,
+    )) c.loop-side.invariant
+
+pub returns-clause-border : goal.returns-clause-border
+returns-clause-border c =
+    sides_tell c.args.h.now c.loop-side.side c.loop-side.headings.items
     (omega (
       arith,
       c.loop-side-test.false,

@@ -111,10 +111,10 @@ returns-in-Strip-clause-ends g c =
 
 pub returns-in-Level-clause-ends : goal.returns-in-Level-clause-ends
 returns-in-Level-clause-ends g c =
-    replied _ _ _ _ _ c.level.result _ _ _
+    replied _ _ _ _ _ c.tell_level.result _ _ _
     (deed_level _ _ _ _ (sym c.command.ensures ∙ c.in-Level.is)) refl
-    c.after_reply-in-Level.ensures.ok c.after_reply-in-Level.ensures.err c.level.ensures.ok
-    c.level.ensures.err
+    c.after_reply-in-Level.ensures.ok c.after_reply-in-Level.ensures.err c.tell_level.ensures.ok
+    c.tell_level.ensures.err
 
 pub returns-in-Change-clause-ends : goal.returns-in-Change-clause-ends
 returns-in-Change-clause-ends g c =
@@ -138,5 +138,5 @@ returns-in-Budget-clause-ends g c =
 pub look-requires : goal.look-requires
 look-requires g c = looks_by _ _ _ (sym c.command.ensures ∙ c.in-Look.is)
 
-pub level-requires : goal.level-requires
-level-requires g c = level_in _ _ (sym c.command.ensures ∙ c.in-Level.is)
+pub tell_level-requires : goal.tell_level-requires
+tell_level-requires g c = level_in _ _ (sym c.command.ensures ∙ c.in-Level.is)

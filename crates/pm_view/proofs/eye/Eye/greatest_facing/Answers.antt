@@ -27,7 +27,7 @@ add_three-requires c =
 
 pub returns : goal.returns
 unfolding greatest_facing
-returns c error deviation =
+returns c error deviation two_sided =
     facing_is w128 (2 ^ 74) (lit< tt) (lit< tt) greatest_product c.args.normals c.args.place _ _
     c.args.radius _ _ _ _ _ _ _ c.requires.box_small c.x.ensures c.y.ensures c.z.ensures
     c.self.invariant c.greatest_on_axis-x.ensures c.greatest_on_axis-y.ensures

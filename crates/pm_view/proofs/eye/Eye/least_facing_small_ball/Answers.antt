@@ -26,7 +26,7 @@ add_three_small-requires c =
 
 pub returns : goal.returns
 unfolding least_facing
-returns c error deviation =
+returns c error deviation two_sided =
     facing_is w64 (2 ^ 60) (lit< tt) (lit< tt) least_product c.args.normals c.args.place _ _
     c.args.radius _ _ _ _ _ _ _ c.requires.box_small c.x.ensures c.y.ensures c.z.ensures
     c.self.invariant c.least_in_small_ball-x.ensures c.least_in_small_ball-y.ensures

@@ -2,7 +2,7 @@ use Rattle.std.proofs.Common.{◌≡◌, ℕ, ◌+◌, ◌<◌, ◌^◌, [], ◌
 use Rattle.std.proofs.Common.{ap, ◌∙◌, subst, sym, rules, arith}
 use Rattle.pm_deviation.specs.Deviations.{deviation_of}
 use Rattle.pm_deviation.proofs.NodeTables.{pushed}
-use Rattle.pm_deviation.proofs.deviations.deviations.Goals as goal
+use Rattle.pm_deviation.proofs.deviations.Deviations.of.Goals as goal
 
 pub loop-node-init : goal.loop-node-init
 loop-node-init c = record {
@@ -14,7 +14,7 @@ loop-node-init c = record {
 pub loop-node-preserved : goal.loop-node-preserved
 loop-node-preserved c =
     let h = c.args.h.now in
-    let old = c.loop-node.deviations.items in
+    let old = c.loop-node.by_node.items in
     let n = c.loop-node.node in
     let x = c.node_deviation.result in
     let was = c.loop-node.invariant in
@@ -29,9 +29,6 @@ loop-node-preserved c =
       each = λ v l. (all v l).0;
       small = λ v l. (all v l).1;
     }
-
-pub from_lines-requires : goal.from_lines-requires
-from_lines-requires c = c.requires.once
 
 pub node_deviation-requires-clause-bounds : goal.node_deviation-requires-clause-bounds
 node_deviation-requires-clause-bounds c = c.requires.bounds
