@@ -21,6 +21,7 @@ HEADER_LINES = [
     "property list uchar float vertex_indices", "property int vertex_indices", "property float",
     "property list uchar", "property bool x", "end_header", "end", "end_header x", "PLY",
 ]  # fmt: skip
+OTHERS = "q quality nx ny nz red green alpha r s t texture_u texcoord diffuse_red x2".split()
 WORDS = b"nan 1e40 1e15 x vertex SOLID endsolid facet loop".split()
 BYTES = [0, 10, 13, 32, 45, 57, 127, 128, 255]
 NOT_FINITE = [b"\x00\x00\x80\x7f", b"\x00\x00\xc0\xff", b"\x00\x00\x80\x7f\x00\x00\xf0\x7f"]
@@ -79,8 +80,8 @@ class Ply:
         """Properties that are passed over, in any place."""
         kinds = "bBhHiIfd"
         return [
-            Property(f"q{k}", self.rng.choice(kinds), self.rng.choice(["", "", "B", "i"]))
-            for k in range(self.rng.choice([0, 0, 1, 3]))
+            Property(name, self.rng.choice(kinds), self.rng.choice(["", "", "B", "i"]))
+            for name in self.rng.sample(OTHERS, self.rng.choice([0, 0, 1, 3]))
         ]
 
     def put_other(self, one: Property) -> None:

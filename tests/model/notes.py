@@ -50,6 +50,9 @@ PASSED = {
     "lines and points": ("line or point", "lines and points"),
     "curves and surfaces": ("curve or surface", "curves and surfaces"),
     "calls": ("call", "calls"),
+    "attributes": ("facet attribute", "facet attributes"),
+    "other properties": ("other property", "other properties"),
+    "other elements": ("other element", "other elements"),
 }
 APART = "what was cut can come apart at coarser levels: simplify --keep-border holds the border"
 
@@ -79,7 +82,7 @@ def of_vertices(count: int, what: str, kind: str = "") -> Note:
 
 def of_passed(kind: str, count: int) -> Note:
     one, many = PASSED[kind]
-    return Note(count, one, many, " ignored")
+    return Note(min(count, 2**32 - 1), one, many, " ignored")
 
 
 def of_welded(count: int, rounded: int) -> Note:

@@ -4,7 +4,7 @@ import re
 import struct
 from fractions import Fraction
 from math import isfinite
-from typing import List, NamedTuple, Optional, Tuple
+from typing import Counter, List, NamedTuple, Optional, Tuple
 
 from .faults import Fault
 from .mesh import MOST_FACES, MOST_VERTICES
@@ -25,6 +25,14 @@ TYPES = {
 }  # fmt: skip
 ORDERS = {b"ascii": "", b"binary_little_endian": "<", b"binary_big_endian": ">"}
 INDICES = (b"vertex_indices", b"vertex_index")
+PARTS = {
+    "normals": b"nx ny nz",
+    "colours": b"red green blue alpha r g b a diffuse_red diffuse_green diffuse_blue",
+    "texture places": b"s t u v texture_u texture_v texcoord texnumber",
+}
+PART_OF = {name: kind for kind, names in PARTS.items() for name in names.split()}
+READ = {b"vertex": (b"x", b"y", b"z"), b"face": INDICES}
+KINDS = {b"vertex": list(PARTS), b"face": ["texture places"]}
 
 
 class Property(NamedTuple):
@@ -247,7 +255,7 @@ def take_face(items: Items, properties: List[Property], soup: Soup) -> None:
         else:
             items.pass_over(one)
     if len(corners) < 3:
-        soup.passed.append("lines and points")
+        soup.passed["lines and points"] += 1
         return
     if len(soup.faces) + len(corners) - 2 > MOST_FACES:
         raise items.fault(TOO_MANY_TRIANGLES, items.at)
@@ -257,10 +265,25 @@ def take_face(items: Items, properties: List[Property], soup: Soup) -> None:
     soup.faces.extend(fan(corners))
 
 
+def losses_of(element: Element) -> Counter[str]:
+    """What the header tells of an element that is passed over: one normal, colour and texture
+    coordinate a vertex and one texture coordinate a face, other properties, and other elements."""
+    if element.name not in READ:
+        return Counter({"other elements": element.total})
+    if element.total == 0:
+        return Counter()
+    names = [one.name for one in element.properties if one.name not in READ[element.name]]
+    kinds = [PART_OF.get(name, "") for name in names]
+    own = [kind for kind in KINDS[element.name] if kind in kinds]
+    others = sum(kind not in own for kind in kinds)
+    return Counter({"other properties": others, **dict.fromkeys(own, element.total)})
+
+
 def soup_of_ply(data: bytes) -> Soup:
     header, soup = header_of(data), empty_soup()
     items = Items(data, header)
     for element in header.elements:
+        soup.passed.update(losses_of(element))
         for _ in range(element.total if element.properties else 0):
             if element.name == b"vertex":
                 take_vertex(items, element.properties, soup)

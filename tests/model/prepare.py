@@ -32,7 +32,7 @@ from .notes import (
     of_welded,
 )
 from .polygons import cut
-from .scan import PASSED_OVER, UNITS, Soup, nearest
+from .scan import OF_FILES, PASSED_OVER, UNITS, Soup, nearest
 
 
 NO_FACES = 12
@@ -347,8 +347,9 @@ def prepared(soup: Soup, size: Optional[int]) -> Prepared:
         of_vertices(len(soup.inexact), "rounded at the 18th decimal"),
         of_faces(flattened, "made degenerate by rounding"),
         of_faces(overturned, "flipped by rounding"),
-        *[of_passed(kind, soup.passed.count(kind)) for kind in PASSED_OVER],
+        *[of_passed(kind, soup.passed[kind]) for kind in PASSED_OVER],
         of_others(len(soup.others), soup.others[0] if soup.others else 0),
+        *[of_passed(kind, soup.passed[kind]) for kind in OF_FILES],
         of_welded(sum(names[v] != v for v in named), rounded),
         of_faces(len(soup.faces) - len(three), "dropped: a vertex is named twice",
                  "degenerate face"),

@@ -7,7 +7,7 @@ count units of 10^-18.
 """
 import re
 from fractions import Fraction
-from typing import List, NamedTuple, Tuple
+from typing import Counter, List, NamedTuple, Tuple
 
 from .faults import Fault
 from .mesh import MOST_FACES, MOST_VERTICES, Corners, Point
@@ -48,19 +48,20 @@ KINDS = {
 }
 KIND_OF = {word: kind for kind, words in KINDS.items() for word in words.split()}
 PASSED_OVER = ["weights", "colours", *KINDS]
+OF_FILES = ["attributes", "other properties", "other elements"]  # of no OBJ text
 
 
 class Soup(NamedTuple):
     points: List[Point]
     faces: List[Corners]
     polygons: List[Polygon]
-    passed: List[str]  # of what kind each thing is that was passed over
+    passed: Counter[str]  # how much of each kind was passed over
     others: List[int]  # the lines that begin otherwise
     inexact: List[int]  # the points that aren't exactly what was read
 
 
 def empty_soup() -> Soup:
-    return Soup([], [], [], [], [], [])
+    return Soup([], [], [], Counter(), [], [])
 
 
 def nearest(value: Fraction) -> int:
@@ -113,7 +114,7 @@ def pass_over(soup: Soup, word: bytes, number: int) -> None:
     if word not in common and re.sub(rb"[^A-Za-z]", b"", word) in common:
         raise Fault(GARBLED_WORD)
     if word in KIND_OF:
-        soup.passed.append(KIND_OF[word])
+        soup.passed[KIND_OF[word]] += 1
     else:
         soup.others.append(number)
 
@@ -130,7 +131,7 @@ def take(soup: Soup, text: bytes, number: int) -> None:
         if not all(of_x + of_y + of_z):
             soup.inexact.append(len(soup.points))
         soup.points.append((x, y, z))
-        soup.passed.extend(passed_after_place(fields[3:]))
+        soup.passed.update(passed_after_place(fields[3:]))
     elif word == b"f":
         corners = [vertex_named(field, len(soup.points)) for field in fields]
         if len(soup.faces) + len(corners) - 2 > MOST_FACES:

@@ -85,6 +85,7 @@ def soup_of_binary(data: bytes) -> Soup:
             for corner in (at + 12, at + 24, at + 36)
         ]
         made.soup.faces.append((a, b, c))
+        made.soup.passed["attributes"] += any(data[at + 48 : at + EACH])
     return made.soup
 
 
@@ -149,4 +150,6 @@ def soup_of_stl_text(data: bytes) -> Soup:
 
 
 def soup_of_stl(data: bytes) -> Soup:
-    return soup_of_stl_text(data) if is_text(data) else soup_of_binary(data)
+    soup = soup_of_stl_text(data) if is_text(data) else soup_of_binary(data)
+    soup.passed["normals"] = len(soup.faces)
+    return soup

@@ -116,4 +116,7 @@ vertex_exact e roles.Z p r u exact is =
     subst (λ (v : Row). AreExact v.point) same
     (exact.0, exact.1, coordinate_exact e p.item r.rest c read)
 vertex_exact e roles.Corners p r u exact is = passed_exact e p r u exact is
+vertex_exact e roles.Normal p r u exact is = passed_exact e p r u exact is
+vertex_exact e roles.Colour p r u exact is = passed_exact e p r u exact is
+vertex_exact e roles.Texture p r u exact is = passed_exact e p r u exact is
 vertex_exact e roles.Other p r u exact is = passed_exact e p r u exact is

@@ -205,7 +205,7 @@ body_sound bytes h t few is =
     (with_declared h.encoding h.declared (at_body h.body))) _ t is in
     let sound = declared_within h.encoding h.declared (at_body h.body) s (nothing_sound h.body)
     (omega (arith, few)) (placed_ok h.encoding bytes _ s read) in
-    let all : Triangles = triangles_of h.encoding s in
+    let all : Triangles = triangles_of h s in
     let same : all ≡ t = cc in
     subst (λ (x : Triangles). IsSound (ply_scanned x)) same (record {
       exact = sound.exact;

@@ -95,4 +95,7 @@ face_keeps e vertices roles.Corners None p r u below is = passed_keeps e vertice
 face_keeps e vertices roles.X c p r u below is = passed_keeps e vertices p r u below is
 face_keeps e vertices roles.Y c p r u below is = passed_keeps e vertices p r u below is
 face_keeps e vertices roles.Z c p r u below is = passed_keeps e vertices p r u below is
+face_keeps e vertices roles.Normal c p r u below is = passed_keeps e vertices p r u below is
+face_keeps e vertices roles.Colour c p r u below is = passed_keeps e vertices p r u below is
+face_keeps e vertices roles.Texture c p r u below is = passed_keeps e vertices p r u below is
 face_keeps e vertices roles.Other c p r u below is = passed_keeps e vertices p r u below is

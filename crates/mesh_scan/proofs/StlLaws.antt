@@ -19,7 +19,7 @@ use Rattle.stl_read.specs.Refusals.{◌>>=◌}
 use Rattle.stl_read.specs.Vertices.{Triangles, Corner, Facet, number_of, with_point, corner_of}
 use Rattle.stl_read.specs.Vertices.{no_triangles, with_facet}
 use Rattle.stl_read.specs.Binary.{placed, word_at, coordinate_at, facet_count, point_at, corner_at}
-use Rattle.stl_read.specs.Binary.{facet_at, with_facets, count_of}
+use Rattle.stl_read.specs.Binary.{facet_at, has_attributes, with_facets, count_of}
 use Rattle.stl_read.specs.Binary.{binary_meaning}
 use Rattle.stl_read.proofs.VertexLaws.{number_within}
 use Rattle.mesh_scan.specs.Meaning.{stl_scanned}
@@ -96,10 +96,10 @@ pub record IsFit (t : Triangles) : Type 0 where
   pub exact : All AreExact t.points
   pub corners : All (AreVerticesBelow (length t.points)) t.faces
 
-pub with_face : (t : Triangles) (points : List Place) (f : Corners) → IsFit t
+pub with_face : (t : Triangles) (points : List Place) (f : Corners) (attributes : ℕ) → IsFit t
     → HasGrown t.points points → AreVerticesBelow (length points) f
-    → IsFit (record { points = points; faces = t.faces ++ f ∷ [] })
-with_face t points f fit grown below = record {
+    → IsFit (record { points = points; faces = t.faces ++ f ∷ []; attributes = attributes })
+with_face t points f attributes fit grown below = record {
   points = grown.few;
   exact = grown.exact;
   corners = All-append (AreVerticesBelow (length points)) t.faces (f ∷ [])
@@ -196,8 +196,9 @@ facets_fit bytes zero t at u fit is =
 facets_fit bytes (suc n) t at u fit is =
     let (f, read, later) = bind_ok (facet_at bytes at t.points) _ u is in
     let (below, grown) = facet_fits bytes at t.points f fit.points fit.exact read in
-    let (u_fit, long) = facets_fit bytes n (with_facet t f) (at + 50) u
-    (with_face t f.points f.corners fit grown below) later in
+    let after : Triangles = with_facet t f (has_attributes bytes at) in
+    let (u_fit, long) = facets_fit bytes n after (at + 50) u
+    (with_face t f.points f.corners after.attributes fit grown below) later in
     (u_fit, omega (arith, long, length-append t.faces (f.corners ∷ [])))
 
 count_case : (a b c d : Bool) (e f g h : Refused) (m n : ℕ)

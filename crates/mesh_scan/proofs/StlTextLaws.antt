@@ -107,7 +107,7 @@ point_line_fits line s t p fit exact is =
     is in
     let (below, grown) = corner_fits line s.triangles.points p c fit.triangles.points
     fit.triangles.exact exact made in
-    let all : Triangles = record { points = c.points; faces = s.triangles.faces } in
+    let all : Triangles = record s.triangles { points = c.points } in
     let (stage, next, e) = at_ok line all (with_vertex s.stage c.vertex) t placed in
     subst IsFitSoFar e (record {
       triangles = record {
@@ -147,15 +147,12 @@ unfolding end_line
 end_line_fits line s t f words fit below is =
     let after : SoFar = record {
       stage = stages.Solid;
-      triangles = record {
-        points = s.triangles.points;
-        faces = s.triangles.faces ++ f ∷ [];
-      };
+      triangles = record s.triangles { faces = s.triangles.faces ++ f ∷ [] };
     } in
     let (room, e) = end_case _ (nat_le 1048576 (length s.triangles.faces)) _ _ after t is in
     let less : length s.triangles.faces < 1048576 = leb-false _ _ room in
     subst IsFitSoFar e (record {
-      triangles = with_face s.triangles s.triangles.points f fit.triangles
+      triangles = with_face s.triangles s.triangles.points f s.triangles.attributes fit.triangles
           (record {
             more = omega arith;
             few = fit.triangles.points;

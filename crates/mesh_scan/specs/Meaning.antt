@@ -1,8 +1,9 @@
 -- What a file of any format gives, as an OBJ text gives it: points and triangles, or its first
 -- fault.
-use Rattle.std.specs.Prelude.{ℕ, ◌+◌, List, [], nat_lt, length, max, Option, Some, None}
+use Rattle.std.specs.Prelude.{ℕ, ◌+◌, List, [], nat_lt, length, max, min, Option, Some, None}
 use Rattle.std.specs.Prelude.{Result, Ok, Err, if◌then◌else◌}
 use Rattle.obj_lines.specs.declared.limits.TheConstants.{MOST_TEXT_BYTES}
+use Rattle.obj_scan.specs.declared.passed.PassedOver.{PassedOver}
 use Rattle.obj_scan.specs.Judged.{Scanned}
 use Rattle.obj_scan.specs.Meaning.{scan_meaning_of}
 use Rattle.obj_scan.specs.Passing.{none_passed}
@@ -37,6 +38,10 @@ of_obj (Ok s) = Ok s
 of_obj (Err r) =
     Err (record { fault = faults.Obj r.fault r.line; place = not_before_format r.place })
 
+-- What is passed over of an STL file: the normal of each facet, and attributes that aren't 0.
+abbrev pub stl_passed : StlTriangles → PassedOver
+stl_passed t = record none_passed { normals = length t.faces; attributes = t.attributes }
+
 -- The points and triangles of an STL file, as those of an OBJ text.
 abbrev pub stl_scanned : StlTriangles → Scanned
 stl_scanned t = record {
@@ -44,7 +49,7 @@ stl_scanned t = record {
   inexact = 0;
   faces = t.faces;
   polygons = [];
-  passed = none_passed;
+  passed = stl_passed t;
 }
 
 abbrev pub stl_spot : List ℕ → ℕ → Spot
@@ -55,14 +60,25 @@ of_stl bytes (Ok t) = Ok (stl_scanned t)
 of_stl bytes (Err r) =
     Err (record { fault = faults.Stl r.fault (stl_spot bytes r.place); place = None })
 
--- Those of a PLY file. Faces of fewer than three corners are lines and points.
+-- What is passed over of a PLY file. Faces of fewer than three corners are lines and points.
+abbrev pub ply_passed : PlyTriangles → PassedOver
+ply_passed t = record none_passed {
+  colours = t.losses.colours;
+  textures = min (t.losses.textures + t.losses.face_textures) 4294967295;
+  normals = t.losses.normals;
+  elements = t.short_faces;
+  properties = t.losses.properties;
+  other_elements = t.losses.elements;
+}
+
+-- The points and triangles of a PLY file.
 abbrev pub ply_scanned : PlyTriangles → Scanned
 ply_scanned t = record {
   points = t.points;
   inexact = 0;
   faces = t.faces;
   polygons = t.polygons;
-  passed = record none_passed { elements = t.short_faces };
+  passed = ply_passed t;
 }
 
 abbrev pub of_ply : Result PlyTriangles PlyRefused → Result Scanned Refused

@@ -117,8 +117,16 @@ beside_notes p =
     ++ note_line (codes "call") (codes "calls") (codes "ignored") p.calls
     ++ others_line p.others p.first_other
 
+-- What is passed over of STL and PLY files alone.
+unfoldable pub file_notes : PassedOver → List ℕ
+file_notes p =
+    note_line (codes "facet attribute") (codes "facet attributes") (codes "ignored") p.attributes
+    ++ note_line (codes "other property") (codes "other properties") (codes "ignored") p.properties
+    ++ note_line (codes "other element") (codes "other elements") (codes "ignored")
+    p.other_elements
+
 unfoldable pub passed_notes : PassedOver → List ℕ
-passed_notes p = shading_notes p ++ beside_notes p
+passed_notes p = shading_notes p ++ beside_notes p ++ file_notes p
 
 -- What rounding to the grid did to triangles.
 unfoldable pub rounded_notes : RoundedFaces → List ℕ

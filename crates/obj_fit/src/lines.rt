@@ -1,7 +1,8 @@
 //! The lines of what was read: polygons, rounding, and what was passed over.
 ghost use Rattle.std.specs.Prelude.{◌≡◌, ◌++◌, OnOk};
-ghost use Rattle.obj_fit.specs.Texts.{others_line, shading_notes, beside_notes, passed_notes};
-ghost use Rattle.obj_fit.specs.Texts.{rounded_notes, polygon_notes, inexact_note, line_notes};
+ghost use Rattle.obj_fit.specs.Texts.{others_line, shading_notes, beside_notes, file_notes};
+ghost use Rattle.obj_fit.specs.Texts.{passed_notes, rounded_notes, polygon_notes, inexact_note};
+ghost use Rattle.obj_fit.specs.Texts.{line_notes};
 
 use crate::changes::{add_counted, add_note};
 use crate::counts::Counts;
@@ -87,6 +88,35 @@ fn add_beside(text: &mut Vec<u8>, passed: &PassedOver) -> Result<(), AllocError>
     Ok(())
 }
 
+// Adds what was passed over of an STL or a PLY file.
+#[tactic(auto, unfolding(crate::specs::Texts::file_notes))]
+fn add_of_file(text: &mut Vec<u8>, passed: &PassedOver) -> Result<(), AllocError>
+    ensures { OnOk result (text.new.items ≡ text.old.items ++ file_notes passed.now) }
+{
+    add_note(
+        text,
+        b"facet attribute",
+        b"facet attributes",
+        b"ignored",
+        passed.attributes,
+    )?;
+    add_note(
+        text,
+        b"other property",
+        b"other properties",
+        b"ignored",
+        passed.properties,
+    )?;
+    add_note(
+        text,
+        b"other element",
+        b"other elements",
+        b"ignored",
+        passed.other_elements,
+    )?;
+    Ok(())
+}
+
 // Adds what was passed over.
 #[tactic(auto, unfolding(crate::specs::Texts::passed_notes))]
 fn add_passed(text: &mut Vec<u8>, passed: &PassedOver) -> Result<(), AllocError>
@@ -94,6 +124,7 @@ fn add_passed(text: &mut Vec<u8>, passed: &PassedOver) -> Result<(), AllocError>
 {
     add_shading(text, passed)?;
     add_beside(text, passed)?;
+    add_of_file(text, passed)?;
     Ok(())
 }
 

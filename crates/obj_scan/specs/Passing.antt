@@ -111,4 +111,7 @@ none_passed = record {
   calls = 0;
   others = 0;
   first_other = 0;
+  attributes = 0;
+  properties = 0;
+  other_elements = 0;
 }

@@ -25,7 +25,8 @@ pub enum Kind {
 }
 
 /// How much was passed over: vertices with a weight or a colour, lines of each kind, and which of
-/// the other ones is the first, or 0.
+/// the other ones is the first, or 0. A text has nothing of what stands after that, which files of
+/// other formats have.
 #[derive(Clone, Copy, Debug, PartialEq, Eq)]
 pub struct PassedOver {
     pub weights: u32,
@@ -39,6 +40,12 @@ pub struct PassedOver {
     pub calls: u32,
     pub others: u32,
     pub first_other: u32,
+    /// Of facets, what isn't 0.
+    pub attributes: u32,
+    /// Of vertices and faces, by other names.
+    pub properties: u32,
+    /// Neither vertices nor faces.
+    pub other_elements: u32,
 }
 
 impl PassedOver {
@@ -58,6 +65,9 @@ impl PassedOver {
             calls: 0,
             others: 0,
             first_other: 0,
+            attributes: 0,
+            properties: 0,
+            other_elements: 0,
         }
     }
 

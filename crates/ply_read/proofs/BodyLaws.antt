@@ -15,7 +15,7 @@ tells_next r next a e is tells = rw is tells
 
 pub body_read : (bytes : List ℕ) (h : Header) (start s : SoFar) → start ≡ at_body h.body
     → with_declared h.encoding h.declared start ≡ Ok s
-    → body_of bytes h ≡ Ok (triangles_of h.encoding s)
+    → body_of bytes h ≡ Ok (triangles_of h s)
 body_read bytes h start s from taken =
     let all : with_declared h.encoding h.declared (at_body h.body) ≡ Ok s = rw from at taken in
     rw all refl

@@ -16,7 +16,7 @@ use Rattle.ply_read.specs.Results.{◌>>=◌}
 use Rattle.ply_read.specs.Told.{Tells}
 
 -- The next of a list.
-here : (ds : List Declared) (i : ℕ) (d e : Declared) → i < length ds → d ≡ get_or ds i d → d ≡ e
+pub here : (ds : List Declared) (i : ℕ) (d e : Declared) → i < length ds → d ≡ get_or ds i d → d ≡ e
     → drop i ds ≡ e ∷ drop (i + 1) ds
 here ds i d e below is same =
     let next : i + 1 ≡ suc i = omega arith in

@@ -8,6 +8,7 @@ pub mod Words
 pub mod Numbers
 pub mod Items
 pub mod Body
+pub mod Losses
 pub mod Ply
 pub mod Told
 pub mod Meaning

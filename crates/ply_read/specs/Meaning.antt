@@ -27,6 +27,7 @@ ply_in p = record {
   faces = p.faces.items;
   polygons = p.polygons.items;
   short_faces = p.short_faces;
+  losses = p.losses;
   trailing_bytes = p.trailing_bytes;
 }
 

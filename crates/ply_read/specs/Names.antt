@@ -38,6 +38,24 @@ is_whole_type types.Float32 = false
 is_whole_type types.Float64 = false
 is_whole_type _ = true
 
+unfoldable pub is_normal : List ℕ → Bool
+is_normal word = is_word (codes "nx") word || is_word (codes "ny") word || is_word (codes "nz") word
+
+unfoldable pub is_colour : List ℕ → Bool
+is_colour word =
+    is_word (codes "red") word || is_word (codes "green") word || is_word (codes "blue") word
+    || is_word (codes "alpha") word || is_word (codes "r") word || is_word (codes "g") word
+    || is_word (codes "b") word || is_word (codes "a") word
+    || is_word (codes "diffuse_red") word || is_word (codes "diffuse_green") word
+    || is_word (codes "diffuse_blue") word
+
+unfoldable pub is_texture : List ℕ → Bool
+is_texture word =
+    is_word (codes "s") word || is_word (codes "t") word || is_word (codes "u") word
+    || is_word (codes "v") word || is_word (codes "texture_u") word
+    || is_word (codes "texture_v") word || is_word (codes "texcoord") word
+    || is_word (codes "texnumber") word
+
 unfoldable pub role_of : List ℕ → Role
 role_of word =
     if is_word (codes "x") word then roles.X
@@ -45,6 +63,9 @@ role_of word =
     else if is_word (codes "z") word then roles.Z
     else if is_word (codes "vertex_indices") word || is_word (codes "vertex_index") word
     then roles.Corners
+    else if is_normal word then roles.Normal
+    else if is_colour word then roles.Colour
+    else if is_texture word then roles.Texture
     else roles.Other
 
 unfoldable pub kind_of : List ℕ → Kind

@@ -9,20 +9,23 @@ use Rattle.ply_read.specs.declared.declared.Encoding.TheVariants as encodings
 use Rattle.ply_read.specs.declared.fault.Refused.{Refused}
 use Rattle.ply_read.specs.declared.fault.Spot.{Spot}
 use Rattle.ply_read.specs.declared.fault.Spot.TheVariants as spots
+use Rattle.ply_read.specs.declared.losses.Losses.{Losses}
 use Rattle.ply_read.specs.declared.stop.Stop.{Stop}
 use Rattle.ply_read.specs.Body.{SoFar, at_body, with_declared}
 use Rattle.ply_read.specs.Header.{Header, header_of}
+use Rattle.ply_read.specs.Losses.{losses_of}
 use Rattle.ply_read.specs.Results.{◌>>=◌}
 use Rattle.ply_read.specs.Words.{from_word}
 
 -- The points and triangles of a file, where the fan of each face of more than three corners stands
--- among these, and how many faces of fewer than three corners and how many bytes after the last
--- element were passed over. A unit is 10^-18.
+-- among these, and how many faces of fewer than three corners, how much by what the header
+-- declares, and how many bytes after the last element were passed over. A unit is 10^-18.
 pub record Triangles : Type 0 where
   pub points : List Place
   pub faces : List Corners
   pub polygons : List Polygon
   pub short_faces : ℕ
+  pub losses : Losses
   pub trailing_bytes : ℕ
 
 -- What stands after the last element: in a text, from a word on.
@@ -30,13 +33,14 @@ abbrev pub trailing : Encoding → List ℕ → List ℕ
 trailing encodings.Ascii rest = from_word rest
 trailing (encodings.Binary order) rest = rest
 
-abbrev pub triangles_of : Encoding → SoFar → Triangles
-triangles_of e s = record {
+abbrev pub triangles_of : Header → SoFar → Triangles
+triangles_of h s = record {
   points = s.points;
   faces = s.faces;
   polygons = s.polygons;
   short_faces = s.short_faces;
-  trailing_bytes = length (trailing e s.rest);
+  losses = losses_of h.declared;
+  trailing_bytes = length (trailing h.encoding s.rest);
 }
 
 -- The line after these bytes, and the place where so many bytes are left.
@@ -55,7 +59,7 @@ placed e bytes (Err stop) =
 
 abbrev pub body_of : List ℕ → Header → Result Triangles Refused
 body_of bytes h = placed h.encoding bytes (with_declared h.encoding h.declared (at_body h.body))
-    >>= λ s. Ok (triangles_of h.encoding s)
+    >>= λ s. Ok (triangles_of h s)
 
 -- The points and triangles of a file, or its first fault: at the line of its header or of a text,
 -- or at the byte.

@@ -27,13 +27,17 @@ pub enum ScalarType {
     Float64,
 }
 
-/// What a property is by its name: a coordinate, the corners of a face, or none of these.
+/// What a property is by its name: a coordinate, the corners of a face, a part of a normal, of a
+/// colour or of a texture coordinate, or none of these.
 #[derive(Clone, Copy, Debug, PartialEq, Eq)]
 pub enum Role {
     X,
     Y,
     Z,
     Corners,
+    Normal,
+    Colour,
+    Texture,
     Other,
 }
 

@@ -6,6 +6,7 @@ mod fault;
 mod header;
 mod items;
 mod lines;
+mod losses;
 mod mesh;
 mod names;
 mod number;
@@ -21,6 +22,7 @@ pub use declared::{
 };
 pub use fault::{PlyFail, PlyFault, Refused, Spot};
 pub use header::read_header;
+pub use losses::Losses;
 pub use read::{Ply, read_ply};
 
 /// The answer for want of memory.

@@ -1,7 +1,8 @@
 //! What the words of a header stand for.
 ghost use Rattle.std.specs.Prelude.{◌≡◌, ◌||◌};
 ghost use Rattle.ply_read.specs.Lines.{is_word};
-ghost use Rattle.ply_read.specs.Names.{encoding_of, type_of, role_of, kind_of};
+ghost use Rattle.ply_read.specs.Names.{encoding_of, type_of, role_of, kind_of, is_normal};
+ghost use Rattle.ply_read.specs.Names.{is_colour, is_texture};
 
 use crate::declared::{Encoding, Kind, Order, Role, ScalarType};
 use crate::lines::is_word;
@@ -52,6 +53,44 @@ pub(crate) fn type_of(word: &[u8]) -> Option<ScalarType>
     }
 }
 
+#[tactic(auto, unfolding(crate::specs::Names::is_normal))]
+fn is_normal(word: &[u8]) -> bool
+    ensures { result ≡ is_normal word.now }
+{
+    is_word(b"nx", word) || is_word(b"ny", word) || is_word(b"nz", word)
+}
+
+#[tactic(auto, unfolding(crate::specs::Names::is_colour))]
+fn is_colour(word: &[u8]) -> bool
+    ensures { result ≡ is_colour word.now }
+{
+    is_word(b"red", word)
+        || is_word(b"green", word)
+        || is_word(b"blue", word)
+        || is_word(b"alpha", word)
+        || is_word(b"r", word)
+        || is_word(b"g", word)
+        || is_word(b"b", word)
+        || is_word(b"a", word)
+        || is_word(b"diffuse_red", word)
+        || is_word(b"diffuse_green", word)
+        || is_word(b"diffuse_blue", word)
+}
+
+#[tactic(auto, unfolding(crate::specs::Names::is_texture))]
+fn is_texture(word: &[u8]) -> bool
+    ensures { result ≡ is_texture word.now }
+{
+    is_word(b"s", word)
+        || is_word(b"t", word)
+        || is_word(b"u", word)
+        || is_word(b"v", word)
+        || is_word(b"texture_u", word)
+        || is_word(b"texture_v", word)
+        || is_word(b"texcoord", word)
+        || is_word(b"texnumber", word)
+}
+
 #[tactic(auto, unfolding(crate::specs::Names::role_of))]
 pub(crate) fn role_of(word: &[u8]) -> Role
     ensures { result ≡ role_of word.now }
@@ -64,6 +103,12 @@ pub(crate) fn role_of(word: &[u8]) -> Role
         Role::Z
     } else if is_either(b"vertex_indices", b"vertex_index", word) {
         Role::Corners
+    } else if is_normal(word) {
+        Role::Normal
+    } else if is_colour(word) {
+        Role::Colour
+    } else if is_texture(word) {
+        Role::Texture
     } else {
         Role::Other
     }

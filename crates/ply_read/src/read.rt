@@ -6,6 +6,7 @@ ghost use Rattle.ply_read.specs.Ply.{line_after, spot_of, trailing, body_of, ply
 use crate::declared::{Encoding, PlyHeader};
 use crate::fault::{PlyFail, Refused, Spot};
 use crate::header::read_header;
+use crate::losses::{Losses, losses_of};
 use crate::mesh::MeshReader;
 use crate::stop::BodyFail;
 use crate::words::from_word;
@@ -16,13 +17,15 @@ use std::alloc::Global;
 
 /// What a file gives: points in units of 10^-18; triangles, and where the fan of each face of more
 /// than three corners stands among them; how many faces of fewer than three corners, up to
-/// 4,294,967,295, and how many bytes after the last element were passed over.
+/// 4,294,967,295, how much by what the header declares, and how many bytes after the last element
+/// were passed over.
 #[derive(Drop)]
 pub struct Ply {
     pub points: Vec<ExactPoint>,
     pub faces: Vec<Corners>,
     pub polygons: Vec<Polygon>,
     pub short_faces: u32,
+    pub losses: Losses,
     pub trailing_bytes: usize,
 }
 
@@ -73,6 +76,7 @@ fn read_body(alloc: Global, bytes: &[u8], header: &PlyHeader, body: &[u8]) -> Re
             faces: mesh.faces,
             polygons: mesh.polygons,
             short_faces: mesh.short_faces,
+            losses: losses_of(&header.declared),
             trailing_bytes: trailing(e, rest).len(),
         }),
         Err(BodyFail::Stop(stop)) => Err(PlyFail::Fault(Refused {
@@ -87,9 +91,9 @@ fn read_body(alloc: Global, bytes: &[u8], header: &PlyHeader, body: &[u8]) -> Re
 /// header and in a text, and else at its byte, counted from 0.
 ///
 /// Elements of other names are passed over by their declared sizes, and so are further properties
-/// of vertices and faces. Points are as the file has them, in units of 10^-18: the nearest whole
-/// number, halves away from 0. A face of more than three corners is cut into the fan from the
-/// corner whose point is least. The words of a text may stand in any lines.
+/// of vertices and faces; both are counted. Points are as the file has them, in units of 10^-18:
+/// the nearest whole number, halves away from 0. A face of more than three corners is cut into the
+/// fan from the corner whose point is least. The words of a text may stand in any lines.
 ///
 /// Linear in the bytes.
 #[tactic(auto, unfolding(crate::specs::Ply::ply_meaning_of))]

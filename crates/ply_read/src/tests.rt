@@ -42,7 +42,7 @@ fn headers_are_read(rt: HostRuntime) -> Result<(), Fail> {
         elements(Kind::Vertex, 12),
         single(Role::X, ScalarType::Float32),
         single(Role::Y, ScalarType::Float64),
-        single(Role::Other, ScalarType::Uint8),
+        single(Role::Colour, ScalarType::Uint8),
         single(Role::Z, ScalarType::Int16),
         elements(Kind::Other, 3),
         list(Role::X, ScalarType::Float32),

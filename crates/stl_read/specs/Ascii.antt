@@ -82,8 +82,8 @@ point_of line a b c =
 
 -- With a corner.
 abbrev pub with_corner : ℕ → SoFar → Corner → Result SoFar Refused
-with_corner line s c = at_stage line (record { points = c.points; faces = s.triangles.faces })
-    (with_vertex s.stage c.vertex)
+with_corner line s c =
+    at_stage line (record s.triangles { points = c.points }) (with_vertex s.stage c.vertex)
 
 -- Three words and no more.
 abbrev pub three : List (List ℕ) → Option (List ℕ × List ℕ × List ℕ)
@@ -111,7 +111,7 @@ end_line line t f words =
     (if nat_le MOST_FACES (length t.faces) then refused faults.TooManyFaces line
     else Ok (record {
       stage = stages.Solid;
-      triangles = record { points = t.points; faces = t.faces ++ f ∷ [] };
+      triangles = record t { faces = t.faces ++ f ∷ [] };
     }))
     else refused faults.UnexpectedWord line
 

@@ -1,7 +1,7 @@
 -- A binary file: 80 bytes, the count of facets, and 50 bytes for each, which are a normal, three
--- corners and two bytes more. A number has its least byte first.
+-- corners and two bytes of attributes. A number has its least byte first.
 use Rattle.std.specs.Prelude.{ℕ, suc, zero, ◌+◌, ◌*◌, List, nat_lt, length}
-use Rattle.std.specs.Prelude.{Bool, nat_le, ◌==◌, ◌&&◌}
+use Rattle.std.specs.Prelude.{Bool, not, nat_le, ◌==◌, ◌&&◌}
 use Rattle.std.specs.Prelude.{slice_index_or, ℤ, Result, Ok, Err, if◌then◌else◌}
 use Rattle.pm_base.specs.declared.limits.TheConstants.{MOST_FACES}
 use Rattle.pm_base.specs.Place.{Place}
@@ -46,11 +46,16 @@ facet_at bytes at points =
       points = c.points;
     })
 
+-- The facet from a place on has attributes: its last two bytes aren't 0.
+unfoldable pub has_attributes : List ℕ → ℕ → Bool
+has_attributes bytes at = not (byte_at bytes (at + 48) == 0 && byte_at bytes (at + 49) == 0)
+
 -- With so many facets from a place on.
 abbrev pub with_facets : List ℕ → Triangles → ℕ → ℕ → Result Triangles Refused
 with_facets bytes t at zero = Ok t
 with_facets bytes t at (suc n) =
-    facet_at bytes at t.points >>= λ f. with_facets bytes (with_facet t f) (at + 50) n
+    facet_at bytes at t.points >>= λ f.
+    with_facets bytes (with_facet t f (has_attributes bytes at)) (at + 50) n
 
 unfoldable pub facet_count : List ℕ → ℕ
 facet_count bytes = word_at bytes 80

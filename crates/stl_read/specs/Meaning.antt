@@ -10,12 +10,21 @@ use Rattle.stl_read.specs.declared.fault.Refused.{Refused}
 
 -- What is held in memory.
 abbrev pub triangles_of : StlTriangles → Triangles
-triangles_of t = record { points = t.points.items; faces = t.faces.items }
+triangles_of t = record {
+  points = t.points.items;
+  faces = t.faces.items;
+  attributes = t.attributes;
+}
 
+-- A text has no attributes.
 abbrev pub so_far_of : TextReader → SoFar
 so_far_of r = record {
   stage = r.stage;
-  triangles = record { points = r.vertices.points.items; faces = r.faces.items };
+  triangles = record {
+    points = r.vertices.points.items;
+    faces = r.faces.items;
+    attributes = 0;
+  };
 }
 
 -- A fault is the one by which the reading ends. Memory may always be wanting.

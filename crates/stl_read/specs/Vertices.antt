@@ -9,10 +9,12 @@ use Rattle.stl_read.specs.declared.fault.StlFault.TheVariants as faults
 use Rattle.stl_read.specs.declared.fault.Refused.{Refused}
 use Rattle.stl_read.specs.Refusals.{refused}
 
--- Points, no two the same, and the triangles of their numbers.
+-- Points, no two the same, and the triangles of their numbers; and how many facets have attributes
+-- that aren't 0.
 pub record Triangles : Type 0 where
   pub points : List Place
   pub faces : List Corners
+  pub attributes : ℕ
 
 abbrev pub is_same : Place → Place → Bool
 is_same p q = int_eq p.x q.x && int_eq p.y q.y && int_eq p.z q.z
@@ -38,10 +40,19 @@ pub record Facet : Type 0 where
   pub points : List Place
 
 abbrev pub no_triangles : Triangles
-no_triangles = record { points = []; faces = [] }
+no_triangles = record { points = []; faces = []; attributes = 0 }
 
-abbrev pub with_facet : Triangles → Facet → Triangles
-with_facet t f = record { points = f.points; faces = t.faces ++ f.corners ∷ [] }
+-- One more of them, where a facet has attributes.
+abbrev pub marked_after : ℕ → Bool → ℕ
+marked_after n marked = if marked then n + 1 else n
+
+-- With a facet, which has attributes or not.
+abbrev pub with_facet : Triangles → Facet → Bool → Triangles
+with_facet t f marked = record {
+  points = f.points;
+  faces = t.faces ++ f.corners ∷ [];
+  attributes = marked_after t.attributes marked;
+}
 
 -- A corner at a place of the file. There is room for so many points.
 unfoldable pub corner_of : ℕ → List Place → Place → Result Corner Refused

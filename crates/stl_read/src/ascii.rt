@@ -215,6 +215,7 @@ impl TextReader {
                 Ok(StlTriangles {
                     points: vertices.points,
                     faces: self.faces,
+                    attributes: 0,
                 })
             }
             _ => Err(StlFail::Fault(Refused {

@@ -1,11 +1,11 @@
 //! Binary files.
-ghost use Rattle.std.specs.Prelude.{◌≡◌, ◌+◌, ◌*◌, ◌≤◌, ◌^◌, IfOk, OnOk, IfErr, length, Ok};
+ghost use Rattle.std.specs.Prelude.{◌≡◌, ◌+◌, ◌*◌, ◌≤◌, ◌<◌, ◌^◌, IfOk, OnOk, IfErr, length, Ok};
 ghost use Rattle.std.specs.Prelude.{unsigned_abs};
 ghost use Rattle.pm_base.specs.declared.limits.TheConstants.{MOST_VERTICES, MOST_FACES};
 ghost use Rattle.stl_read.specs.Binary.{word_at, coordinate_at, point_at, corner_at, facet_at};
 ghost use Rattle.stl_read.specs.Binary.{has_its_length, facet_count, with_facets, binary_meaning};
-ghost use Rattle.stl_read.specs.Binary.{count_of};
-ghost use Rattle.stl_read.specs.Vertices.{no_triangles};
+ghost use Rattle.stl_read.specs.Binary.{count_of, has_attributes};
+ghost use Rattle.stl_read.specs.Vertices.{marked_after, no_triangles};
 ghost use Rattle.stl_read.specs.Meaning.{Explains, triangles_of};
 ghost use Rattle.stl_read.specs.Numbering.{AreNumbered};
 ghost use Rattle.stl_read.specs.Refusals.{of_number};
@@ -22,8 +22,10 @@ const BEFORE_COUNT: usize = 80;
 
 const BEFORE_FACETS: usize = 84;
 
-// The bytes of a facet, of its normal and of a corner.
+// The bytes of a facet, and those of them before its attributes.
 const FACET_BYTES: usize = 50;
+
+const BEFORE_ATTRIBUTES: usize = 48;
 
 fn of_number(fault: FloatFault) -> StlFault
     ensures { result ≡ of_number fault }
@@ -114,6 +116,30 @@ fn facet_at(vertices: &mut Vertices, bytes: &[u8], at: usize) -> Result<Corners,
     Ok(Corners { a, b, c })
 }
 
+// Whether the facet that begins at a place has attributes that aren't 0.
+#[tactic(auto, unfolding(crate::specs::Binary::has_attributes))]
+fn has_attributes(bytes: &[u8], at: usize) -> bool
+    requires { at + 50 ≤ length bytes.now }
+    ensures { result ≡ has_attributes bytes.now at }
+{
+    let attributes = at + BEFORE_ATTRIBUTES;
+    !(bytes[attributes] == 0 && bytes[attributes + 1] == 0)
+}
+
+// One more, where the facet that begins at a place has them.
+fn marked_after(attributes: u32, bytes: &[u8], at: usize) -> u32
+    requires within { at + 50 ≤ length bytes.now }
+    requires few { attributes < MOST_FACES }
+    ensures value { result ≡ marked_after attributes (has_attributes bytes.now at) }
+    ensures few { result ≤ attributes + 1 }
+{
+    if has_attributes(bytes, at) {
+        attributes + 1
+    } else {
+        attributes
+    }
+}
+
 /// Whether the bytes are as many as the count of facets tells.
 #[tactic(auto, unfolding(crate::specs::Binary::has_its_length, crate::specs::Binary::facet_count))]
 pub(crate) fn has_its_length(bytes: &[u8]) -> bool
@@ -163,14 +189,17 @@ fn count_of(bytes: &[u8]) -> Result<u32, Refused>
 #[tactic(auto, using(crate::proofs::FacetLaws::facets_next, crate::proofs::FacetLaws::facets_fail, crate::proofs::FacetLaws::facets_end))]
 fn read_facets(alloc: Global, bytes: &[u8], count: u32) -> Result<StlTriangles, StlFail>
     requires within { 84 + 50 * count ≡ length bytes.now }
+    requires few { count ≤ MOST_FACES }
     ensures ok { IfOk result
         (λ t. with_facets bytes.now no_triangles 84 count ≡ Ok (triangles_of t)) }
     ensures err { IfErr result (Explains (with_facets bytes.now no_triangles 84 count)) }
 {
     let mut vertices = Vertices::new(alloc);
     let mut faces = Vec::new(alloc);
+    let mut attributes = 0;
     for i in 0..count as usize {
-        match facet_at(&mut vertices, bytes, BEFORE_FACETS + FACET_BYTES * i) {
+        let at = BEFORE_FACETS + FACET_BYTES * i;
+        match facet_at(&mut vertices, bytes, at) {
             Err(fail) => return Err(fail),
             Ok(facet) => {
                 if faces.push(facet).is_err() {
@@ -178,16 +207,18 @@ fn read_facets(alloc: Global, bytes: &[u8], count: u32) -> Result<StlTriangles, 
                 }
             }
         }
+        attributes = marked_after(attributes, bytes, at);
     }
     Ok(StlTriangles {
         points: vertices.points,
         faces,
+        attributes,
     })
 }
 
 /// The points and triangles of a binary file, or its first fault. Corners with the same point in
-/// units of 10^-18 are one vertex, which are numbered as they first stand; normals and the two
-/// bytes after each facet are passed over. Linear in the bytes but for the map.
+/// units of 10^-18 are one vertex, which are numbered as they first stand; normals are passed over,
+/// and attributes are counted. Linear in the bytes but for the map.
 #[tactic(auto, unfolding(crate::specs::Binary::binary_meaning))]
 pub(crate) fn read_binary(alloc: Global, bytes: &[u8]) -> Result<StlTriangles, StlFail>
     ensures ok { IfOk result (λ t. binary_meaning bytes.now ≡ Ok (triangles_of t)) }

@@ -32,8 +32,8 @@ pub fn is_text(bytes: &[u8]) -> bool
 /// and else at its byte, counted from 0.
 ///
 /// Corners with the same point in units of 10^-18 are one vertex, numbered as they first stand;
-/// normals, names and the two bytes after each binary facet are passed over. Linear in the bytes
-/// but for the map of points.
+/// normals, names and the attributes of binary facets are passed over, of which those that aren't 0
+/// are counted. Linear in the bytes but for the map of points.
 #[tactic(auto, unfolding(crate::specs::Stl::stl_meaning_of))]
 pub fn read_stl(alloc: Global, bytes: &[u8]) -> Result<StlTriangles, StlFail>
     ensures ok { IfOk result (λ t. stl_meaning_of bytes.now ≡ Ok (triangles_of t)) }

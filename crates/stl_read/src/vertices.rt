@@ -12,11 +12,13 @@ use pm_base::{Corners, MOST_VERTICES};
 use std::alloc::Global;
 use std::collections::HashMap;
 
-/// What a file gives: points in units of 10^-18, no two the same, and triangles.
+/// What a file gives: points in units of 10^-18, no two the same, and triangles; and how many of
+/// these have attributes that aren't 0.
 #[derive(Drop)]
 pub struct StlTriangles {
     pub points: Vec<ExactPoint>,
     pub faces: Vec<Corners>,
+    pub attributes: u32,
 }
 
 type Key = (i128, i128, i128);

@@ -5,6 +5,10 @@ use Rattle.stl_read.specs.Meaning.{triangles_of}
 use Rattle.mesh_scan.proofs.StlTextLaws.{stl_within}
 use Rattle.mesh_scan.proofs.whole.scan_stl.Goals as goal
 
+pub stl_passed-requires : goal.stl_passed-requires
+stl_passed-requires c =
+    (stl_within c.args.bytes.now (triangles_of c.in-Ok.stl) c.in-Ok.ensures.ok).faces
+
 pub returns-in-Ok-clause-within : goal.returns-in-Ok-clause-within
 returns-in-Ok-clause-within c =
     let w = stl_within c.args.bytes.now (triangles_of c.in-Ok.stl) c.in-Ok.ensures.ok in

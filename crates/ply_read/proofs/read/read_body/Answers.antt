@@ -5,7 +5,7 @@ use Rattle.ply_read.proofs.read.read_body.Goals as goal
 
 pub returns-in-Ok-clause-ok : goal.returns-in-Ok-clause-ok
 returns-in-Ok-clause-ok c =
-    rw c.trailing.ensures
+    rw (c.trailing.ensures, c.losses_of.ensures, c.deref-in-Ok.ensures.value)
     (body_read c.args.bytes.now (header_in c.args.header.now c.args.body.now)
     (mesh_in c.new-mesh.result c.args.body.now)
     (mesh_in c.take_declared.new.self c.in-Ok.rest.now) (c.new-mesh.ensures c.args.body.now)

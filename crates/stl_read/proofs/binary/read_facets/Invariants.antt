@@ -9,7 +9,13 @@ abbrev pub invariant-loop-i : goal.invariant-loop-i
 invariant-loop-i l = record {
   numbered : AreNumbered l.vertices.points.items l.vertices.numbers;
   few : length l.vertices.points.items ≤ MOST_VERTICES;
+  marked : l.attributes ≤ l.i;
   rest :
-      with_facets l.bytes (record { points = l.vertices.points.items; faces = l.faces.items })
+      with_facets l.bytes
+      (record {
+        points = l.vertices.points.items;
+        faces = l.faces.items;
+        attributes = l.attributes;
+      })
       (84 + 50 * l.i) (l.count - l.i) ≡ with_facets l.bytes no_triangles 84 l.count;
 }
