@@ -167,7 +167,7 @@ class Stl(WithFolder):
             soup = self.read(stl(text))
             self.check(soup, FACES[:3])
             self.assertEqual(soup.count, 5)
-        self.assertEqual(self.read(stl(False)).passed, {"attributes": 3})
+        self.assertEqual(self.read(stl(False)).passed, {"facet attributes": 3})
 
     def test_faults(self) -> None:
         text, binary = stl(True), stl(False)
@@ -211,11 +211,20 @@ class Obj(WithFolder):
             (self.TEXT + b"f 1 2 x\n", "line 7: 'x' names no vertex"),
             (self.TEXT + b"f 1 2 \\\n", "line 7: the text ends where a backslash"),
             (b"v 0 0 0\rv 0 0 0\n", "line 1: a CR stands"), (b"\xff\xfev\0", "16 bits a letter"),
-            (b"\xc2\xa0v 0 0 0\n", "line 1: .*no letters"), (b"", "has no faces"),
-            (b"glTF\2\0\0\0", "looks like a GLB"), (b"%PDF-1.4", "a PDF"),
-            (bytes(range(32)) * 9, "is no text"), (b"<html>", "HTML"),
+            (b"\xc2\xa0v 0 0 0\n", "line 1: .*no letters"), (b"v 0 0 0\n", "has no faces$"),
         ):
             self.refused(text, said)
+
+    def test_other_files_are_named_for_what_they_look_like(self) -> None:
+        for data, said in (
+            (b"glTF\2\0\0\0", "looks like a GLB"), (b'{"asset":{}}', "a glTF file"),
+            (b"%PDF-1.4", "a PDF"), (b"<html>", "HTML"), (b"\x1f\x8b\x08\0", "gunzip$"),
+            (b"ncols 9\n", "height field: cut it by tools/world.py"), (b"", "^it is empty$"),
+            (bytes(range(32)) * 9, "is no text"), (b"\x01\x02 x\n", "is no text"),
+            (b"X" * 60 + bytes(10), "byte 70: the data end before the 84 bytes"),
+            (b"1 2.5 -3\n4 5 6\n", "rows of numbers and no faces: points alone"),
+        ):
+            self.refused(data, said)
 
 
 class Texts(WithFolder):

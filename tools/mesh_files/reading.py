@@ -1,4 +1,5 @@
 """The soup of a mesh file of any kind that is read here, and its text for `prepare`."""
+import re
 from decimal import Decimal
 from itertools import chain
 from pathlib import Path
@@ -14,10 +15,16 @@ _OTHERS = (
     (b"\x89PNG", "a PNG picture"), (b"\xff\xd8\xff", "a JPEG picture"), (b"GIF8", "a GIF picture"),
     (b"II*\0", "a TIFF picture"), (b"MM\0*", "a TIFF picture"), (b"II+\0", "a TIFF picture"),
     (b"%PDF", "a PDF document"), (b"Kaydara FBX", "an FBX file"), (b"MM", "a 3DS file"),
-    (b"<", "a text of HTML or XML"), (b"\x1f\x8b", "a file compressed by gzip"),
-    (b"VDPM", "a stream of this project"), (b"ncols", "a height field, whose name ends in .asc"),
-    (b"P5", "a PGM picture, whose name ends in .pgm"),
+    (b"<", "a text of HTML or XML"), (b"{", "a glTF file"), (b"VDPM", "a stream of this project"),
 )  # fmt: skip
+# What makes a file of those that are read here of one that isn't, by its first bytes.
+_CURES = (
+    (b"\x1f\x8b", "a file compressed by gzip: unpack it by gunzip"),
+    (b"ncols", "a height field: cut it by tools/world.py, with a name that ends in .asc"),
+    (b"P5", "a PGM picture: cut it by tools/world.py, with a name that ends in .pgm"),
+)
+_CONTROLS = re.compile(rb"[\0-\x08\x0e-\x1f]")
+_ROW_OF_NUMBERS = re.compile(rb"\s*[-+.\d][-+.,;eE\d \t]*[\r\n]")
 Reader = Callable[[BinaryIO, int, Soup], None]
 READERS: Dict[str, Reader] = {
     "OBJ": obj.read, "PLY": ply.read, "binary STL": stl.read_binary, "STL": stl.read_text,
@@ -38,6 +45,9 @@ def kind_of(head: bytes, size: int) -> str:
     for begin, name in _OTHERS:
         if head.startswith(begin):
             raise MeshFault(f"it looks like {name}: an OBJ, PLY or STL file is read here")
+    for begin, told in _CURES:
+        if head.startswith(begin):
+            raise MeshFault(f"it looks like {told}")
     if b"\0" in head and head[:2] not in (b"\xff\xfe", b"\xfe\xff"):
         raise _cut_off(head, size)
     return "OBJ"
@@ -45,6 +55,8 @@ def kind_of(head: bytes, size: int) -> str:
 
 def _cut_off(head: bytes, size: int) -> MeshFault:
     """What is said of a file with zero bytes, which may be an STL file that lost its end."""
+    if size < stl.HEAD:
+        return MeshFault(f"byte {size}: the data end before the {stl.HEAD} bytes of an STL head do")
     count = int.from_bytes(head[80:84], "little")
     wanted = stl.HEAD + stl.EACH * count
     if size < wanted <= 100 * size:
@@ -52,6 +64,17 @@ def _cut_off(head: bytes, size: int) -> MeshFault:
             f"byte {size}: the data end before triangle {max(0, size - 84) // 50 + 1} of {count}"
         )
     return MeshFault("it is no text, and no PLY or STL file that is whole")
+
+
+def without_faces(head: bytes) -> MeshFault:
+    """What is said of a file in which there are no faces, by the first of its bytes."""
+    if not head:
+        return MeshFault("it is empty")
+    if _CONTROLS.search(head):
+        return MeshFault("it is no text, and no PLY or STL file that is whole")
+    if _ROW_OF_NUMBERS.match(head):
+        return MeshFault("it has rows of numbers and no faces: points alone are no mesh")
+    return MeshFault("it has no faces")
 
 
 def kind_at(path: Path) -> str:
@@ -70,7 +93,8 @@ def read_soup(
         watch(file)
         reader(file, size, soup)
     if not len(soup.corners):
-        raise MeshFault("it has no faces")
+        with path.open("rb") as file:
+            raise without_faces(file.read(_HEAD))
     return soup
 
 

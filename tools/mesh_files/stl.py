@@ -47,7 +47,7 @@ def read_binary(file: BinaryIO, _: int, soup: Soup) -> None:
             except MeshFault as fault:
                 raise MeshFault(f"triangle {number + 1}, byte {HEAD + EACH * number}: {fault}")
             made.soup.corners.extend(corners)
-            made.soup.pass_over("attributes", numbers[9] != 0)
+            made.soup.pass_over("facet attributes", numbers[9] != 0)
 
 
 def _lines(file: BinaryIO) -> Iterator[Tuple[int, List[bytes]]]:
