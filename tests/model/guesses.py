@@ -1,68 +1,34 @@
-"""The words of a stream text by guesses of them: what is known before each word, what it is guessed
-to be, and the choices that tell it. All is by docs/FORMATS.md, with its words."""
-from typing import List, NamedTuple, Tuple
+"""The words of a stream text by guesses of them: what each is guessed to be, and the choices that
+tell it. All is by docs/FORMATS.md, with its words."""
+from typing import List
 
 from .coder import CUT, GREATEST, Writer
 from .faults import Fault
+from .grid import Node, level, normal, way
+from .past import Seen, next_side
 
 SLOTS = 1 << 20
-RING = 8
-
-
-class Node(NamedTuple):
-    x: int = 0
-    y: int = 0
-    z: int = 0
-    first: int = 0
-    width: int = 0
-
-    def end(self) -> int:
-        return min(self.first + self.width, GREATEST)
-
-    def has(self, leaf: int) -> bool:
-        return self.first <= leaf < self.end()
-
-
-def at(numbers: List[int], i: int) -> int:
-    return numbers[i] if 0 <= i < len(numbers) else 0
-
-
-def put(numbers: List[int], i: int, n: int) -> None:
-    if i in range(len(numbers)):
-        numbers[i] = n
-
-
-def next_side(side: int) -> int:
-    return max(side - 1, 0) // 3 * 3 + side % 3 + 1
-
-
-def previous_side(side: int) -> int:
-    return max(side - 1, 0) // 3 * 3 + (side + 1) % 3 + 1
+NODE_BITS = 50
+# By field of a coordinate its axis, and 0 for t and 1 for u.
+PLACES = {18: (0, 0), 19: (1, 0), 20: (2, 0), 22: (0, 1), 23: (1, 1), 24: (2, 1)}
 
 
 def width_class(n: int) -> int:
     return n if n < 8 else 8 if n < 32 else 9 if n < 256 else 10 if n < 4096 else 11
 
 
-class Words:
+class Words(Seen):
     """Makes words, one after the other, by guesses."""
 
     def __init__(self, coder: Writer) -> None:
+        super().__init__()
         self.coder, self.slots, self.context = coder, [1 << 31] * SLOTS, 0
-        self.field, self.roots, self.bases, self.new_faces = 0, 0, 0, 0
-        self.last = [0] * 33
-        self.nodes: List[Node] = []
-        # By side its corner and the side beyond it, by face its input, by node a side from it, and
-        # round the split node sides, with the corners that they lead to.
-        self.corners: List[int] = []
-        self.beyond: List[int] = []
-        self.inputs: List[int] = []
-        self.starts: List[int] = []
-        self.ring: List[Tuple[int, int]] = []
-        self.inner = 0
 
     def bit(self, set_: int, place: int, wanted: bool) -> bool:
         h = 0
+        if set_ == NODE_BITS and place > 511:
+            below = place.bit_length() - 6
+            place = (place >> below) + 64 * (below + 4)
         for n in (set_, self.context, place):
             q = ((h + n) & GREATEST) * 2654435761 & GREATEST
             h = q % 131072 * 32768 + q // 131072
@@ -110,138 +76,110 @@ class Words:
         return (guess + n // 2 + 1 if n % 2 == 0 else guess - n // 2 - 1) % (1 << 32)
 
     def word(self, wanted: int) -> int:
-        width, first = width_class(self.split().width), width_class(self.last[17])
-        self.context = 0 if self.field < 17 else 16 * width + first
+        self.context = self.kind()
         word = self.guessed(self.firsts(), self.guess(), wanted)
         self.take(word)
         return word
 
-    def node(self, i: int) -> Node:
-        return self.nodes[i] if 0 <= i < len(self.nodes) else Node()
+    def kind(self) -> int:
+        f = self.field
+        if f in PLACES:
+            return self.place_kind()
+        if 26 < f < 31:
+            return self.corner_kind() if f < 30 else self.face_kind()
+        return 0 if f < 17 else 16 * width_class(self.split().width) + width_class(self.last[17])
 
-    def split(self) -> Node:
-        return self.node(self.last[16])
+    def place_kind(self) -> int:
+        axis, child = PLACES[self.field]
+        if self.children()[child].width == 1 and self.grid.axes[axis].step:
+            return 1
+        s, r = self.last[16], self.last[4]
+        other = self.node(s if s < r else s + 1 if (s - r) % 2 == 0 else s - 1)
+        far = sum(abs(n) for n in way(self.split(), other))
+        return 16 + far.bit_length()
 
-    def children(self) -> Tuple[Node, Node]:
-        w, s = self.last, self.split()
-        t = Node(w[18], w[19], w[20], s.first, w[17])
-        return t, Node(w[22], w[23], w[24], t.end(), max(s.width - w[17], 0))
+    def corner_kind(self) -> int:
+        own, other = self.own_and_other()
+        edge = self.edge()
+        turns = edge % 3 * 3 + self.across(edge) % 3
+        return 16 * (16 * min(own.width, 3) + min(other.width, 3)) + turns
 
-    def is_left(self) -> bool:
-        return self.last[26] != 2 and self.inner == 0
-
-    def own_and_other(self) -> Tuple[Node, Node]:
+    def face_kind(self) -> int:
         t, u = self.children()
-        return (t, u) if self.is_left() else (u, t)
+        outer = next((i for i in (0, 1) if not self.is_inner(self.last[27 + i])), 2)
+        edge = self.edge()
+        turns = 36 * outer + 6 * self.turn(edge) + self.turn(self.across(edge))
+        return 4 * turns + min(max(t.width, u.width), 3)
 
-    def across(self, side: int) -> int:
-        return at(self.beyond, side - 1)
+    def turn(self, side: int) -> int:
+        return side % 3 * 2 + self.input(side) % 2
 
-    def input_after(self, side: int) -> int:
-        return min((at(self.inputs, (side - 1) // 3) if side else 0) + 1, GREATEST)
-
-    def walk(self, start: int) -> List[Tuple[int, int]]:
-        ring: List[Tuple[int, int]] = []
-        side = start
-        while side and len(ring) < RING:
-            ring.append((side, at(self.corners, next_side(side) - 1)))
-            side = self.across(previous_side(side))
-            side = 0 if side == start else side
-        return ring
-
-    def edge(self) -> int:
-        """The side of the ring that leads nearest to the corner under neither child."""
+    def is_inner(self, leaf: int) -> bool:
         t, u = self.children()
-        outer = next((c for c in self.last[27:29] if not t.has(c) and not u.has(c)), self.last[29])
-        return min(self.ring, key=lambda spoke: abs(spoke[1] - outer), default=(0, 0))[0]
+        return t.has(leaf) or u.has(leaf)
 
     def firsts(self) -> List[int]:
-        own, other = self.own_and_other()
-        fars = [far for _, far in self.ring]
-        if self.field == 27:
-            return [own.first, other.first] + fars
-        if self.field in (28, 29):
-            corner = self.last[self.field - 1]
-            return [other.first] if own.has(corner) else fars if other.has(corner) else [own.first]
-        if self.field == 30:
+        f = self.field
+        if f == 16:
+            last = self.last[16]
+            return [min(last + 2, GREATEST), max(last - 1, 0), min(last + 3, GREATEST)]
+        if f == 30:
             return [self.input_after(self.across(self.edge()))]
-        return []
+        return self.corner_firsts() if 26 < f < 30 else []
+
+    def corner_firsts(self) -> List[int]:
+        own, other = self.own_and_other()
+        edge = self.edge()
+        beyond = self.across(edge)
+        first = self.corner(edge) if edge else own.first
+        second = self.corner(next_side(beyond)) if beyond else other.first
+        outer = [self.corner(next_side(edge)), self.corner(beyond)]
+        if self.field == 27:
+            return [first, second] + outer
+        corner = self.last[self.field - 1]
+        return [second] if own.has(corner) else outer if other.has(corner) else [first]
 
     def guess(self) -> int:
-        f, w, s = self.field, self.last, self.split()
-        if f in (11, 21, 25):
-            width = w[10] if f == 11 else w[17] if f == 21 else s.width - w[17]
-            last = w[21] if f == 25 and w[17] == 1 else w[f]
-            return min(last + 1, GREATEST) if width == 1 else 0
-        if 17 <= f < 21:
-            return (s.width, s.x, s.y, s.z)[f - 17]
-        if 22 <= f < 25:
-            return (2 * (s.x, s.y, s.z)[f - 22] - w[f - 4]) % (1 << 32)
+        f, w = self.field, self.last
+        if f in PLACES:
+            return self.place_guess()
+        if f == 11:
+            return min(w[11] + 1, GREATEST) if w[10] == 1 else 0
+        if f in (21, 25):
+            return self.input_guess()
+        if f in (16, 17):
+            return len(self.nodes) if f == 16 else self.split().width
         return 3 if f == 26 else self.face_guess(f) if f > 26 else w[f]
 
+    def place_guess(self) -> int:
+        w, s = self.last, self.split()
+        axis, child = PLACES[self.field]
+        plain = s[axis] if child == 0 else (2 * s[axis] - w[self.field - 4]) % 2**32
+        if axis == 2:
+            x, y = w[self.field - 2 : self.field]
+            ways = [way(s, self.node(spoke.node)) for spoke in self.ring]
+            plain = level(normal(ways), s, way(s, Node(x, y)), plain)
+        return self.grid.axes[axis].near(self.children()[child].width, plain)
+
+    def input_guess(self) -> int:
+        w, f = self.last, self.field
+        child = self.children()[0 if f == 21 else 1]
+        if child.width != 1:
+            return 0
+        if self.grid.known():
+            return self.grid.input_of(child)
+        return min((w[21] if f == 21 or w[17] == 1 else w[25]) + 1, GREATEST)
+
     def face_guess(self, f: int) -> int:
-        if f < 30:
+        if f == 27:
             return self.split().first
+        if f < 30:
+            own, other = self.own_and_other()
+            corner = self.last[f - 1]
+            node = other if own.has(corner) else self.split() if other.has(corner) else own
+            return node.first
         if f == 30:
             return self.input_after(self.edge())
         if f == 31:
             return self.across(self.edge())
         return self.across(self.last[31]) if self.last[31] else self.edge()
-
-    def take(self, word: int) -> None:
-        f, w = self.field, self.last
-        w[f] = word
-        self.roots, self.bases = word if f == 4 else self.roots, word if f == 5 else self.bases
-        self.new_faces = (2 if word == 3 else 1) if f == 26 else self.new_faces
-        ends = {11: self.end_root, 15: self.end_base, 26: self.end_head, 32: self.end_face}
-        if f in ends:
-            ends[f]()
-        if f == 6 or f in ends:
-            self.next_unit()
-        else:
-            self.field = 3 if f == 1 and word != 2 else f + 1
-
-    def next_unit(self) -> None:
-        if self.roots:
-            self.field, self.roots = 7, self.roots - 1
-        elif self.bases:
-            self.field, self.bases = 12, self.bases - 1
-        elif self.new_faces:
-            self.field, self.new_faces = 27, self.new_faces - 1
-        else:
-            self.field = 16
-
-    def end_root(self) -> None:
-        w, before = self.last, self.node(len(self.nodes) - 1)
-        self.nodes.append(Node(w[7], w[8], w[9], before.end(), w[10]))
-        self.starts.append(0)
-
-    def end_base(self) -> None:
-        self.add_face(self.last[12:16])
-
-    def add_face(self, words: List[int]) -> None:
-        self.corners += words[:3]
-        self.beyond += [0, 0, 0]
-        self.inputs.append(words[3])
-
-    def end_head(self) -> None:
-        self.ring, self.inner = self.walk(at(self.starts, self.last[16])), 0
-        self.nodes += self.children()
-        self.starts += [0, 0]
-
-    def link(self, side: int, other: int) -> None:
-        put(self.beyond, side - 1, other)
-        put(self.beyond, other - 1, side)
-
-    def end_face(self) -> None:
-        own, _ = self.own_and_other()
-        corner = next((i for i in range(3) if own.has(self.last[27 + i])), 0)
-        inner = len(self.corners) + corner + 1
-        own_place = len(self.nodes) - (2 if self.is_left() else 1)
-        put(self.starts, own_place, inner)
-        put(self.starts, 2 * len(self.nodes) - 3 - own_place, next_side(inner))
-        self.add_face(self.last[27:31])
-        self.link(next_side(inner), self.last[31])
-        self.link(previous_side(inner), self.last[32])
-        self.link(inner, self.inner)
-        self.inner = inner

@@ -10,7 +10,7 @@ use Rattle.pm_pack.specs.Packed.{IsPacked, PackedTextsAreOfOne}
 use Rattle.pack.specs.declared.obeying.TheConstants.{MOST}
 use Rattle.pack.specs.declared.words.Asked.{Asked}
 use Rattle.pack.specs.declared.words.Asked.TheVariants as asked
-use Rattle.pack.specs.declared.fault.Fault.{Fault}
+use Rattle.pm_pack.specs.declared.fault.Fault.{Fault}
 use Rattle.pack.specs.declared.fault.RunFail.{RunFail}
 use Rattle.pack.specs.declared.fault.RunFail.TheVariants as fails
 use Rattle.pack.specs.Input.{HoldsFront, StopsShort}

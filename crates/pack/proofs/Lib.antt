@@ -1,3 +1,4 @@
 pub mod InputLaws
 pub mod EndingLaws
 pub mod SaidLaws
+pub mod FaultLaws

@@ -5,7 +5,7 @@ use Rattle.std.specs.Prelude.{codes}
 use Rattle.pm_io.specs.Devices.{Tells}
 use Rattle.pm_io.specs.Endings.{SaysEnding}
 use Rattle.pm_io.specs.declared.device.Sink as sink
-use Rattle.pack.specs.declared.fault.Fault.{Fault}
+use Rattle.pm_pack.specs.declared.fault.Fault.{Fault}
 use Rattle.pack.specs.declared.fault.RunFail.{RunFail}
 use Rattle.pack.specs.declared.fault.RunFail.TheVariants as fails
 use Rattle.pack.specs.declared.words.Asked.{Asked}

@@ -3,8 +3,8 @@ use Rattle.std.specs.Prelude.{ℕ, List, ◌++◌, codes}
 use Rattle.std.specs.Fmt.{decimal}
 use Rattle.pm_format.specs.declared.fault.FormatError.{FormatError}
 use Rattle.pm_format.specs.declared.fault.FormatError.TheVariants as format
-use Rattle.pack.specs.declared.fault.Fault.{Fault}
-use Rattle.pack.specs.declared.fault.Fault.TheVariants as faults
+use Rattle.pm_pack.specs.declared.fault.Fault.{Fault}
+use Rattle.pm_pack.specs.declared.fault.Fault.TheVariants as faults
 use Rattle.pack.specs.declared.fault.RunFail.{RunFail}
 use Rattle.pack.specs.declared.fault.RunFail.TheVariants as fails
 

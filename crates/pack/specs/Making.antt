@@ -1,5 +1,5 @@
 -- What is made of bytes.
-use Rattle.std.specs.Prelude.{◌≡◌, ℕ, List, Some}
+use Rattle.std.specs.Prelude.{◌≡◌, ℕ, List, Option, Some, None}
 use Rattle.pm_format.specs.Faults.{stream_fault}
 use Rattle.pm_pack.specs.Packed.{IsPacked}
 use Rattle.pm_pack.specs.Packing.{IsFollowed}
@@ -10,8 +10,8 @@ use Rattle.pm_pack.specs.declared.reading.UnpackFail.{UnpackFail}
 use Rattle.pm_pack.specs.declared.reading.UnpackFail.TheVariants as unpacks
 use Rattle.pack.specs.declared.words.Asked.{Asked}
 use Rattle.pack.specs.declared.words.Asked.TheVariants as asked
-use Rattle.pack.specs.declared.fault.Fault.{Fault}
-use Rattle.pack.specs.declared.fault.Fault.TheVariants as faults
+use Rattle.pm_pack.specs.declared.fault.Fault.{Fault}
+use Rattle.pm_pack.specs.declared.fault.Fault.TheVariants as faults
 use Rattle.pack.specs.declared.fault.MakeFail.{MakeFail}
 use Rattle.pack.specs.declared.fault.MakeFail.TheVariants as fails
 
@@ -44,6 +44,10 @@ FailsBy asks bytes (fails.Faulty fault) = Refuses asks bytes fault
 FailsBy asks bytes fails.OutOfMemory = Unit {0}
 
 -- Want of memory is no fault of the input.
+abbrev pub fault_fail : Option Fault → MakeFail
+fault_fail (Some fault) = fails.Faulty fault
+fault_fail None = fails.OutOfMemory
+
 abbrev pub pack_fail : PackFail → MakeFail
 pack_fail (packs.Stream e) = fails.Faulty (faults.Stream e)
 pack_fail packs.Trailing = fails.Faulty faults.Trailing

@@ -4,9 +4,10 @@ ghost use Rattle.pm_io.specs.Devices.{Tells};
 ghost use Rattle.pack.specs.Ending.{status_of};
 ghost use Rattle.pack.specs.FaultLine.{place_line, bare_line, stream_line, fault_line, fail_line};
 
-use crate::fault::{Fault, RunFail};
+use crate::fault::RunFail;
 use pm_format::FormatError;
 use pm_io::{Line, Sink, put_all};
+use pm_pack::Fault;
 
 /// Puts text on the error sink. That it fails changes nothing.
 pub fn say<E: Sink>(err: &mut E, text: &[u8])
@@ -61,26 +62,29 @@ fn put_text(line: &mut Line, text: &[u8])
 fn put_stream_fault(line: &mut Line, fault: FormatError)
     ensures { line.new ≡ stream_line fault }
 {
+    let number = Fault::Stream(fault).number();
     match fault {
-        FormatError::BadMagic => put_number(line, 20, b"it begins otherwise than a stream"),
-        FormatError::BadVersion(version) => put_place(line, 21, b"version", version, b"unknown"),
-        FormatError::BadDigits(digits) => put_place(line, 33, b"digits", digits, b"not 1 to 4"),
-        FormatError::Truncated(bytes) => put_place(line, 22, b"byte", bytes, b"cut off"),
-        FormatError::BadCount => put_number(line, 23, b"the counts break their rule"),
-        FormatError::BadRoot(root) => put_place(line, 24, b"root", root, b"not in its place"),
+        FormatError::BadMagic => put_number(line, number, b"it begins otherwise than a stream"),
+        FormatError::BadVersion(version) => put_place(
+            line, number, b"version", version, b"unknown",
+        ),
+        FormatError::BadDigits(digits) => put_place(line, number, b"digits", digits, b"not 1 to 4"),
+        FormatError::Truncated(bytes) => put_place(line, number, b"byte", bytes, b"cut off"),
+        FormatError::BadCount => put_number(line, number, b"the counts break their rule"),
+        FormatError::BadRoot(root) => put_place(line, number, b"root", root, b"not in its place"),
         FormatError::BadFace(face) => {
-            put_place(line, 25, b"face", face, b"not between three roots")
+            put_place(line, number, b"face", face, b"not between three roots")
         }
         FormatError::BadRecord(record) => {
             put_place(
                 line,
-                26,
+                number,
                 b"record",
                 record,
                 b"it doesn't fit those before it",
             )
         }
-        FormatError::BadInput(field) => put_place(line, 27, b"input", field, b"a wrong number"),
+        FormatError::BadInput(field) => put_place(line, number, b"input", field, b"a wrong number"),
         FormatError::OutOfMemory => put_text(line, b"pack: out of memory\n"),
     }
 }
@@ -90,12 +94,13 @@ fn put_stream_fault(line: &mut Line, fault: FormatError)
 fn put_fault(line: &mut Line, fault: Fault)
     ensures { line.new ≡ fault_line fault }
 {
+    let number = fault.number();
     match fault {
         Fault::Stream(fault) => put_stream_fault(line, fault),
-        Fault::Trailing => put_number(line, 29, b"bytes follow the stream"),
-        Fault::NotPacked => put_number(line, 34, b"it begins otherwise than a packed text"),
-        Fault::Cut => put_number(line, 35, b"the packed text is cut off or damaged"),
-        Fault::PackedTrailing => put_number(line, 36, b"bytes follow the packed text"),
+        Fault::Trailing => put_number(line, number, b"bytes follow the stream"),
+        Fault::NotPacked => put_number(line, number, b"it begins otherwise than a packed text"),
+        Fault::Cut => put_number(line, number, b"the packed text is cut off or damaged"),
+        Fault::PackedTrailing => put_number(line, number, b"bytes follow the packed text"),
     }
 }
 

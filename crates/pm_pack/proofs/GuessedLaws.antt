@@ -17,7 +17,8 @@ use Rattle.pm_coder.proofs.NumberLaws.{numbers-differ}
 use Rattle.pm_pack.specs.declared.word.Guess.{Guess}
 use Rattle.pm_pack.specs.Guesses.{ahead, moved_ahead, folded, unfolded, miss, missed}
 use Rattle.pm_pack.specs.Guesses.{word_answers}
-use Rattle.pm_pack.specs.Pasts.{Seen, guess_of}
+use Rattle.pm_pack.specs.Pasts.{Seen}
+use Rattle.pm_pack.specs.Hints.{guess_of}
 
 -- Steps from one word to another.
 pub ahead-some : (from to : ℕ) → from < 4294967296 → to < 4294967296 → from ≢ to

@@ -23,7 +23,7 @@ use Rattle.pm_format.specs.Standing.{Decoding, IsDecoderAfter, HasFaultAlready, 
 use Rattle.pm_format.proofs.WholeLaws.{whole_text}
 use Rattle.pm_format.proofs.WordLaws.{words_append, length-spelled}
 use Rattle.pm_format.proofs.TextLaws.{spelled-append}
-use Rattle.pm_pack.specs.Pasts.{guess_of, firsts_of}
+use Rattle.pm_pack.specs.Hints.{guess_of, firsts_of}
 use Rattle.pm_pack.specs.Texts.{Known, word_choices, words_choices, known_after}
 use Rattle.pm_pack.specs.Texts.{all_known}
 use Rattle.pm_pack.specs.Packed.{IsStream}

@@ -9,7 +9,7 @@ use Rattle.pm_coder.specs.Coders.{Coding, Reading, made, all_made, Can, Makes, P
 use Rattle.pm_coder.proofs.IntervalLaws.{at_least}
 use Rattle.pm_coder.proofs.CoderLaws.{readers-go_one_way, parts-join}
 use Rattle.pm_coder.proofs.DifferLaws.{guesses-part}
-use Rattle.pm_pack.specs.Pasts.{guess_of, firsts_of}
+use Rattle.pm_pack.specs.Hints.{guess_of, firsts_of}
 use Rattle.pm_pack.specs.Texts.{Known, word_choices, known_after, words_choices, all_known}
 use Rattle.pm_pack.specs.Texts.{AreWords}
 use Rattle.pm_pack.proofs.GuessedLaws.{guess-small}

@@ -1,6 +1,7 @@
 -- The table of slots, one for all questions that have one hash.
 use Rattle.std.specs.Prelude.{ℕ, ◌+◌, ◌*◌, ◌/◌, ◌%◌, Bool, List, [], ◌∷◌, length, replicate}
-use Rattle.std.specs.Prelude.{get_or, slice_set}
+use Rattle.std.specs.Prelude.{get_or, slice_set, ◌-◌, ◌^◌, ◌==◌, ◌&&◌, nat_lt, if◌then◌else◌}
+use Rattle.std.specs.Int.Count.{count_leading_zeros}
 use Rattle.pm_coder.specs.Questions.{Question}
 use Rattle.pm_coder.specs.Slots.{slot_share, slot_learned}
 
@@ -14,9 +15,20 @@ abbrev pub first_context : List ℕ → ℕ
 first_context [] = 0
 first_context (c ∷ cs) = c
 
+-- A place by its six upper bits and how many follow.
+unfoldable pub rough : ℕ → ℕ
+rough place =
+    (place / 2 ^ (26 - count_leading_zeros 32 place)
+    + 64 * (26 - count_leading_zeros 32 place + 4)) % 4294967296
+
+-- Bits of the number of a split node are alike after the first three of them.
+unfoldable pub hashed_place : ℕ → ℕ → ℕ
+hashed_place set place = if set == 50 && nat_lt 511 place then rough place else place
+
 -- The slot of a question in a table of so many.
 unfoldable pub slot_of : ℕ → Question → ℕ
-slot_of size q = mixed (mixed (mixed 0 q.set) (first_context q.contexts)) q.place % size
+slot_of size q =
+    mixed (mixed (mixed 0 q.set) (first_context q.contexts)) (hashed_place q.set q.place) % size
 
 -- A table whose slots have learnt nothing.
 unfoldable pub fresh_slots : ℕ → List ℕ

@@ -1,9 +1,15 @@
 pub mod Fields
 pub mod Hashes
 pub mod Guesses
+pub mod Grids
 pub mod Rings
+pub mod Planes
 pub mod Pasts
+pub mod Units
+pub mod Kinds
+pub mod Hints
 pub mod Texts
 pub mod Packed
 pub mod Packing
 pub mod Unpacking
+pub mod Faults

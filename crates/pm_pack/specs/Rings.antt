@@ -1,17 +1,19 @@
 -- What is known of faces, and the ring of sides round a node. A side goes by the number of words
 -- that name it: 3 f + k + 1 is the side of face f from its corner k on, and 0 is none.
-use Rattle.std.specs.Prelude.{ℕ, zero, suc, ◌+◌, ◌-◌, ◌*◌, ◌/◌, ◌%◌, ◌==◌, nat_lt}
+use Rattle.std.specs.Prelude.{ℕ, zero, suc, ◌+◌, ◌-◌, ◌*◌, ◌/◌, ◌%◌, ◌==◌, ◌||◌, nat_lt}
 use Rattle.std.specs.Prelude.{if◌then◌else◌, List, [], ◌∷◌, ◌++◌, get_or, slice_set}
 use Rattle.pm_pack.specs.declared.ring.Spoke.{Spoke}
 
--- By side the corner that it starts at, by side the side beyond it, and by face its input word.
+-- By side the corner that it starts at, the number of the node over that, and the side beyond it,
+-- and by face its input word.
 pub record Faces : Type 0 where
   pub corners : List ℕ
+  pub nodes : List ℕ
   pub beyond : List ℕ
   pub inputs : List ℕ
 
 abbrev pub no_faces : Faces
-no_faces = record { corners = []; beyond = []; inputs = [] }
+no_faces = record { corners = []; nodes = []; beyond = []; inputs = [] }
 
 -- The side after this one in its face, and the one before.
 abbrev pub next_side : ℕ → ℕ
@@ -36,24 +38,26 @@ input_at f side = if side == 0 then 0 else get_or f.inputs ((side - 1) / 3) 0
 unfoldable pub linked : Faces → ℕ → ℕ → Faces
 linked f side other = record {
   corners = f.corners;
+  nodes = f.nodes;
   beyond = set_side (set_side f.beyond side other) other side;
   inputs = f.inputs;
 }
 
 -- One more face, with nothing beyond its sides.
-unfoldable pub with_face : Faces → List ℕ → ℕ → Faces
-with_face f corners input = record {
+unfoldable pub with_face : Faces → List ℕ → List ℕ → ℕ → Faces
+with_face f corners nodes input = record {
   corners = f.corners ++ corners;
+  nodes = f.nodes ++ nodes;
   beyond = f.beyond ++ 0 ∷ 0 ∷ 0 ∷ [];
   inputs = f.inputs ++ input ∷ [];
 }
 
--- A side that starts at a node, with the corner that it leads to.
-abbrev pub spoke : ℕ → ℕ → Spoke
-spoke side far = record { side = side; far = far }
+-- A side that starts at a node, with the corner there, and the node that it leads to.
+abbrev pub spoke : ℕ → ℕ → ℕ → Spoke
+spoke side leaf node = record { side = side; leaf = leaf; node = node }
 
 unfoldable pub spoke_at : Faces → ℕ → Spoke
-spoke_at f side = spoke side (at_side f.corners (next_side side))
+spoke_at f side = spoke side (at_side f.corners side) (at_side f.nodes (next_side side))
 
 -- The next side round the node, none where it is that from which the ring began.
 unfoldable pub turned : Faces → ℕ → ℕ → ℕ
@@ -61,32 +65,47 @@ turned f start side =
     if at_side f.beyond (previous_side side) == start then 0
     else at_side f.beyond (previous_side side)
 
+-- The side before one round the node, none where it is at the border.
+abbrev pub side_before : Faces → ℕ → ℕ
+side_before f side =
+    if at_side f.beyond side == 0 then 0 else next_side (at_side f.beyond side)
+
+-- Back round the node so many sides at most, up to the border, or to the one after the first.
+unfoldable pub back_from : ℕ → Faces → ℕ → ℕ → ℕ
+back_from zero f start side = side
+back_from (suc most) f start side =
+    if side_before f side == 0 || side_before f side == start then side
+    else back_from most f start (side_before f side)
+
+-- The side from which a ring begins, by one of its sides.
+abbrev pub first_side : Faces → ℕ → ℕ
+first_side f start = back_from 12 f start start
+
 -- The sides round a node from this one on, so many at most.
 unfoldable pub ring_from : ℕ → Faces → ℕ → ℕ → List Spoke
 ring_from zero f start side = []
 ring_from (suc most) f start side =
     if side == 0 then [] else spoke_at f side ∷ ring_from most f start (turned f start side)
 
--- The sides round the node at which this one starts, eight at most.
+-- The sides round the node at which this one starts, twelve at most.
 abbrev pub ring_of : Faces → ℕ → List Spoke
-ring_of f start = ring_from 8 f start start
+ring_of f start = ring_from 12 f start start
 
--- The corners that they lead to.
-unfoldable pub fars : List Spoke → List ℕ
-fars [] = []
-fars (s ∷ ring) = s.far ∷ fars ring
+-- A side starts at this node.
+abbrev pub owned : Faces → ℕ → ℕ → Faces
+owned f side node = record {
+  corners = f.corners;
+  nodes = set_side f.nodes side node;
+  beyond = f.beyond;
+  inputs = f.inputs;
+}
 
--- How far two numbers are from each other, and of two sides the one that leads nearer to a leaf.
-abbrev pub apart : ℕ → ℕ → ℕ
-apart a b = (a - b) + (b - a)
+-- The one of two nodes under which a leaf is: the first, where the leaf is before this one.
+abbrev pub owner : ℕ → ℕ → ℕ → ℕ → ℕ
+owner leaf end t u = if nat_lt leaf end then t else u
 
-abbrev pub nearer : ℕ → Spoke → Spoke → Spoke
-nearer leaf s best = if nat_lt (apart s.far leaf) (apart best.far leaf) then s else best
-
--- The first of the sides that lead nearest to a leaf.
-unfoldable pub nearest_from : ℕ → Spoke → List Spoke → Spoke
-nearest_from leaf best [] = best
-nearest_from leaf best (s ∷ ring) = nearest_from leaf (nearer leaf s best) ring
-
-abbrev pub nearest : ℕ → List Spoke → Spoke
-nearest leaf ring = nearest_from leaf (get_or ring 0 (spoke 0 0)) ring
+-- The sides of a ring start at t where their corners are before this leaf, and else at u.
+unfoldable pub shared : Faces → ℕ → ℕ → ℕ → List Spoke → Faces
+shared f end t u [] = f
+shared f end t u (s ∷ ring) =
+    shared (owned f s.side (owner s.leaf end t u)) end t u ring

@@ -7,7 +7,10 @@ use Rattle.pm_coder.specs.Questions.{Answer}
 use Rattle.pm_coder.specs.Guesses.{told, taught}
 use Rattle.pm_pack.specs.Fields.{first_spot}
 use Rattle.pm_pack.specs.Guesses.{guessed_answers}
-use Rattle.pm_pack.specs.Pasts.{Seen, seen_after, guess_of, firsts_of}
+use Rattle.pm_pack.specs.Grids.{no_grid}
+use Rattle.pm_pack.specs.Pasts.{Seen}
+use Rattle.pm_pack.specs.Units.{seen_after}
+use Rattle.pm_pack.specs.Hints.{guess_of, firsts_of}
 use Rattle.pm_pack.specs.Rings.{no_faces}
 
 -- What both sides know: what the predictor has learnt, and what was seen of the text.
@@ -25,6 +28,7 @@ nothing_seen = record {
   starts = [];
   ring = [];
   inner = 0;
+  grid = no_grid;
 }
 
 -- The answers for the next word.

@@ -1,9 +1,12 @@
 //! Packed texts: the words of a stream text by a range coder, each by a guess of it.
 #![tactic(auto)]
 
+mod fault;
 mod fields;
+mod grid;
 mod next;
 mod past;
+mod plane;
 mod reading;
 mod ring;
 mod slots;
@@ -14,6 +17,7 @@ mod theory;
 mod word;
 mod writing;
 
+pub use fault::{Fault, pack_fault, unpack_fault};
 pub use reading::{UnpackFail, unpack};
 pub use theory::packed_texts_are_sound;
 pub use writing::{PackFail, pack};

@@ -37,7 +37,7 @@ impl<P: Predictor + Drop> Known<P> {
     }
 
     /// The next word: who writes writes the one that is wanted, and who reads answers the one that
-    /// was written, whatever is wanted. It makes at most 73 choices. `Fault::OutOfMemory` may come
+    /// was written, whatever is wanted. It makes at most 67 choices. `Fault::OutOfMemory` may come
     /// from either, since what was seen grows.
     #[tactic(auto, unfolding(crate::specs::Texts::word_choices, crate::specs::Texts::known_after))]
     pub(crate) fn code_next<C: Coder>(&mut self, coder: &mut C, wanted: u32) -> Result<u32, Fault>

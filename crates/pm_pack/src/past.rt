@@ -1,15 +1,20 @@
 //! What was seen of a stream text, and what it lets guess of the next word.
-ghost use Rattle.std.specs.Prelude.{◌≡◌, ◌-◌, ◌≤◌, IfOk, get_or, slice_set};
-ghost use Rattle.pm_pack.specs.Pasts.{node_at, end_of, has_leaf, root_made, first_child};
-ghost use Rattle.pm_pack.specs.Pasts.{second_child, word_kept, seen_after, guess_of, split_node};
-ghost use Rattle.pm_pack.specs.Pasts.{word_at};
+ghost use Rattle.std.specs.Prelude.{◌≡◌, ◌==◌, ◌-◌, ◌≤◌, IfOk, get_or, slice_set};
+ghost use Rattle.pm_pack.specs.Planes.{node_at};
+ghost use Rattle.pm_pack.specs.Pasts.{end_of, has_leaf, root_made, first_child, second_child};
+ghost use Rattle.pm_pack.specs.Pasts.{split_node, word_at};
+ghost use Rattle.pm_pack.specs.Units.{word_kept, seen_after};
+ghost use Rattle.pm_pack.specs.Hints.{guess_of};
 ghost use Rattle.pm_pack.specs.Texts.{nothing_seen};
 
+mod corners;
 mod guessing;
+mod kinds;
 mod units;
 
 use crate::OutOfMemory;
 use crate::fields::Spot;
+use crate::grid::Grid;
 use crate::ring::{Faces, MOST, Spoke};
 use crate::word::Guess;
 use arrayvec::ArrayVec;
@@ -45,6 +50,12 @@ impl Node {
         self.first.saturating_add(self.width)
     }
 
+    fn is_leaf(self) -> bool
+        ensures { result ≡ (self.width == 1) }
+    {
+        self.width == 1
+    }
+
     fn has_leaf(self, leaf: u32) -> bool
         ensures { result ≡ has_leaf self leaf }
     {
@@ -53,8 +64,8 @@ impl Node {
 }
 
 /// Where the text is, by field the last word of that field, the nodes and the faces so far, by node
-/// a side that starts at it, the sides round the node that the record splits, and the side of the
-/// record's left face on which its right face stands.
+/// a side that starts at it, the sides round the node that the record splits, the side of the
+/// record's left face on which its right face stands, and the grid of leaves.
 #[derive(Drop)]
 pub(crate) struct Past {
     spot: Spot,
@@ -64,6 +75,7 @@ pub(crate) struct Past {
     starts: Vec<u32>,
     ring: ArrayVec<Spoke, MOST>,
     inner: u32,
+    grid: Grid,
 }
 
 impl Model for Past {
@@ -79,6 +91,7 @@ impl Model for Past {
       starts = p.starts.items;
       ring = p.ring.items;
       inner = p.inner;
+      grid = p.grid;
     } };
 }
 
@@ -96,11 +109,12 @@ impl Past {
             starts: Vec::new(alloc),
             ring: ArrayVec::new(),
             inner: 0,
+            grid: Grid::new(),
         })
     }
 
     /// The last guess of the next word.
-    #[tactic(auto, unfolding(crate::specs::Pasts::guess_of))]
+    #[tactic(auto, unfolding(crate::specs::Hints::guess_of))]
     pub(crate) fn guess(&self) -> Guess
         ensures value { result ≡ guess_of self.now }
         ensures set { result.set ≤ 99 }
@@ -113,7 +127,7 @@ impl Past {
     }
 
     /// Takes the next word. O(1) time but for the growth of the nodes and the faces.
-    #[tactic(auto, unfolding(crate::specs::Pasts::seen_after))]
+    #[tactic(auto, unfolding(crate::specs::Units::seen_after))]
     pub(crate) fn take(&mut self, word: u32) -> Result<(), OutOfMemory>
         ensures { IfOk result (λ _. self.new ≡ seen_after self.old word) }
     {
@@ -197,7 +211,8 @@ fn word_at(words: &[u32], field: u32) -> u32
     }
 }
 
-fn node_at(nodes: &[Node], i: usize) -> Node
+/// The node with this number.
+pub(crate) fn node_at(nodes: &[Node], i: usize) -> Node
     ensures { result ≡ node_at nodes.now i }
 {
     if i < nodes.len() { nodes[i] } else { NO_NODE }

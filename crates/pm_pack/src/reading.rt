@@ -150,7 +150,7 @@ fn code_in(packed: &[u8]) -> Option<&[u8]>
 }
 
 /// The stream text of a packed text. `OutOfMemory` apart, it refuses exactly the bytes that are
-/// none. It takes at most 73 choices a word, and no word after the first unit that has a fault, so
+/// none. It takes at most 67 choices a word, and no word after the first unit that has a fault, so
 /// it takes no more words than the counts of the text tell, whatever the bytes are.
 pub fn unpack(alloc: Global, packed: &[u8]) -> Result<Vec<u8>, UnpackFail>
     ensures ok { IfOk result (λ text. IsPacked packed.now text.items) }

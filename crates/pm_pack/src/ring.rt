@@ -1,8 +1,8 @@
 //! What is known of faces, and the ring of sides round a node.
-ghost use Rattle.std.specs.Prelude.{◌≡◌, ◌≤◌, ◌+◌, ◌++◌, min, OnOk, length, get_or};
+ghost use Rattle.std.specs.Prelude.{◌≡◌, min, OnOk, length};
 ghost use Rattle.pm_pack.specs.Rings.{no_faces, next_side, previous_side, at_side, set_side};
 ghost use Rattle.pm_pack.specs.Rings.{input_at, linked, with_face, spoke_at, turned, ring_of};
-ghost use Rattle.pm_pack.specs.Rings.{fars, spoke, nearer, nearest};
+ghost use Rattle.pm_pack.specs.Rings.{shared, owned, owner, side_before, first_side};
 
 use crate::OutOfMemory;
 use arrayvec::ArrayVec;
@@ -10,25 +10,23 @@ use std::alloc::Global;
 use std::marker::Model;
 
 /// How many sides round a node are looked at, at most.
-pub(crate) const MOST: usize = 8;
+pub(crate) const MOST: usize = 12;
 
-/// Corners that may be the next one.
-pub(crate) type Corners = ArrayVec<u32, 10>;
-
-/// A side that starts at a node, and the corner that it leads to. A side goes by the number of
-/// words that name it, from 1 on, and 0 is none.
+/// A side that starts at a node, the corner there, and the number of the node that it leads to. A
+/// side goes by the number of words that name it, from 1 on, and 0 is none.
 #[derive(Clone, Copy, Default)]
 pub(crate) struct Spoke {
     pub(crate) side: u32,
-    pub(crate) far: u32,
+    pub(crate) leaf: u32,
+    pub(crate) node: u32,
 }
 
-const NO_SPOKE: Spoke = Spoke { side: 0, far: 0 };
-
-/// By side the corner that it starts at, by side the side beyond it, and by face its input word.
+/// By side the corner that it starts at, the number of the node over that, and the side beyond it,
+/// and by face its input word.
 #[derive(Drop)]
 pub(crate) struct Faces {
     corners: Vec<u32>,
+    nodes: Vec<u32>,
     beyond: Vec<u32>,
     inputs: Vec<u32>,
 }
@@ -40,6 +38,7 @@ impl Model for Faces {
 
     ghost view = { λ f. record {
       corners = f.corners.items;
+      nodes = f.nodes.items;
       beyond = f.beyond.items;
       inputs = f.inputs.items;
     } };
@@ -51,6 +50,7 @@ impl Faces {
     {
         Faces {
             corners: Vec::new(alloc),
+            nodes: Vec::new(alloc),
             beyond: Vec::new(alloc),
             inputs: Vec::new(alloc),
         }
@@ -58,10 +58,16 @@ impl Faces {
 
     /// Adds a face, with nothing beyond its sides.
     #[tactic(auto, unfolding(crate::specs::Rings::with_face))]
-    pub(crate) fn add(&mut self, corners: [u32; 3], input: u32) -> Result<(), OutOfMemory>
-        ensures { OnOk result (self.new ≡ with_face self.old corners input) }
+    pub(crate) fn add(
+        &mut self,
+        corners: [u32; 3],
+        nodes: [u32; 3],
+        input: u32,
+    ) -> Result<(), OutOfMemory>
+        ensures { OnOk result (self.new ≡ with_face self.old corners nodes input) }
     {
         self.corners.extend_from_slice(&corners)?;
+        self.nodes.extend_from_slice(&nodes)?;
         self.beyond.extend_from_slice(&[0, 0, 0])?;
         self.inputs.push(input)?;
         Ok(())
@@ -83,6 +89,20 @@ impl Faces {
         self.corners.len().min(u32::MAX as usize) as u32
     }
 
+    /// The corner at which a side starts.
+    pub(crate) fn corner(&self, side: u32) -> u32
+        ensures { result ≡ at_side self.now.corners side }
+    {
+        at_side(&self.corners, side)
+    }
+
+    /// The number of the node to which a side leads.
+    pub(crate) fn far(&self, side: u32) -> u32
+        ensures { result ≡ at_side self.now.nodes (next_side side) }
+    {
+        at_side(&self.nodes, next_side(side))
+    }
+
     /// The side beyond this one.
     pub(crate) fn beyond(&self, side: u32) -> u32
         ensures { result ≡ at_side self.now.beyond side }
@@ -100,6 +120,29 @@ impl Faces {
         } else {
             0
         }
+    }
+
+    /// The side from which the ring of a node begins, by one of its sides.
+    pub(crate) fn first_side(&self, start: u32) -> u32
+        ensures { result ≡ first_side self.now start }
+    {
+        let mut side = start;
+        for _turn in 0..MOST {
+            let before = self.side_before(side);
+            if before == 0 || before == start {
+                return side;
+            }
+            side = before;
+        }
+        side
+    }
+
+    // The side before one round the node, none where it is at the border.
+    fn side_before(&self, side: u32) -> u32
+        ensures { result ≡ side_before self.now side }
+    {
+        let beyond = self.beyond(side);
+        if beyond == 0 { 0 } else { next_side(beyond) }
     }
 
     /// The sides round the node at which this one starts.
@@ -124,7 +167,8 @@ impl Faces {
     {
         Spoke {
             side,
-            far: at_side(&self.corners, next_side(side)),
+            leaf: self.corner(side),
+            node: self.far(side),
         }
     }
 
@@ -136,6 +180,29 @@ impl Faces {
         let next = self.beyond(previous_side(side));
         if next == start { 0 } else { next }
     }
+
+    fn own(&mut self, side: u32, node: u32)
+        ensures { self.new ≡ owned self.old side node }
+    {
+        set_side(&mut self.nodes, side, node);
+    }
+
+    /// Says that the sides of a ring start at `t` where their corners are before this leaf, and
+    /// else at `u`.
+    pub(crate) fn share(&mut self, ring: &[Spoke], end: u32, t: u32, u: u32)
+        ensures { self.new ≡ shared self.old end t u ring.now }
+    {
+        for spoke in ring {
+            self.own(spoke.side, owner(spoke.leaf, end, t, u));
+        }
+    }
+}
+
+// The one of two nodes under which a leaf is.
+fn owner(leaf: u32, end: u32, t: u32, u: u32) -> u32
+    ensures { result ≡ owner leaf end t u }
+{
+    if leaf < end { t } else { u }
 }
 
 /// The side after this one in its face.
@@ -167,43 +234,5 @@ fn set_side(numbers: &mut Vec<u32>, side: u32, n: u32)
 {
     if side > 0 && side as usize <= numbers.len() {
         numbers[side as usize - 1] = n;
-    }
-}
-
-/// The first of the sides that lead nearest to a leaf.
-pub(crate) fn nearest(leaf: u32, ring: &[Spoke]) -> Spoke
-    ensures { result ≡ nearest leaf ring.now }
-{
-    let mut best = first_of(ring);
-    for spoke in ring {
-        best = nearer(leaf, *spoke, best);
-    }
-    best
-}
-
-fn first_of(ring: &[Spoke]) -> Spoke
-    ensures { result ≡ get_or ring.now 0 (spoke 0 0) }
-{
-    if ring.is_empty() { NO_SPOKE } else { ring[0] }
-}
-
-// Of two sides the one that leads nearer to a leaf.
-fn nearer(leaf: u32, spoke: Spoke, best: Spoke) -> Spoke
-    ensures { result ≡ nearer leaf spoke best }
-{
-    if spoke.far.abs_diff(leaf) < best.far.abs_diff(leaf) {
-        spoke
-    } else {
-        best
-    }
-}
-
-/// Adds the corners that sides lead to.
-pub(crate) fn add_fars(corners: &mut Corners, ring: &[Spoke])
-    requires few { length corners.old.items + length ring.now ≤ 10 }
-    ensures { corners.new.items ≡ corners.old.items ++ fars ring.now }
-{
-    for spoke in ring {
-        corners.push(spoke.far);
     }
 }

@@ -2,11 +2,15 @@
 ghost use Rattle.std.specs.Prelude.{◌≡◌, ◌<◌, IfOk, length};
 ghost use Rattle.pm_coder.specs.Questions.{question};
 ghost use Rattle.pm_pack.specs.Hashes.{mixed, first_context, slot_of, fresh_slots};
+ghost use Rattle.pm_pack.specs.Hashes.{rough, hashed_place};
 
 use crate::OutOfMemory;
 use pm_coder::{NEW_SLOT, Predictor, slot_learned, slot_share};
 use std::alloc::Global;
 use std::marker::Model;
+
+// The set of the bits of a split node's number.
+const NODE_BITS: u32 = 50;
 
 /// Two questions may have one slot; that costs bits and nothing else.
 #[derive(Drop)]
@@ -62,8 +66,32 @@ fn slot_of(size: usize, set: u32, contexts: &[u32], place: u32) -> usize
     ensures slot { result ≡ slot_of size (question set contexts.now place) }
     ensures within { result < size }
 {
-    let hash = mixed(mixed(mixed(0, set), first_context(contexts)), place);
+    let hash = mixed(
+        mixed(mixed(0, set), first_context(contexts)),
+        hashed_place(set, place),
+    );
     hash as usize % size
+}
+
+// A place by its six upper bits and how many follow.
+#[tactic(auto, unfolding(crate::specs::Hashes::rough))]
+fn rough(place: u32) -> u32
+    ensures { result ≡ rough place }
+{
+    let below = 26u32.saturating_sub(place.leading_zeros());
+    (place >> below).wrapping_add(64 * (below + 4))
+}
+
+// Bits of the number of a split node are alike after the first three of them.
+#[tactic(auto, unfolding(crate::specs::Hashes::hashed_place))]
+fn hashed_place(set: u32, place: u32) -> u32
+    ensures { result ≡ hashed_place set place }
+{
+    if set == NODE_BITS && place > 511 {
+        rough(place)
+    } else {
+        place
+    }
 }
 
 fn first_context(contexts: &[u32]) -> u32

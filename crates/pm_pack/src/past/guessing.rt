@@ -1,16 +1,16 @@
 //! What the words before let guess of the next one.
-ghost use Rattle.std.specs.Prelude.{◌≡◌, ◌≤◌, length};
-ghost use Rattle.pm_pack.specs.Pasts.{input_guess, mirrored, word_guess, width_class, context_of};
-ghost use Rattle.pm_pack.specs.Pasts.{root_guess, first_guess, second_guess, face_guess};
-ghost use Rattle.pm_pack.specs.Pasts.{last_input, is_outer, outer_corner, edge, input_after};
-ghost use Rattle.pm_pack.specs.Pasts.{corner_firsts, firsts_of};
+ghost use Rattle.std.specs.Prelude.{◌≡◌};
+ghost use Rattle.pm_pack.specs.Hints.{input_guess, mirrored, leveled, root_guess, first_guess};
+ghost use Rattle.pm_pack.specs.Hints.{last_input, second_guess, corner_guess, face_guess};
+ghost use Rattle.pm_pack.specs.Hints.{word_guess, mirrored_x, mirrored_y, mirrored_z};
+ghost use Rattle.pm_pack.specs.Planes.{node};
 
-use super::Past;
-use crate::ring::{Corners, add_fars, nearest};
+use super::{Node, Past};
+use crate::plane::{normal, way_to};
 use crate::word::{ahead, moved_ahead};
 
 impl Past {
-    #[tactic(auto, unfolding(crate::specs::Pasts::word_guess))]
+    #[tactic(auto, unfolding(crate::specs::Hints::word_guess))]
     pub(super) fn word_guess(&self) -> u32
         ensures { result ≡ word_guess self.now }
     {
@@ -26,61 +26,96 @@ impl Past {
         }
     }
 
-    #[tactic(auto, unfolding(crate::specs::Pasts::root_guess))]
+    #[tactic(auto, unfolding(crate::specs::Hints::root_guess))]
     fn root_guess(&self, field: u32) -> u32
         ensures { result ≡ root_guess self.now field }
     {
-        if field == 11 {
-            input_guess(self.word(10), self.word(11))
-        } else {
+        if field != 11 {
             self.word(field)
+        } else if self.word(10) == 1 {
+            self.word(11).saturating_add(1)
+        } else {
+            0
         }
     }
 
-    #[tactic(auto, unfolding(crate::specs::Pasts::first_guess))]
+    #[tactic(auto, unfolding(crate::specs::Hints::first_guess))]
     fn first_guess(&self, field: u32) -> u32
         ensures { result ≡ first_guess self.now field }
     {
         let split = self.split_node();
-        if field == 17 {
+        if field == 16 {
+            self.count()
+        } else if field == 17 {
             split.width
         } else if field == 18 {
-            split.x
+            self.grid.x.near(self.word(17), split.x)
         } else if field == 19 {
-            split.y
+            self.grid.y.near(self.word(17), split.y)
         } else if field == 20 {
-            split.z
-        } else if field == 21 {
-            input_guess(self.word(17), self.word(21))
+            let level = self.leveled(self.word(18), self.word(19), split.z);
+            self.grid.z.near(self.word(17), level)
         } else {
-            self.word(field)
+            self.input_guess(self.first_child(), self.word(21))
         }
     }
 
-    #[tactic(auto, unfolding(crate::specs::Pasts::second_guess))]
+    #[tactic(auto, unfolding(crate::specs::Hints::second_guess))]
     fn second_guess(&self, field: u32) -> u32
         ensures { result ≡ second_guess self.now field }
     {
-        let split = self.split_node();
+        let child = self.second_child();
         if field == 22 {
-            mirrored(split.x, self.word(18))
+            self.grid.x.near(child.width, self.mirrored_x())
         } else if field == 23 {
-            mirrored(split.y, self.word(19))
+            self.grid.y.near(child.width, self.mirrored_y())
         } else if field == 24 {
-            mirrored(split.z, self.word(20))
+            let level = self.leveled(self.word(22), self.word(23), self.mirrored_z());
+            self.grid.z.near(child.width, level)
         } else if field == 25 {
-            input_guess(self.second_width(), self.last_input())
+            self.input_guess(child, self.last_input())
         } else {
             3
         }
     }
 
-    #[tactic(auto, unfolding(crate::specs::Pasts::face_guess))]
+    // The mirrored coordinates of t.
+    fn mirrored_x(&self) -> u32
+        ensures { result ≡ mirrored_x self.now }
+    {
+        mirrored(self.split_node().x, self.word(18))
+    }
+
+    fn mirrored_y(&self) -> u32
+        ensures { result ≡ mirrored_y self.now }
+    {
+        mirrored(self.split_node().y, self.word(19))
+    }
+
+    fn mirrored_z(&self) -> u32
+        ensures { result ≡ mirrored_z self.now }
+    {
+        mirrored(self.split_node().z, self.word(20))
+    }
+
+    // The height by the plane round the split node, and another word where that is steep.
+    #[tactic(auto, unfolding(crate::specs::Hints::leveled))]
+    fn leveled(&self, x: u32, y: u32, other: u32) -> u32
+        ensures { result ≡ leveled self.now x y other }
+    {
+        let split = self.split_node();
+        let normal = normal(&self.nodes, split, self.ring.as_slice());
+        normal.level(split, way_to(split, at_place(x, y)), other)
+    }
+
+    #[tactic(auto, unfolding(crate::specs::Hints::face_guess))]
     fn face_guess(&self, field: u32) -> u32
         ensures { result ≡ face_guess self.now field }
     {
-        if field < 30 {
+        if field == 27 {
             self.split_node().first
+        } else if field < 30 {
+            self.corner_guess(self.word(field.saturating_sub(1)))
         } else if field == 30 {
             self.input_after(self.edge())
         } else if field == 31 {
@@ -89,6 +124,20 @@ impl Past {
             self.edge()
         } else {
             self.faces.beyond(self.word(31))
+        }
+    }
+
+    // A corner after another one.
+    #[tactic(auto, unfolding(crate::specs::Hints::corner_guess))]
+    fn corner_guess(&self, last: u32) -> u32
+        ensures { result ≡ corner_guess self.now last }
+    {
+        if self.own_child().has_leaf(last) {
+            self.other_child().first
+        } else if self.other_child().has_leaf(last) {
+            self.split_node().first
+        } else {
+            self.own_child().first
         }
     }
 
@@ -103,92 +152,32 @@ impl Past {
         }
     }
 
-    fn is_outer(&self, leaf: u32) -> bool
-        ensures { result ≡ is_outer self.now leaf }
+    // An input word: 0 for a node of more than one leaf, else by the grid, and where there is none
+    // the one after the last of its kind.
+    #[tactic(auto, unfolding(crate::specs::Hints::input_guess))]
+    fn input_guess(&self, node: Node, last: u32) -> u32
+        ensures { result ≡ input_guess self.now node last }
     {
-        !(self.first_child().has_leaf(leaf) || self.second_child().has_leaf(leaf))
-    }
-
-    // The new face's corner under neither child.
-    fn outer_corner(&self) -> u32
-        ensures { result ≡ outer_corner self.now }
-    {
-        if self.is_outer(self.word(27)) {
-            self.word(27)
-        } else if self.is_outer(self.word(28)) {
-            self.word(28)
-        } else {
-            self.word(29)
-        }
-    }
-
-    // The side of the ring that leads nearest to it.
-    fn edge(&self) -> u32
-        ensures { result ≡ edge self.now }
-    {
-        nearest(self.outer_corner(), self.ring.as_slice()).side
-    }
-
-    fn input_after(&self, side: u32) -> u32
-        ensures { result ≡ input_after self.now side }
-    {
-        self.faces.input(side).saturating_add(1)
-    }
-
-    /// What is guessed of the next word before the last guess.
-    #[tactic(auto, unfolding(crate::specs::Pasts::firsts_of))]
-    pub(crate) fn firsts(&self) -> Corners
-        ensures { result.items ≡ firsts_of self.now }
-    {
-        let field = self.spot.field;
-        let mut firsts = Corners::new();
-        if field == 27 {
-            firsts.push(self.own_child().first);
-            firsts.push(self.other_child().first);
-            add_fars(&mut firsts, self.ring.as_slice());
-        } else if field == 28 || field == 29 {
-            return self.corner_firsts(self.word(field - 1));
-        } else if field == 30 {
-            firsts.push(self.input_after(self.faces.beyond(self.edge())));
-        }
-        firsts
-    }
-
-    // What is guessed of a corner, by the one before it.
-    fn corner_firsts(&self, last: u32) -> Corners
-        ensures { result.items ≡ corner_firsts self.now last }
-    {
-        let mut firsts = Corners::new();
-        if self.own_child().has_leaf(last) {
-            firsts.push(self.other_child().first);
-        } else if self.other_child().has_leaf(last) {
-            add_fars(&mut firsts, self.ring.as_slice());
-        } else {
-            firsts.push(self.own_child().first);
-        }
-        firsts
-    }
-
-    #[tactic(auto, unfolding(crate::specs::Pasts::context_of))]
-    pub(super) fn context(&self) -> u32
-        ensures { result ≡ context_of self.now }
-    {
-        if self.spot.field < 17 {
+        if !node.is_leaf() {
             0
+        } else if self.grid.is_grid() {
+            self.grid.input_by(node)
         } else {
-            16 * width_class(self.split_node().width) + width_class(self.word(17))
+            last.saturating_add(1)
         }
     }
 }
 
-// The input word of a node: 0 where it has more than one leaf.
-fn input_guess(width: u32, last: u32) -> u32
-    ensures { result ≡ input_guess width last }
+// A node at these coordinates.
+fn at_place(x: u32, y: u32) -> Node
+    ensures { result ≡ node x y 0 0 0 }
 {
-    if width == 1 {
-        last.saturating_add(1)
-    } else {
-        0
+    Node {
+        x,
+        y,
+        z: 0,
+        first: 0,
+        width: 0,
     }
 }
 
@@ -196,23 +185,4 @@ fn mirrored(over: u32, from: u32) -> u32
     ensures { result ≡ mirrored over from }
 {
     moved_ahead(over, ahead(from, over))
-}
-
-// How many leaves, roughly.
-#[tactic(auto, unfolding(crate::specs::Pasts::width_class))]
-fn width_class(width: u32) -> u32
-    ensures value { result ≡ width_class width }
-    ensures most { result ≤ 11 }
-{
-    if width < 8 {
-        width
-    } else if width < 32 {
-        8
-    } else if width < 256 {
-        9
-    } else if width < 4096 {
-        10
-    } else {
-        11
-    }
 }

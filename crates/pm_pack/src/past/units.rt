@@ -1,16 +1,20 @@
 //! What the end of a unit makes known.
 ghost use Rattle.std.specs.Prelude.{◌≡◌, ◌≤◌, OnOk, get_or, length};
-ghost use Rattle.pm_pack.specs.Pasts.{root_ended, base_ended, head_ended, face_ended, unit_ended};
-ghost use Rattle.pm_pack.specs.Pasts.{is_left, own_child, other_child, inner_corner, inner_made};
-ghost use Rattle.pm_pack.specs.Pasts.{own_place, other_place, faces_made, starts_made};
+ghost use Rattle.pm_pack.specs.Grids.{capped};
+ghost use Rattle.pm_pack.specs.Pasts.{first_child, is_left};
+ghost use Rattle.pm_pack.specs.Units.{root_ended, base_ended, split_ended, head_ended};
+ghost use Rattle.pm_pack.specs.Units.{face_ended, unit_ended, inner_corner, inner_made, over};
+ghost use Rattle.pm_pack.specs.Units.{own_place, other_place, faces_made, starts_made, is_leaf};
+ghost use Rattle.pm_pack.specs.Units.{grid_paired, grid_made, faces_shared};
 
 use super::{Node, Past, set_at, word_at};
 use crate::OutOfMemory;
+use crate::grid::Grid;
 use crate::ring::{next_side, previous_side};
 
 impl Past {
     // After a word that is this field.
-    #[tactic(auto, unfolding(crate::specs::Pasts::unit_ended))]
+    #[tactic(auto, unfolding(crate::specs::Units::unit_ended))]
     pub(super) fn end_unit(&mut self, field: u32) -> Result<(), OutOfMemory>
         ensures { OnOk result (self.new ≡ unit_ended field self.old) }
     {
@@ -18,6 +22,9 @@ impl Past {
             self.end_root()
         } else if field == 15 {
             self.end_base()
+        } else if field == 16 {
+            self.end_split();
+            Ok(())
         } else if field == 26 {
             self.end_head()
         } else if field == 32 {
@@ -27,7 +34,7 @@ impl Past {
         }
     }
 
-    #[tactic(auto, unfolding(crate::specs::Pasts::root_ended))]
+    #[tactic(auto, unfolding(crate::specs::Units::root_ended))]
     fn end_root(&mut self) -> Result<(), OutOfMemory>
         ensures { OnOk result (self.new ≡ root_ended self.old) }
     {
@@ -37,29 +44,76 @@ impl Past {
         Ok(())
     }
 
-    #[tactic(auto, unfolding(crate::specs::Pasts::base_ended))]
+    #[tactic(auto, unfolding(crate::specs::Units::base_ended))]
     fn end_base(&mut self) -> Result<(), OutOfMemory>
         ensures { OnOk result (self.new ≡ base_ended self.old) }
     {
         let corners = [self.word(12), self.word(13), self.word(14)];
         let input = self.word(15);
-        self.faces.add(corners, input)
+        self.faces.add(corners, [0, 0, 0], input)
     }
 
-    #[tactic(auto, unfolding(crate::specs::Pasts::head_ended))]
+    // After the node that a record splits.
+    #[tactic(auto, unfolding(crate::specs::Units::split_ended))]
+    fn end_split(&mut self)
+        ensures { self.new ≡ split_ended self.old }
+    {
+        let start = word_at(&self.starts, self.word(16));
+        self.ring = self.faces.ring(self.faces.first_side(start));
+    }
+
+    #[tactic(auto, unfolding(crate::specs::Units::head_ended, crate::specs::Units::faces_shared))]
     fn end_head(&mut self) -> Result<(), OutOfMemory>
         ensures { OnOk result (self.new ≡ head_ended self.old) }
     {
         let children = [self.first_child(), self.second_child()];
-        let start = word_at(&self.starts, self.word(16));
-        self.ring = self.faces.ring(start);
+        let t = self.count();
+        self.grid = self.grid_made();
+        let end = self.first_child().end();
+        (self.faces).share(self.ring.as_slice(), end, t, t.saturating_add(1));
         self.inner = 0;
         self.nodes.extend_from_slice(&children)?;
         self.starts.extend_from_slice(&[0, 0])?;
         Ok(())
     }
 
-    #[tactic(auto, unfolding(crate::specs::Pasts::face_ended, crate::specs::Pasts::faces_made, crate::specs::Pasts::starts_made))]
+    // How many nodes there are.
+    pub(super) fn count(&self) -> u32
+        ensures { result ≡ capped (length self.now.nodes) }
+    {
+        self.nodes.len().min(u32::MAX as usize) as u32
+    }
+
+    // The grid after the children where both are leaves.
+    #[tactic(auto, unfolding(crate::specs::Units::grid_paired))]
+    fn grid_paired(&self) -> Grid
+        ensures { result ≡ grid_paired self.now }
+    {
+        let (t, u) = (self.first_child(), self.second_child());
+        if t.is_leaf() && u.is_leaf() {
+            self.grid.with_pair(t, u, self.word(21), self.word(25))
+        } else {
+            self.grid
+        }
+    }
+
+    // The grid after the last leaf of the children.
+    #[tactic(auto, unfolding(crate::specs::Units::grid_made))]
+    fn grid_made(&self) -> Grid
+        ensures { result ≡ grid_made self.now }
+    {
+        let (t, u) = (self.first_child(), self.second_child());
+        let grid = self.grid_paired();
+        if u.is_leaf() {
+            grid.with_leaf(u, self.word(25))
+        } else if t.is_leaf() {
+            grid.with_leaf(t, self.word(21))
+        } else {
+            grid
+        }
+    }
+
+    #[tactic(auto, unfolding(crate::specs::Units::face_ended, crate::specs::Units::faces_made, crate::specs::Units::starts_made))]
     fn end_face(&mut self) -> Result<(), OutOfMemory>
         ensures { OnOk result (self.new ≡ face_ended self.old) }
     {
@@ -71,7 +125,7 @@ impl Past {
     }
 
     // Adds the new face, with what stands beyond its sides.
-    #[tactic(auto, unfolding(crate::specs::Pasts::faces_made))]
+    #[tactic(auto, unfolding(crate::specs::Units::faces_made))]
     fn add_face(&mut self, inner: u32) -> Result<(), OutOfMemory>
         requires { inner ≡ inner_made self.old }
         ensures { OnOk result (self.new ≡ record {
@@ -82,11 +136,17 @@ impl Past {
           starts = self.old.starts;
           ring = self.old.ring;
           inner = self.old.inner;
+          grid = self.old.grid;
         }) }
     {
         let corners = [self.word(27), self.word(28), self.word(29)];
         let (input, second, third) = (self.word(30), self.word(31), self.word(32));
-        self.faces.add(corners, input)?;
+        let nodes = [
+            self.over(corners[0]),
+            self.over(corners[1]),
+            self.over(corners[2]),
+        ];
+        self.faces.add(corners, nodes, input)?;
         self.faces.link(next_side(inner), second);
         self.faces.link(previous_side(inner), third);
         self.faces.link(inner, self.inner);
@@ -94,7 +154,7 @@ impl Past {
     }
 
     // Sides of the new face start at both children.
-    #[tactic(auto, unfolding(crate::specs::Pasts::starts_made))]
+    #[tactic(auto, unfolding(crate::specs::Units::starts_made))]
     fn set_starts(&mut self, inner: u32)
         requires { inner ≡ inner_made self.old }
         ensures { self.new ≡ record {
@@ -105,6 +165,7 @@ impl Past {
           starts = starts_made self.old;
           ring = self.old.ring;
           inner = self.old.inner;
+          grid = self.old.grid;
         } }
     {
         let left = self.is_left();
@@ -114,32 +175,19 @@ impl Past {
         set_at(&mut self.starts, other, next_side(inner));
     }
 
-    // Whether the new face is the record's left one.
-    fn is_left(&self) -> bool
-        ensures { result ≡ is_left self.now }
+    // The node over a corner of the new face.
+    fn over(&self, leaf: u32) -> u32
+        ensures { result ≡ over self.now leaf }
     {
-        self.word(26) != 2 && self.inner == 0
-    }
-
-    // The child under which the new face's inner side starts.
-    pub(super) fn own_child(&self) -> Node
-        ensures { result ≡ own_child self.now }
-    {
-        if self.is_left() {
-            self.first_child()
+        let count = self.nodes.len();
+        let place = if self.first_child().has_leaf(leaf) {
+            count.saturating_sub(2)
+        } else if self.second_child().has_leaf(leaf) {
+            count.saturating_sub(1)
         } else {
-            self.second_child()
-        }
-    }
-
-    pub(super) fn other_child(&self) -> Node
-        ensures { result ≡ other_child self.now }
-    {
-        if self.is_left() {
-            self.second_child()
-        } else {
-            self.first_child()
-        }
+            return self.faces.far(self.edge());
+        };
+        place.min(u32::MAX as usize) as u32
     }
 
     // The corner from which the inner side starts.

@@ -1,0 +1,182 @@
+//! Of what kind the next word is.
+ghost use Rattle.std.specs.Prelude.{◌≡◌, ◌≤◌, ◌-◌};
+ghost use Rattle.std.specs.Int.Count.{count_leading_zeros};
+ghost use Rattle.pm_pack.specs.Kinds.{width_class, sibling, distance, reach, place_kind};
+ghost use Rattle.pm_pack.specs.Kinds.{coordinate_kind, corner_kind, is_outer, outer_place, turn};
+ghost use Rattle.pm_pack.specs.Kinds.{most_leaves, face_kind, context_of};
+
+use super::{Node, Past, node_at};
+use crate::grid::{Axis, place_of};
+
+impl Past {
+    /// The kind of the next word.
+    #[tactic(auto, unfolding(crate::specs::Kinds::context_of))]
+    pub(super) fn context(&self) -> u32
+        ensures { result ≡ context_of self.now }
+    {
+        let field = self.spot.field;
+        if field < 17 {
+            0
+        } else if field > 17 && field < 21 || field > 21 && field < 25 {
+            self.coordinate_kind(field)
+        } else if field > 26 && field < 30 {
+            self.corner_kind()
+        } else if field == 30 {
+            self.face_kind()
+        } else {
+            16 * width_class(self.split_node().width) + width_class(self.word(17))
+        }
+    }
+
+    #[tactic(auto, unfolding(crate::specs::Kinds::coordinate_kind))]
+    fn coordinate_kind(&self, field: u32) -> u32
+        ensures { result ≡ coordinate_kind self.now field }
+    {
+        let (first, second) = (self.word(17), self.second_child().width);
+        if field == 18 {
+            self.place_kind(self.grid.x, first)
+        } else if field == 19 {
+            self.place_kind(self.grid.y, first)
+        } else if field == 20 {
+            self.place_kind(self.grid.z, first)
+        } else if field == 22 {
+            self.place_kind(self.grid.x, second)
+        } else if field == 23 {
+            self.place_kind(self.grid.y, second)
+        } else {
+            self.place_kind(self.grid.z, second)
+        }
+    }
+
+    // On the grid, or by how far nodes are from each other here.
+    #[tactic(auto, unfolding(crate::specs::Kinds::place_kind))]
+    fn place_kind(&self, axis: Axis, width: u32) -> u32
+        ensures { result ≡ place_kind self.now axis width }
+    {
+        if width == 1 && axis.is_grid() {
+            1
+        } else {
+            16 + self.reach()
+        }
+    }
+
+    // How many bits the distance of the split node and its sibling has.
+    #[tactic(auto, unfolding(crate::specs::Kinds::reach))]
+    fn reach(&self) -> u32
+        ensures value { result ≡ reach self.now }
+        ensures most { result ≤ 32 }
+    {
+        let sibling = node_at(&self.nodes, self.sibling(self.word(16)) as usize);
+        bits(distance(self.split_node(), sibling))
+    }
+
+    // The node that the same record made, a root itself.
+    #[tactic(auto, unfolding(crate::specs::Kinds::sibling))]
+    fn sibling(&self, n: u32) -> u32
+        ensures { result ≡ sibling self.now n }
+    {
+        let roots = self.word(4);
+        if n < roots {
+            n
+        } else if (n - roots) % 2 == 0 {
+            n.saturating_add(1)
+        } else {
+            n.saturating_sub(1)
+        }
+    }
+
+    // How many leaves the children have, and how the faces on the edge are turned.
+    #[tactic(auto, unfolding(crate::specs::Kinds::corner_kind))]
+    fn corner_kind(&self) -> u32
+        ensures { result ≡ corner_kind self.now }
+    {
+        let (own, other) = (
+            self.own_child().width.min(3),
+            self.other_child().width.min(3),
+        );
+        let edge = self.edge();
+        16 * (16 * own + other) + (edge % 3 * 3 + self.faces.beyond(edge) % 3)
+    }
+
+    fn is_outer(&self, leaf: u32) -> bool
+        ensures { result ≡ is_outer self.now leaf }
+    {
+        !(self.first_child().has_leaf(leaf) || self.second_child().has_leaf(leaf))
+    }
+
+    // Which corner of the new face is under neither child.
+    fn outer_place(&self) -> u32
+        ensures value { result ≡ outer_place self.now }
+        ensures most { result ≤ 2 }
+    {
+        if self.is_outer(self.word(27)) {
+            0
+        } else if self.is_outer(self.word(28)) {
+            1
+        } else {
+            2
+        }
+    }
+
+    // How a face is turned, and whether its input word is odd.
+    fn turn(&self, side: u32) -> u32
+        ensures value { result ≡ turn self.now side }
+        ensures most { result ≤ 5 }
+    {
+        side % 3 * 2 + self.faces.input(side) % 2
+    }
+
+    // How many leaves the greater child has.
+    fn most_leaves(&self) -> u32
+        ensures { result ≡ most_leaves self.now }
+    {
+        self.own_child().width.max(self.other_child().width)
+    }
+
+    // How a new face and those on its edge are turned, and how many leaves the children have.
+    #[tactic(auto, unfolding(crate::specs::Kinds::face_kind))]
+    fn face_kind(&self) -> u32
+        ensures { result ≡ face_kind self.now }
+    {
+        let edge = self.edge();
+        let beyond = self.turn(self.faces.beyond(edge));
+        4 * (36 * self.outer_place() + 6 * self.turn(edge) + beyond) + self.most_leaves().min(3)
+    }
+}
+
+// How far two nodes are from each other along the axes.
+#[tactic(auto, unfolding(crate::specs::Kinds::distance))]
+fn distance(a: Node, b: Node) -> u32
+    ensures { result ≡ distance a b }
+{
+    let along_x = place_of(a.x).abs_diff(place_of(b.x));
+    let along_y = place_of(a.y).abs_diff(place_of(b.y));
+    let along_z = place_of(a.z).abs_diff(place_of(b.z));
+    along_x + along_y + along_z
+}
+
+fn bits(n: u32) -> u32
+    ensures value { result ≡ 32 - count_leading_zeros 32 n }
+    ensures most { result ≤ 32 }
+{
+    u32::BITS - n.leading_zeros()
+}
+
+// How many leaves, roughly.
+#[tactic(auto, unfolding(crate::specs::Kinds::width_class))]
+fn width_class(width: u32) -> u32
+    ensures value { result ≡ width_class width }
+    ensures most { result ≤ 11 }
+{
+    if width < 8 {
+        width
+    } else if width < 32 {
+        8
+    } else if width < 256 {
+        9
+    } else if width < 4096 {
+        10
+    } else {
+        11
+    }
+}
