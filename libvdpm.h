@@ -3,7 +3,8 @@
  * A viewer is one hierarchy that is being shown: the bytes of a stream, a front of it, and the
  * reply to the last script line. It does what `vdpm live` does (docs/commands/view.md,
  * docs/FORMATS.md), without a process and without text where arrays serve better. Streams are made
- * here too: vdpm_prepare, vdpm_build and vdpm_simplify do what the programs do with a text.
+ * here too: vdpm_prepare, vdpm_build and vdpm_simplify do what the programs do with a text, and
+ * vdpm_pack and vdpm_unpack what `pack` does with a stream.
  * docs/LIBRARY.md tells how to build and use it, and what is proved of it.
  *
  * Ownership. A vdpm_viewer is the caller's: a variable or a field, all zero at first
@@ -233,6 +234,27 @@ uint32_t vdpm_fits(vdpm_viewer *viewer, uint32_t channels, const int32_t *by_ver
 uint32_t vdpm_inputs(vdpm_viewer *viewer, uint32_t *by_node, size_t by_node_room, uint32_t *by_face,
                      size_t by_face_room, uint32_t *faces);
 
+/* The bounding box of a mesh: on each axis the least and the greatest coordinate, in units. */
+typedef struct vdpm_box {
+    int32_t low[3];
+    int32_t high[3];
+} vdpm_box;
+
+/* Tells the bounding box of the complete mesh, all 0 where that has no vertex. What is shown
+ * doesn't bear on it. Answers VDPM_DONE or VDPM_NOT_SO. */
+uint32_t vdpm_extent(vdpm_viewer *viewer, vdpm_box *box);
+
+/* How fine the mesh that is shown is. */
+typedef struct vdpm_fineness {
+    uint64_t error;     /* the greatest error of a node shown, in units: no vertex of the complete
+                         * mesh is farther than this from the node that shows it */
+    uint64_t deviation; /* the greatest deviation of one, by which views by deviation judge it */
+    uint32_t split;     /* how many records are split */
+} vdpm_fineness;
+
+/* Tells how fine the mesh that is shown is. Answers VDPM_DONE or VDPM_NOT_SO. */
+uint32_t vdpm_level(vdpm_viewer *viewer, vdpm_fineness *fineness);
+
 /* Closes a viewer and gives its memory back. One that isn't open stays as it is. */
 void vdpm_close(vdpm_viewer *viewer);
 
@@ -247,8 +269,8 @@ typedef struct vdpm_made {
  * are 0 beside each answer but VDPM_FAULTY. */
 typedef struct vdpm_fault {
     uint32_t number; /* 0 where there is none */
-    uint64_t place;  /* the line, face or vertex, counted from 1, or the byte of a binary file,
-                        counted from 0; 0 where it has none */
+    uint64_t place;  /* the line, face or vertex, counted from 1, or the byte of a binary file or
+                        the unit of a stream, counted from 0; 0 where it has none */
 } vdpm_fault;
 
 /* Makes the stream of an OBJ text, `length` bytes, as `vdpm build FACES --digits DIGITS` does: its
@@ -273,8 +295,15 @@ uint32_t vdpm_simplify(const uint8_t *text, size_t length, uint32_t faces, uint3
 uint32_t vdpm_prepare(const uint8_t *text, size_t length, uint32_t size, vdpm_made *made,
                       vdpm_fault *fault);
 
-/* Tells how many bytes were made, and how many the lines have that are said beside them: 0 after
- * vdpm_build and vdpm_simplify. */
+/* Packs a stream as the program `pack` does, and unpacks one as `pack --unpack` does:
+ * vdpm_made_bytes has the packed text then, or the stream, byte for byte the one that was packed.
+ * Each answers as vdpm_build does, but for VDPM_OUT_OF_RANGE. A fault's place is the number that
+ * `pack` says beside it: of the version, byte, root, face, record, input or digits. */
+uint32_t vdpm_pack(const uint8_t *stream, size_t length, vdpm_made *made, vdpm_fault *fault);
+uint32_t vdpm_unpack(const uint8_t *packed, size_t length, vdpm_made *made, vdpm_fault *fault);
+
+/* Tells how many bytes were made, and how many the lines have that are said beside them: 0 but
+ * after vdpm_prepare. */
 uint32_t vdpm_made_length(vdpm_made *made, size_t *bytes, size_t *notes);
 
 /* Copies what was made, or the lines that are said beside it, to the front of `room` bytes, without

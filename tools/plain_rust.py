@@ -4,12 +4,12 @@
     python3 tools/plain_rust.py OUT
     python3 tools/plain_rust.py --wasm OUT.wasm
 
-OUT is a new folder, or a package that was made before. In it `cargo build --release` gives vdpm,
-prepare, simplify and pack, and a library; the feature `c` adds the functions of libvdpm.h. Nothing
-in the package is proved. A form of a source that isn't known, or that Rust would run differently,
-ends the making with status 1 and its place, and OUT stays as it was. With `--wasm` the functions of
-libvdpm.h are built as one WebAssembly module, by whichever compiler for it is here; tools/wasm has
-a class over it.
+OUT is a new folder, or a package that was made before. In it `cargo build --release` gives the
+programs and a library; the feature `c` adds the functions of libvdpm.h. Nothing in the package is
+proved. A form of a source that isn't known, or that Rust would run differently, ends the making
+with status 1 and its place, and OUT stays as it was. With `--wasm` the functions of libvdpm.h are
+built as one WebAssembly module, by whichever compiler for it is here; tools/wasm has a class over
+it.
 """
 import sys
 import tempfile

@@ -189,7 +189,8 @@ class NotTexts(unittest.TestCase):
         corners = (0.0, 0.0, 0.0, 10.0, 0.0, 0.0, 0.0, 10.0, 0.0)
         stl = bytes(80) + (1).to_bytes(4, "little") + struct.pack("<12fH", 0, 0, 1, *corners, 0)
         text = b"# coordinates as they stood\nv 0 0 0\nv 10 0 0\nv 0 10 0\nf 1 2 3\n"
-        self.assertEqual(vdpm.prepare(stl).text, text)
+        made = vdpm.prepare(stl)
+        self.assertEqual((made.text, made.notes), (text, ("prepare: 1 normal ignored",)))
         with self.assertRaises(vdpm.TextFault) as raised:
             vdpm.prepare(stl[:-1])
         self.assertEqual((raised.exception.number, raised.exception.place), (21, 133))

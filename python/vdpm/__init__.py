@@ -10,9 +10,11 @@
         frame = session.frame()
         print(len(frame.nodes), "vertices,", len(frame.faces), "faces")
 
-Making: `prepare` makes any OBJ, PLY or STL file fit, `simplify` and `build` make the stream of one.
-Showing: a `Session` shows a stream, `Session.view` adapts it to a view, and `Session.frame` and
-`Session.change` answer arrays: numpy's where numpy is there, else flat `array.array`s.
+Making: `prepare` makes any OBJ, PLY or STL file fit, `simplify` and `build` make the stream of one,
+`pack` makes it a sixth as long, and `unpack` gives it back.
+Showing: a `Session` shows a stream, packed or not, `Session.view` adapts it to a view, and
+`Session.frame` and `Session.change` answer arrays: numpy's where numpy is there, else flat
+`array.array`s.
 
 Units: coordinates are whole numbers of units of 10 to the power of minus `Session.sizes().digits`;
 `Prepared.scale` gives coordinates back for what `prepare` made. Pixels are those of the picture
@@ -29,11 +31,11 @@ from .camera import Camera, camera
 from .faults import Fault, LineFault, NotMesh, NotOpen, StreamFault, TextFault
 from .library import NONE as NO_VERTEX
 from .library import Version, version
-from .making import Prepared, build, prepare, simplify
+from .making import Prepared, build, pack, prepare, simplify, unpack
 from .session import Session
 from .shapes import Bounds, Change, Frame, Hit, Inputs, Level, Moved, Shape, Sizes, Strips
 
 __all__ = ["Bounds", "Camera", "Change", "Fault", "Frame", "Hit", "Inputs", "Level", "LineFault",
            "Moved", "NO_VERTEX", "NotMesh", "NotOpen", "Prepared", "Session", "Shape", "Sizes",
-           "StreamFault", "Strips", "TextFault", "Version", "build", "camera", "prepare",
-           "simplify", "version"]
+           "StreamFault", "Strips", "TextFault", "Version", "build", "camera", "pack",
+           "prepare", "simplify", "unpack", "version"]

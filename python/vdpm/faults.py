@@ -27,6 +27,15 @@ OF_STREAM: Table = {
          "build it again; without decimals a stream has version 1"),
 }
 
+# Of a packed text, or of what it says.
+OF_PACKED: Table = {
+    **{number: (f"the stream in it: {meaning}", word, "pack the stream again")
+       for number, (meaning, word, _) in OF_STREAM.items()},
+    34: ("it doesn't begin with VDPK and version 1", "", "give it what `pack` wrote"),
+    35: ("it is cut off or damaged", "", "copy the file again, as binary"),
+    36: ("a byte follows it", "", "cut off what follows"),
+}
+
 OF_TEXT: Table = {
     1: ("it has more than 65,536 bytes", "line", "split it"),
     2: ("it ends with a backslash", "line", "join continued lines"),
@@ -126,7 +135,7 @@ class Fault(ValueError):
 
 
 class StreamFault(Fault):
-    """The bytes are no stream."""
+    """The bytes are no stream, or no packed text."""
 
 
 class LineFault(Fault):

@@ -35,6 +35,16 @@ class Told(ctypes.Structure):
     _fields_ = [("number", ctypes.c_uint32), ("place", ctypes.c_uint64)]
 
 
+class Fineness(ctypes.Structure):
+    """How fine the mesh that is shown is, as the library tells it."""
+
+    error: int
+    deviation: int
+    split: int
+    _fields_ = [("error", ctypes.c_uint64), ("deviation", ctypes.c_uint64),
+                ("split", ctypes.c_uint32)]
+
+
 class Look(ctypes.Structure):
     """A view, but for its planes."""
 
@@ -122,11 +132,15 @@ def load(path: Optional[str] = None) -> ctypes.CDLL:
         "means": [handle, number, SHORT, size, SHORT, size],
         "fits": [handle, number, SIGNED, size, SIGNED, size],
         "inputs": [handle, NUMBERS, size, NUMBERS, size, NUMBERS],
+        "extent": [handle, SIGNED],
+        "level": [handle, ctypes.POINTER(Fineness)],
         "version": [],
         "close": [handle],
         "build": [text, size, number, number, handle, told],
         "simplify": [text, size, number, number, number, handle, told],
         "prepare": [text, size, number, handle, told],
+        "pack": [text, size, handle, told],
+        "unpack": [text, size, handle, told],
         "made_length": [handle, count, count],
         "made_bytes": [handle, BYTES, size],
         "made_notes": [handle, BYTES, size],
@@ -160,6 +174,13 @@ def check_made(status: int, told: Told, table: Table) -> None:
     """Raises what a status says of a text."""
     if status == FAULTY:
         raise TextFault(told.number, told.place or None, table)
+    check(status)
+
+
+def check_packed(status: int, told: Told, table: Table) -> None:
+    """Raises what a status says of a stream, whose units are counted from 0."""
+    if status == FAULTY:
+        raise StreamFault(told.number, told.place, table)
     check(status)
 
 

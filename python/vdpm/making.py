@@ -1,13 +1,13 @@
-"""Making a text fit, and making a stream of it."""
+"""Making a text fit, making a stream of it, and packing that."""
 import ctypes
 import os
 import re
 from fractions import Fraction
-from typing import Any, NamedTuple, Optional, Tuple
+from typing import Any, Callable, NamedTuple, Optional, Tuple
 
-from .faults import OF_ANY_TEXT, OF_TEXT, NotMesh, Table, TextFault
-from .library import (MOST_NUMBER, Handle, Text, Told, bytes_of, check, check_made, load,
-                      number_to)
+from .faults import OF_ANY_TEXT, OF_PACKED, OF_STREAM, OF_TEXT, NotMesh, Table, TextFault
+from .library import (MOST_NUMBER, Handle, Text, Told, bytes_of, check, check_made, check_packed,
+                      load, number_to)
 
 MOST_DIGITS, MOST_SIZE = 4, 32767
 PLACED = re.compile(r"coordinate = (\S+) / (\d+) \* place \+ \((\S+) (\S+) (\S+)\)")
@@ -15,7 +15,7 @@ FACE = re.compile(rb"^[ \t]*f[ \t]", re.MULTILINE)
 SUFFIX = re.compile(r"\.[A-Za-z]\w{0,7}\Z")
 # How files of other kinds begin.
 KINDS = (
-    (rb"ply\r?\n", "a PLY"), (rb"glTF", "a GLB"), (rb"VDPM", "a stream, which is made already"),
+    (rb"ply\r?\n", "a PLY"), (rb"glTF", "a GLB"), (rb"VDP[MK]", "a stream, which is made already"),
     (rb"solid\b[^\n]*\n\s*(?:facet|endsolid)\b", "an STL"), (rb"OFF\s", "an OFF"),
     (rb"PK\x03\x04", "a zip"), (rb"\x1f\x8b", "a gzip"), (rb"Kaydara FBX", "an FBX"),
     (rb"\s*[{\[]", "JSON"), (rb"\s*<", "XML"),
@@ -83,10 +83,11 @@ def _text_of(given: Text) -> bytes:
     return bytes_of(given)
 
 
-def _made(library: ctypes.CDLL, table: Table, function: Any, *asked: Any) -> Tuple[bytes, bytes]:
+def _made(library: ctypes.CDLL, check_status: Callable[[int, Told, Table], None], table: Table,
+          function: Any, *asked: Any) -> Tuple[bytes, bytes]:
     """The bytes that a function makes of what it is asked, and the lines that it says of them."""
     made, fault = Handle(None, 0), Told()
-    check_made(function(*asked, made, fault), fault, table)
+    check_status(function(*asked, made, fault), fault, table)
     try:
         lengths = ctypes.c_size_t(), ctypes.c_size_t()
         check(library.vdpm_made_length(made, *lengths))
@@ -102,7 +103,7 @@ def _of_text(library: ctypes.CDLL, table: Table, function: Any, allow_empty: boo
              *asked: int) -> Tuple[bytes, bytes]:
     """The same of a text, and what it is where it is known to be none."""
     try:
-        made = _made(library, table, function, data, len(data), *asked)
+        made = _made(library, check_made, table, function, data, len(data), *asked)
     except TextFault as fault:
         told = _what_it_is(data, table)
         if told is None:
@@ -162,3 +163,21 @@ def prepare(text: Text, size: Optional[int] = None, library: Optional[str] = Non
         raise ValueError(f"size is {size}, and not from 1 to {MOST_SIZE:,}")
     made, notes = _of_text(loaded, OF_ANY_TEXT, loaded.vdpm_prepare, True, data, size or 0)
     return Prepared(made, tuple(notes.decode().splitlines()))
+
+
+def pack(stream: bytes, library: Optional[str] = None) -> bytes:
+    """Packs a stream, as the program `pack` does, to about a sixth of its bytes.
+
+    Raises StreamFault where the program refuses the bytes, and MemoryError.
+    """
+    data, loaded = bytes_of(stream, "a stream"), load(library)
+    return _made(loaded, check_packed, OF_STREAM, loaded.vdpm_pack, data, len(data))[0]
+
+
+def unpack(packed: bytes, library: Optional[str] = None) -> bytes:
+    """The stream that was packed, byte for byte, as `pack --unpack` writes it.
+
+    Raises StreamFault where the program refuses the bytes, and MemoryError.
+    """
+    data, loaded = bytes_of(packed, "a packed text"), load(library)
+    return _made(loaded, check_packed, OF_PACKED, loaded.vdpm_unpack, data, len(data))[0]

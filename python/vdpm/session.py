@@ -4,11 +4,15 @@ import threading
 from typing import Any, List, Optional, Sequence
 
 from .fields import MOST_OF_EYE, MOST_WAY, Number, pixels, planes_of, whole
-from .library import (BY_DEVIATION, BY_ERROR, MOST_NUMBER, NO_ROOM, NONE, Handle, Look, Moves, Text,
-                      bytes_of, check, load, number_to)
+from .library import (BY_DEVIATION, BY_ERROR, MOST_NUMBER, NO_ROOM, NONE, Fineness, Handle, Look,
+                      Moves, Text, bytes_of, check, load, number_to)
+from .making import unpack
 from .rooms import copied, in_threes, room_for, rooms_for_change
 from .shapes import Bounds, Change, Frame, Hit, Level, Moved, Place, Shape, Sizes, Strips
 from .tables import Tables
+
+# How packed texts begin.
+PACKED = b"VDPK"
 
 
 class Session(Tables):
@@ -20,20 +24,22 @@ class Session(Tables):
 
     def __init__(self, stream: bytes, budget: int = MOST_NUMBER,
                  library: Optional[str] = None) -> None:
-        """Opens a stream, the bytes that `build` and `simplify` make, and shows its base mesh.
+        """Opens a stream, the bytes that `build` and `simplify` make, or a packed one, those that
+        `pack` makes, and shows its base mesh.
 
         budget: how many moves, which are splits and collapses, a view makes at most.
 
-        Raises StreamFault where `vdpm check` refuses the bytes, and MemoryError.
+        Raises StreamFault where `vdpm check` or `unpack` refuses the bytes, and MemoryError.
         """
         self._lock = threading.RLock()
         self._viewer = Handle(None, 0)
         data = bytes_of(stream, "a stream")
         budget = number_to(MOST_NUMBER, budget, "budget")
+        if data.startswith(PACKED):
+            data = unpack(data, library)
         self._library = load(library)
         # (a change is written into these, which grow where one has more)
         self._rooms = rooms_for_change((256, 256, 256, 256))
-        self._bounds: Optional[Bounds] = None
         place = ctypes.c_uint64()
         status = self._library.vdpm_open(data, len(data), budget, self._viewer, place)
         check(status, place.value)
@@ -135,7 +141,11 @@ class Session(Tables):
 
     def level(self) -> Level:
         """The level of detail of the mesh shown."""
-        return Level(*map(int, self._words("l")[1:]))
+        told = Fineness()
+        with self._lock:
+            sizes = self.sizes()
+            check(self._library.vdpm_level(self._viewer, told))
+        return Level(sizes.shown_nodes, sizes.shown_faces, told.split, told.error, told.deviation)
 
     def mark(self) -> None:
         """Marks the front, from which `glide` and `change` go."""
@@ -204,31 +214,14 @@ class Session(Tables):
         return Frame(*in_threes([room for room, _ in rooms], (1, 3, 4)))
 
     def bounds(self) -> Bounds:
-        """The box of the complete mesh, whatever is shown. The first call looks at each node, which
-        takes some seconds for a million; the session keeps the answer.
-
-        Raises ValueError where there are no vertices.
-        """
+        """The box of the complete mesh, whatever is shown. Raises ValueError where there are no
+        vertices."""
+        box = (ctypes.c_int32 * 6)()
         with self._lock:
-            places = [] if self._bounds else self._leaf_places()
-            if places:
-                x, y, z = zip(*places)
-                self._bounds = Bounds((min(x), min(y), min(z)), (max(x), max(y), max(z)))
-            if self._bounds is None:
+            if not self.sizes().leaves:
                 raise ValueError("there are no vertices, so there is no box")
-            return self._bounds
-
-    def _leaf_places(self) -> List[Place]:
-        """Where the leaves are."""
-        library, viewer, places = self._library, ctypes.pointer(self._viewer), []
-        record, out = ctypes.c_uint32(), (ctypes.c_int32 * 3)()
-        told = ctypes.pointer(record)
-        for node in range(self.sizes().nodes):
-            check(library.vdpm_splitter(viewer, node, told))
-            if record.value == NONE:
-                check(library.vdpm_place(viewer, node, out, 3))
-                places.append((out[0], out[1], out[2]))
-        return places
+            check(self._library.vdpm_extent(self._viewer, box))
+        return Bounds((box[0], box[1], box[2]), (box[3], box[4], box[5]))
 
     def splitter(self, node: int) -> Optional[int]:
         """The record that splits a node; None for a node of one leaf. IndexError: no such node."""

@@ -47,6 +47,33 @@ static void texts_of_nothing(void) {
     told("vdpm_made_bytes", vdpm_made_bytes(&made, NULL, 0), VDPM_NOT_SO);
 }
 
+/* The stream of nothing, packed and given back; and bytes that are neither. */
+static void packed_nothing(const uint8_t *stream, size_t length) {
+    vdpm_made made = VDPM_CLOSED, back = VDPM_CLOSED;
+    vdpm_fault fault = {7, 7};
+    uint8_t packed[64], again[64];
+    size_t count = 0, notes = 1;
+    told("vdpm_pack", vdpm_pack(NULL, 0, &made, &fault), VDPM_FAULTY);
+    told("cut off", fault.number, 22);
+    told("vdpm_unpack", vdpm_unpack(NULL, 0, &made, &fault), VDPM_FAULTY);
+    told("not packed", fault.number, 34);
+    told("no place", (uint32_t)fault.place, 0);
+    told("vdpm_pack", vdpm_pack(stream, length, &made, &fault), VDPM_DONE);
+    told("no fault", fault.number, 0);
+    told("vdpm_pack again", vdpm_pack(stream, length, &made, &fault), VDPM_NOT_SO);
+    told("vdpm_unpack again", vdpm_unpack(stream, length, &made, &fault), VDPM_NOT_SO);
+    told("vdpm_made_length", vdpm_made_length(&made, &count, &notes), VDPM_DONE);
+    told("no notes", (uint32_t)notes, 0);
+    told("vdpm_made_bytes", vdpm_made_bytes(&made, packed, sizeof packed), VDPM_DONE);
+    vdpm_made_close(&made);
+    told("vdpm_unpack", vdpm_unpack(packed, count, &back, &fault), VDPM_DONE);
+    told("vdpm_made_length", vdpm_made_length(&back, &count, &notes), VDPM_DONE);
+    told("as long", (uint32_t)count, (uint32_t)length);
+    told("vdpm_made_bytes", vdpm_made_bytes(&back, again, sizeof again), VDPM_DONE);
+    told("the same", (uint32_t)(memcmp(again, stream, length) != 0), 0);
+    vdpm_made_close(&back);
+}
+
 /* A view of nothing: its planes may be NULL, and numbers out of range are refused. */
 static void views_by_numbers(vdpm_viewer *viewer) {
     vdpm_look look = {{16777215, -16777215, 0}, 65535, 65535, 65535, VDPM_BY_DEVIATION};
@@ -69,6 +96,8 @@ static void views_by_numbers(vdpm_viewer *viewer) {
 static void views_of_nothing(vdpm_viewer *viewer) {
     vdpm_sizes sizes;
     vdpm_change_sizes changes;
+    vdpm_box box = {{7, 7, 7}, {7, 7, 7}};
+    vdpm_fineness fineness = {7, 7, 7};
     size_t length = 1;
     uint32_t number = 7;
     memset(&sizes, 7, sizeof sizes);
@@ -86,6 +115,10 @@ static void views_of_nothing(vdpm_viewer *viewer) {
     told("vdpm_fits", vdpm_fits(viewer, 2, NULL, 0, NULL, 0), VDPM_DONE);
     told("vdpm_inputs", vdpm_inputs(viewer, NULL, 0, NULL, 0, &number), VDPM_DONE);
     told("no faces", number, 0);
+    told("vdpm_extent", vdpm_extent(viewer, &box), VDPM_DONE);
+    told("no extent", (uint32_t)(box.low[0] | box.low[2] | box.high[1]), 0);
+    told("vdpm_level", vdpm_level(viewer, &fineness), VDPM_DONE);
+    told("no error", (uint32_t)fineness.error, 0);
     number = 7;
     told("vdpm_splitter", vdpm_splitter(viewer, 0, &number), VDPM_NO_SUCH);
     told("vdpm_maker", vdpm_maker(viewer, VDPM_NONE, &number), VDPM_NO_SUCH);
@@ -105,6 +138,7 @@ int main(void) {
     told("vdpm_open", vdpm_open(stream, length, 0, &viewer, &place), VDPM_DONE);
     told("no place", (uint32_t)place, 0);
     told("vdpm_open again", vdpm_open(stream, length, 0, &viewer, &place), VDPM_NOT_SO);
+    packed_nothing(stream, length);
     free(stream);
     views_of_nothing(&viewer);
     views_by_numbers(&viewer);

@@ -23,7 +23,9 @@ from .way import Way
 MAIN = """
 use crate::made_slot::MadeSlot;
 use crate::slot::Slot;
-use crate::tables::{ChangeCounts, Counts, Handle, Look, MadeHandle, Moved, NO_FAULT};
+use crate::tables::{
+    ChangeCounts, Counts, ExtentTold, Handle, LevelTold, Look, MadeHandle, Moved, NO_FAULT,
+};
 use std::rt::HostRuntime;
 
 fn main(rt: HostRuntime) {
@@ -53,6 +55,12 @@ fn main(rt: HostRuntime) {
     means::vdpm_means(alloc, &mut handle, 0, &[0u16; 1], &mut [0u16; 1]);
     fits::vdpm_fits(alloc, &mut handle, 0, &[0i32; 1], &mut [0i32; 1]);
     inputs::vdpm_inputs(alloc, &mut handle, &mut a, &mut b, &mut number);
+    let mut extent = ExtentTold {
+        low_x: 0, low_y: 0, low_z: 0, high_x: 0, high_y: 0, high_z: 0,
+    };
+    measuring::vdpm_extent(alloc, &mut handle, &mut extent);
+    let mut level = LevelTold { error: 0, deviation: 0, split: 0 };
+    measuring::vdpm_level(alloc, &mut handle, &mut level);
     let look = Look {
         eye_x: 0, eye_y: 0, eye_z: 0, focal: 0, tolerance: 0, silhouette: 0, measure: 0,
     };
@@ -66,6 +74,8 @@ fn main(rt: HostRuntime) {
     making::vdpm_build(alloc, b"", 0, 0, &mut made, &mut fault);
     making::vdpm_simplify(alloc, b"", 0, 0, 0, &mut made, &mut fault);
     making::vdpm_prepare(alloc, b"", 0, &mut made, &mut fault);
+    packing::vdpm_pack(alloc, b"", &mut made, &mut fault);
+    packing::vdpm_unpack(alloc, b"", &mut made, &mut fault);
     making::vdpm_made_length(alloc, &mut made, &mut length, &mut notes);
     making::vdpm_made_bytes(alloc, &mut made, &mut bytes);
     making::vdpm_made_notes(alloc, &mut made, &mut bytes);

@@ -13,7 +13,7 @@ import { Fault, Vdpm } from "./vdpm.mjs";
  *
  * @typedef {object} Told a case, its bytes in base 64
  * @property {string} name
- * @property {"open" | "build" | "simplify" | "prepare"} function
+ * @property {"open" | "build" | "simplify" | "prepare" | "pack" | "unpack"} function
  * @property {{ faces?: number, digits?: number, keepBorder?: boolean, size?: number,
  *     budget?: number }} asked
  * @property {number} length how long the stream before a script is
@@ -67,6 +67,9 @@ function done({ function: name, asked, length, notes }, given) {
     } finally {
       session.close();
     }
+  }
+  if (name === "pack" || name === "unpack") {
+    return { output: Buffer.from(vdpm[name](given)), fault: null };
   }
   if (name !== "prepare") return { output: Buffer.from(vdpm[name](given, asked)), fault: null };
   const made = vdpm.prepare(given, asked);

@@ -103,6 +103,13 @@ test("what is made opens, and a text may be a string", () => {
   assert.equal(Buffer.compare(vdpm.build(text), stream), 0);
 });
 
+test("a packed stream is smaller, and unpacked the same", () => {
+  const torus = vdpm.build(readFileSync(new URL("torus.obj", EXAMPLES)));
+  const packed = vdpm.pack(torus);
+  assert.ok(5 * packed.length < torus.length);
+  assert.equal(Buffer.compare(vdpm.unpack(packed), torus), 0);
+});
+
 test("a fault tells the line of the programs", () => {
   /** @type {(doing: () => void, message: string) => void} */
   const thrown = (doing, message) => assert.throws(doing, (fault) =>
@@ -112,6 +119,8 @@ test("a fault tells the line of the programs", () => {
   thrown(() => vdpm.build("f 1 2 3\n"), "fault 7 line 1");
   thrown(() => vdpm.simplify("ply\n"), "fault 14");
   thrown(() => vdpm.prepare(""), "fault 12");
+  thrown(() => vdpm.pack(stream.subarray(0, 0)), "fault 22 byte 0");
+  thrown(() => vdpm.unpack(stream), "fault 34");
   thrown(() => within((session) => session.line("w w")), "fault 30");
 });
 

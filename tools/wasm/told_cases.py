@@ -1,7 +1,7 @@
 """The cases of tests/cases that the functions of libvdpm.h can do, for cases.mjs.
 
-Those are all that need no device, limit or other program: scripts of `view` and `live`, and what
-`build`, `simplify` and `prepare` make of a text.
+Those are all that need no device, limit or other program: scripts of `view` and `live`, what
+`build`, `simplify` and `prepare` make of a text, and what `pack` makes of a stream and undoes.
 """
 import base64
 import sys
@@ -70,3 +70,6 @@ def all_cases() -> Iterator[Dict[str, Any]]:
     for asked in cases_of("prepare"):
         notes = None if asked.fault else base64_of(asked.errors)
         yield told(asked, {**making(iter(asked.words), "prepare"), "notes": notes})
+    for asked in cases_of("pack"):
+        function = "unpack" if asked.words == ["--unpack"] else "pack"
+        yield told(asked, {"function": function, "asked": {}})

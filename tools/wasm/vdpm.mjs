@@ -81,6 +81,24 @@ export class Vdpm {
   }
 
   /**
+   * Packs a stream to a sixth of its bytes or so, as the program `pack` does.
+   * @param {Uint8Array} stream
+   * @returns {Uint8Array}
+   */
+  pack(stream) {
+    return this.made("vdpm_pack", stream, [], WORDS.OF_STREAM).bytes;
+  }
+
+  /**
+   * The stream that a packed text is of.
+   * @param {Uint8Array} packed
+   * @returns {Uint8Array}
+   */
+  unpack(packed) {
+    return this.made("vdpm_unpack", packed, [], WORDS.OF_STREAM).bytes;
+  }
+
+  /**
    * Shows a stream. A view makes at most `budget` moves.
    * @param {Uint8Array} stream
    * @param {{ budget?: number }} asked
@@ -106,7 +124,9 @@ export class Vdpm {
       const status = memory.holding(bytesOf(text), make);
       if (status === STATUS.FAULTY) {
         const place = memory.long(fault + PLACE_OF_FAULT);
-        throw new Fault(memory.number(fault), place || null, words);
+        // (what a stream has is counted from 0)
+        const isNone = place === 0 && words !== WORDS.OF_STREAM;
+        throw new Fault(memory.number(fault), isNone ? null : place, words);
       }
       check(status);
       try {

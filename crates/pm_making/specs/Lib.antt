@@ -1,2 +1,3 @@
 pub mod Making
 pub mod Fitting
+pub mod Packing

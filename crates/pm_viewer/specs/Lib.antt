@@ -1,3 +1,4 @@
 pub mod Inputs
+pub mod Measuring
 pub mod Viewing
 pub mod Causes

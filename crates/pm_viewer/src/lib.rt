@@ -6,6 +6,7 @@ mod fail;
 mod filling;
 mod inputs;
 mod looking;
+mod measuring;
 mod opening;
 mod painting;
 mod reply;
@@ -13,5 +14,6 @@ mod viewer;
 
 pub use fail::{Cause, OpenFail, cause_of};
 pub use filling::TooSmall;
+pub use measuring::{Coordinates, Extent};
 pub use reply::LEAST_ROOM;
 pub use viewer::Viewer;

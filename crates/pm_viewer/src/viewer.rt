@@ -153,6 +153,13 @@ impl Viewer {
         self.session.front().hierarchy()
     }
 
+    pub(crate) fn session(&self) -> &Session
+        ensures shown { result.now ≡ self.now.shown }
+        ensures live { result.now.grammar ≡ Grammar.Live }
+    {
+        &self.session
+    }
+
     /// How many records the hierarchy has.
     pub fn records(&self) -> u32
         ensures { result ≡ record_count self.now.shown.h }

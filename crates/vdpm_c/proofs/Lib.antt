@@ -3,3 +3,4 @@ pub mod SlotValues
 pub mod MadeValues
 pub mod MadeLaws
 pub mod LookingLaws
+pub mod PackingLaws

@@ -14,11 +14,15 @@ use Rattle.pm_session.specs.declared.ending.LineFail.TheVariants as fails
 use Rattle.pm_change.specs.declared.fitting.ChangeSizes.{ChangeSizes}
 use Rattle.pm_session.specs.Script.{at_first, now_marked}
 use Rattle.pm_session.specs.Session.{LineEnds}
+use Rattle.pm_session.specs.Level.{split_count, greatest_error, greatest_deviation}
 use Rattle.pm_viewer.specs.Viewing.{Viewed, viewer_state, live_deed}
 use Rattle.pm_viewer.specs.Causes.{Tells}
+use Rattle.pm_viewer.specs.declared.measuring.Extent.{Extent}
 use Rattle.vdpm_c.specs.declared.tables.Handle.{Handle}
 use Rattle.vdpm_c.specs.declared.tables.Counts.{Counts}
 use Rattle.vdpm_c.specs.declared.tables.ChangeCounts.{ChangeCounts}
+use Rattle.vdpm_c.specs.declared.tables.ExtentTold.{ExtentTold}
+use Rattle.vdpm_c.specs.declared.tables.LevelTold.{LevelTold}
 
 -- A handle that is open has a viewer. C owes it, and each function leaves it so.
 abbrev pub IsSound : Handle → Type 0
@@ -82,6 +86,23 @@ pub record AreCountsOf (v : Viewed) (counts : Counts) : Type 0 where
   pub leaves : counts.leaves ≡ leaf_count v.shown.h
   pub records : counts.records ≡ record_count v.shown.h
   pub digits : counts.digits ≡ v.digits
+
+-- An extent, as C takes it.
+abbrev pub extent_told : Extent → ExtentTold
+extent_told e = record {
+  low_x = e.low.x;
+  low_y = e.low.y;
+  low_z = e.low.z;
+  high_x = e.high.x;
+  high_y = e.high.y;
+  high_z = e.high.z;
+}
+
+-- How fine the mesh that is shown is.
+pub record IsLevelOf (v : Viewed) (told : LevelTold) : Type 0 where
+  pub error : told.error ≡ greatest_error v.shown.h (set_of v.shown.flags)
+  pub deviation : told.deviation ≡ greatest_deviation v.shown.h (set_of v.shown.flags)
+  pub split : told.split ≡ split_count v.shown.h (set_of v.shown.flags)
 
 -- How many entries each list of a change has, as C takes them.
 abbrev pub change_counts : ChangeSizes → ChangeCounts

@@ -2,3 +2,4 @@ pub mod Held
 pub mod Border
 pub mod Looking
 pub mod Making
+pub mod Packing

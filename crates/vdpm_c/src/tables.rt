@@ -50,6 +50,30 @@ pub struct Moved {
     pub left: u32,
 }
 
+/// The bounding box of the complete mesh: on each axis the least and the greatest coordinate, in
+/// units.
+#[repr(C)]
+#[derive(Clone, Copy)]
+pub struct ExtentTold {
+    pub low_x: i32,
+    pub low_y: i32,
+    pub low_z: i32,
+    pub high_x: i32,
+    pub high_y: i32,
+    pub high_z: i32,
+}
+
+/// How fine the mesh that is shown is.
+#[repr(C)]
+#[derive(Clone, Copy)]
+pub struct LevelTold {
+    /// The greatest error and the greatest deviation of a node that is shown, in units.
+    pub error: u64,
+    pub deviation: u64,
+    /// How many records are split.
+    pub split: u32,
+}
+
 /// How many entries each list of a change has.
 #[repr(C)]
 #[derive(Clone, Copy)]

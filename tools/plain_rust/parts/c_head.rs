@@ -1,6 +1,8 @@
 //! The functions of C, each over one that takes slices and references.
 
-use super::tables::{ChangeCounts, Counts, FaultTold, Handle, Look, MadeHandle, Moved};
+use super::tables::{
+    ChangeCounts, Counts, ExtentTold, FaultTold, Handle, LevelTold, Look, MadeHandle, Moved,
+};
 use crate::rattle_std::alloc::Global;
 
 // An array of no items may stand nowhere.

@@ -1,6 +1,8 @@
 //! Why nothing is made, opened or done.
 
+use crate::pm_commands;
 use crate::pm_making::{text_cause_of, BuildFail, PrepareFail};
+use crate::pm_pack::{PackFail, UnpackFail};
 use crate::pm_session::LineFail;
 use crate::pm_viewer::{cause_of, Cause, OpenFail};
 use std::fmt;
@@ -115,11 +117,40 @@ impl From<PrepareFail> for Fault {
     }
 }
 
+/// A fault without a place.
+const fn bare(number: u32) -> Fault {
+    Fault::Refused { number, place: None }
+}
+
+impl From<PackFail> for Fault {
+    fn from(fail: PackFail) -> Fault {
+        match fail {
+            PackFail::Stream(fault) => {
+                refused(cause_of(pm_commands::Fault::Stream(fault)), word_of_stream)
+            }
+            PackFail::Trailing => bare(29),
+            PackFail::OutOfMemory => Fault::OutOfMemory,
+        }
+    }
+}
+
+impl From<UnpackFail> for Fault {
+    fn from(fail: UnpackFail) -> Fault {
+        match fail {
+            UnpackFail::Stream(fault) => PackFail::Stream(fault).into(),
+            UnpackFail::NotPacked => bare(34),
+            UnpackFail::Cut => bare(35),
+            UnpackFail::Trailing => bare(36),
+            UnpackFail::OutOfMemory => Fault::OutOfMemory,
+        }
+    }
+}
+
 impl From<LineFail> for Fault {
     fn from(fail: LineFail) -> Fault {
         match fail {
-            LineFail::BadLine => Fault::Refused { number: 30, place: None },
-            LineFail::NoRecord => Fault::Refused { number: 31, place: None },
+            LineFail::BadLine => bare(30),
+            LineFail::NoRecord => bare(31),
             // The reply goes to memory, which was wanting.
             LineFail::Write => Fault::OutOfMemory,
         }

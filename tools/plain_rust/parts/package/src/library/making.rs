@@ -10,7 +10,7 @@ const MOST_SIZE: u32 = 32767;
 
 /// A hierarchy as bytes, which [`Viewer::open`](super::Viewer::open) opens.
 #[derive(Clone, Debug, PartialEq, Eq)]
-pub struct Stream(Vec<u8>);
+pub struct Stream(pub(super) Vec<u8>);
 
 impl Stream {
     /// The bytes, as the programs write them.

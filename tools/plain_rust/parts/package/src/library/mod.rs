@@ -23,11 +23,13 @@
 
 mod fault;
 mod making;
+mod packing;
 mod view;
 mod viewer;
 
 pub use fault::{Fault, Place};
 pub use making::{build, prepare, simplify, Asked, Prepared, Stream};
+pub use packing::{pack, unpack};
 pub use view::{Moved, View};
 pub use viewer::{Change, Frame, Node, Sizes, Viewer};
 

@@ -1,0 +1,15 @@
+-- What streams are packed to in memory, and unpacked.
+use Rattle.std.specs.Prelude.{◌≡◌, ℕ, List, []}
+use Rattle.pm_pack.specs.Packed.{IsPacked}
+use Rattle.pm_making.specs.Making.{MadeText}
+
+-- The bytes are a packed text of the stream. Nothing is said beside them.
+pub record IsPackedOf (stream : List ℕ) (all : MadeText) : Type 0 where
+  pub is : IsPacked all.bytes stream
+  pub notes : all.notes ≡ []
+
+-- The bytes are the stream that the packed text is of, and no other. Nothing is said beside them.
+pub record IsUnpackedOf (packed : List ℕ) (all : MadeText) : Type 0 where
+  pub is : IsPacked packed all.bytes
+  pub alone : (text : List ℕ) → IsPacked packed text → all.bytes ≡ text
+  pub notes : all.notes ≡ []
