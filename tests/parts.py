@@ -32,11 +32,13 @@ from pathlib import Path
 from typing import Callable, Dict, List, NamedTuple, Optional, Tuple
 
 TOP = Path(__file__).resolve().parent.parent
-PROGRAMS = ("vdpm", "prepare", "simplify", "pack")
+PROGRAMS = ("vdpm", "prepare", "simplify", "pack", "paint")
 DOCUMENTS = (
     "README.md", "CONTRIBUTING.md", "docs/GUIDE.md", "docs/WORLDS.md",
-    *(f"docs/commands/{name}.md" for name in ("vdpm", "view", "prepare", "simplify", "pack")),
+    "docs/commands/view.md", *(f"docs/commands/{name}.md" for name in PROGRAMS),
 )  # fmt: skip
+# What is tried over cargo's library too.
+LIBRARY_TESTS = ("", "_making", "_means", "_fits", "_inputs", "_sizes", "_views", "_packed")
 SEED, RANDOM_CASES = "1", "300"
 
 
@@ -160,9 +162,9 @@ def rust(given: Dict[str, Path], room: Path) -> Count:
     built = room / "target/checked"
     programs = {name: built / name for name in PROGRAMS}
     count = count.plus(counted(ran([sys.executable, "tests/run.py", *paths(programs)]), LAST_LINE))
-    for name in ("test_library.py", "test_library_making.py", "test_library_means.py",
-                 "test_library_inputs.py", "test_library_views.py"):
-        count = count.plus(unit_tests(TOP / "tools" / name, {}, str(built / "libvdpm.so")))
+    for name in LIBRARY_TESTS:
+        file = TOP / "tools" / f"test_library{name}.py"
+        count = count.plus(unit_tests(file, {}, str(built / "libvdpm.so")))
     return count.plus(web_module(package))
 
 

@@ -10,11 +10,13 @@ from typing import Dict, List
 
 TOP = Path(__file__).resolve().parent.parent
 # Words with which a program reads its whole standard input.
-READING: Dict[str, List[str]] = {"vdpm": ["canon"], "prepare": [], "simplify": [], "pack": []}
+READING: Dict[str, List[str]] = {
+    "vdpm": ["canon"], "prepare": [], "simplify": [], "pack": [], "paint": []
+}  # fmt: skip
 # The statuses that a program may end with.
 STATUSES = range(6)
 TRIANGLE = b"v 0 0 0\nv 1 0 0\nv 0 1 0\nf 1 2 3\n"
-# What `pack` reads: the stream of no mesh.
+# What `pack` and `paint` read: the stream of no mesh. (`paint` tells that no coat follows.)
 NOTHING = b"VDPM\1" + bytes(19)
 
 
@@ -35,7 +37,7 @@ class Programs:
         """
         for name, path in self.paths.items():
             words = [str(path), *READING.get(name, [])]
-            given = NOTHING if name == "pack" else TRIANGLE
+            given = NOTHING if name in ("pack", "paint") else TRIANGLE
             try:
                 done = subprocess.run(words, input=given, stdout=subprocess.DEVNULL, check=False)
             except OSError as fault:

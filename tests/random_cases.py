@@ -1,7 +1,7 @@
-"""Compares `vdpm`, `prepare`, `simplify` and `pack` with the model on random cases.
+"""Compares `vdpm`, `prepare`, `simplify`, `pack` and `paint` with the model on random cases.
 
     python3 tests/random_cases.py SEED COUNT [--vdpm PATH] [--prepare PATH] [--simplify PATH]
-                                  [--pack PATH] [--processes N]
+                                  [--pack PATH] [--paint PATH] [--processes N]
     python3 tests/random_cases.py --again FILE [--write INPUT]
 
 A case is a program, its words and its input; number I of a seed is always the same one. What the
@@ -21,7 +21,9 @@ from random import Random
 from typing import Callable, Dict, List, NamedTuple, Optional, Tuple
 
 from model import Answer, answer
+from model.hierarchy import Hierarchy
 from model.packed import packed_words
+from model.paint import GREATEST, Coat, coat_text
 from random_files import random_file
 from random_inputs import bad_stream, damaged_text, random_digits, random_script
 from random_inputs import random_stream, random_text
@@ -112,7 +114,7 @@ def words_case(rng: Random) -> Case:
     known += ["--unpack"]
     words = [rng.choice(known) for _ in range(rng.randint(0, 4))]
     words = rng.choice([words, ["demo", rng.choice(["0", "257", "01", "x"])], ["view", "01"]])
-    program = rng.choice(["vdpm", "vdpm", "prepare", "simplify", "pack"])
+    program = rng.choice(["vdpm", "vdpm", "prepare", "simplify", "pack", "paint"])
     return Case(program, words, b"v 0 0 0\n")
 
 
@@ -166,6 +168,42 @@ def unpack_case(rng: Random) -> Case:
     return Case("pack", ["--unpack"], bytes(packed))
 
 
+def random_coat(rng: Random, h: Hierarchy) -> bytes:
+    """A coat for a hierarchy, with some of the parts."""
+    vertices, faces = len(h.leaf_nodes()), len(h.faces)
+    most = rng.choice([300, 65_536, GREATEST])
+    parts = rng.randint(1, 7)
+    coat = Coat(
+        [[rng.randrange(256) for _ in range(3)] for _ in range(vertices)] if parts & 1 else None,
+        [[rng.randint(-most, most) for _ in range(2)] for _ in range(vertices)]
+        if parts & 2 else None,
+        [rng.randrange(256) for _ in range(faces)] if parts & 4 else None,
+    )  # fmt: skip
+    return coat_text(coat, vertices, faces)
+
+
+def paint_case(rng: Random) -> Case:
+    """A stream and a coat, of which about half are damaged."""
+    h, stream = random_stream(rng, random_mesh(rng))
+    coat = bytearray(random_coat(rng, h))
+    if rng.random() < 0.1:
+        stream = bad_stream(rng, h, stream)
+    at = rng.randrange(rng.choice([20, len(coat)]))
+    kind = rng.choice(["whole", "whole", "whole", "bit", "byte", "word", "cut", "more"])
+    if kind == "bit":
+        coat[at] ^= 1 << rng.randrange(8)
+    elif kind == "byte":
+        coat[at] = rng.randrange(256)
+    elif kind == "word":
+        word = rng.choice([GREATEST, GREATEST + 1, -GREATEST, -GREATEST - 1, 2**31 - 1])
+        coat[at // 4 * 4 : at // 4 * 4 + 4] = word.to_bytes(4, "little", signed=True)
+    elif kind == "cut":
+        del coat[at:]
+    elif kind == "more":
+        coat += rng.choice([b"\0", b"\n", b"COAT"])
+    return Case("paint", [], stream + bytes(coat))
+
+
 KINDS: List[Tuple[Callable[[Random], Case], int]] = [
     (canon_case, 10),
     (build_case, 14),
@@ -180,6 +218,7 @@ KINDS: List[Tuple[Callable[[Random], Case], int]] = [
     (prepared_case, 6),
     (pack_case, 4),
     (unpack_case, 8),
+    (paint_case, 8),
 ]
 
 
@@ -279,11 +318,13 @@ def main() -> int:
     parser.add_argument("--prepare", default=str(TOP / "prepare"), help="./prepare by default")
     parser.add_argument("--simplify", default=str(TOP / "simplify"), help="./simplify by default")
     parser.add_argument("--pack", default=str(TOP / "pack"), help="./pack by default")
+    parser.add_argument("--paint", default=str(TOP / "paint"), help="./paint by default")
     parser.add_argument("--processes", type=int, help="as many as there are processors by default")
     parser.add_argument("--again", metavar="FILE", help="runs the case of this file alone")
     parser.add_argument("--write", metavar="FILE", help="with --again: puts the case's input there")
     asked = parser.parse_args()
-    paths = {name: getattr(asked, name) for name in ("vdpm", "prepare", "simplify", "pack")}
+    names = ("vdpm", "prepare", "simplify", "pack", "paint")
+    paths = {name: getattr(asked, name) for name in names}
     for path in paths.values():
         if not Path(path).is_file():
             parser.error(f"no program stands at {path}")

@@ -2,8 +2,8 @@
 
 Each case that fails is told with what had to come and what came. The last line is
 `N passed, M failed`, and the status is 0 exactly where cases ran and none failed. `./vdpm`,
-`./prepare`, `./simplify` and `./pack` are run where no other program is named; tests/README.md
-tells the form of the cases.
+`./prepare`, `./simplify`, `./pack` and `./paint` are run where no other program is named;
+tests/README.md tells the form of the cases.
 """
 import argparse
 import hashlib

@@ -80,10 +80,10 @@ class Rust(unittest.TestCase):
     def test_all_is_tried_over_what_cargo_built(self) -> None:
         tests = Run(0, "test result: ok. 30 passed; 0 failed;\n")
         cases, units = Run(0, "7 passed, 0 failed\n"), Run(0, "Ran 5 tests in 1s\n\nOK\n")
-        answers = [Run(0, ""), Run(0, ""), tests, cases, *[units] * 5]
+        answers = [Run(0, ""), Run(0, ""), tests, cases, *[units] * len(parts.LIBRARY_TESTS)]
         with mock.patch.object(parts, "web_module", return_value=parts.NONE):
             count, commands = self.told(answers)
-        self.assertEqual(count, Count(62, 0))
+        self.assertEqual(count, Count(37 + 5 * len(parts.LIBRARY_TESTS), 0))
         self.assertEqual(commands[3][2:4], ["--vdpm", "/r/target/checked/vdpm"])
 
 

@@ -1,5 +1,5 @@
 """Builds and proves the programs of this repository. ./vdpm, ./prepare, ./simplify,
-./pack and ./prove call it.
+./pack, ./paint and ./prove call it.
 
     python3 tools/programs.py build NAME       prints the file to run as NAME; it may build it first
     python3 tools/programs.py prove [NAME..]   proves and builds these, or all programs; libvdpm is

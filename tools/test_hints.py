@@ -1,4 +1,4 @@
-"""Tries what ./vdpm, ./prepare, ./simplify and ./pack say to who runs them by hand."""
+"""Tries what ./vdpm, ./prepare, ./simplify, ./pack and ./paint say to who runs them by hand."""
 import subprocess
 import tempfile
 import unittest
@@ -26,7 +26,7 @@ def said(
 
 class Hints(unittest.TestCase):
     def test_usage(self) -> None:
-        for name in ("vdpm", "prepare", "simplify", "pack"):
+        for name in ("vdpm", "prepare", "simplify", "pack", "paint"):
             for word in ("--help", "-h"):
                 run = said(name, b"v", word)
                 self.assertEqual((run.returncode, run.stderr), (0, b""))

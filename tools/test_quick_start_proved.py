@@ -25,7 +25,7 @@ class Proved(OverTestKit):
 
     def test_progress_is_told(self) -> None:
         said = self.repository.run("prove").stderr
-        self.assertIn("prove: 2 of 6 crates done", said)
+        self.assertIn("prove: 2 of 7 crates done", said)
         self.assertIn("prove: vdpm is proved and built: proved/vdpm", said)
 
     def test_a_changed_source_or_definition_is_not_proved(self) -> None:

@@ -31,8 +31,8 @@ LINKED = {**ENTRIES, "c": Entry(b"", leads_to="b")}
 TOLD = {"commit": "0123456789ab", "built": "2026-01-01 00:00:00 UTC", "kit": "rustc 1",
         "sources": "5"}
 LIBRARY = b"\x7fELF\0GLIBC_2.2.5\0GLIBC_2.34\0GLIBC_PRIVATE\0"
-BUILT = Built({"vdpm": b"1", "prepare": b"2", "simplify": b"3", "pack": b"4"}, LIBRARY,
-              b"!<arch>\n", "statically with glibc", 34)
+BUILT = Built({"vdpm": b"1", "prepare": b"2", "simplify": b"3", "pack": b"4", "paint": b"5"},
+              LIBRARY, b"!<arch>\n", "statically with glibc", 34)
 # A cargo that leaves what it is asked for, and a list of what that was.
 CARGO = """#!/bin/sh
 echo "$@" >> asked
@@ -133,11 +133,11 @@ class Building(unittest.TestCase):
         self.assertEqual(built.programs["simplify"], b"simplify\n")
         self.assertEqual((built.glibc, built.linked), (30, "statically with glibc"))
         asked = (self.top / "asked").read_text(encoding="ascii").splitlines()
-        self.assertEqual(len(asked), 5)
-        self.assertTrue(all("target-feature=+crt-static" in line for line in asked[:4]))
-        self.assertIn("--features c", asked[4])
-        self.assertIn("link-arg=-Wl,-soname,libvdpm.so.1", asked[4])
-        self.assertIn(f"link-arg=--sysroot={self.top.resolve()}/old", asked[4])
+        self.assertEqual(len(asked), 6)
+        self.assertTrue(all("target-feature=+crt-static" in line for line in asked[:5]))
+        self.assertIn("--features c", asked[5])
+        self.assertIn("link-arg=-Wl,-soname,libvdpm.so.1", asked[5])
+        self.assertIn(f"link-arg=--sysroot={self.top.resolve()}/old", asked[5])
 
     def test_what_fails_is_told(self) -> None:
         (self.top / "bin/cargo").write_text("#!/bin/sh\nexit 101\n", encoding="ascii")

@@ -32,7 +32,7 @@ class Repository:
         for name in ("tools/programs.py", *PROGRAMS, "prove"):
             shutil.copy2(TOP / name, self.top / name)
         write(self.top / "crates.txt", "low:\nvdpm: low\nprepare:\nsimplify: low\n"
-              "pack: low\nvdpm_c staticlib: low\n")
+              "pack: low\npaint: low\nvdpm_c staticlib: low\n")
         write(self.top / "crates/low/src/lib.rt", "low\n")
         write(self.top / "crates/low/specs/Low.antt", "low\n")
         for name in PROGRAMS:

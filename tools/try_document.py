@@ -20,7 +20,7 @@ from typing import Iterable, List, NamedTuple, Tuple
 TOP = Path(__file__).resolve().parent.parent
 MARGIN = "    "
 # What the scripts of the programs say of one that isn't proved, beside what the program says.
-PROGRAM = "(vdpm|prepare|simplify|pack)"
+PROGRAM = "(vdpm|prepare|simplify|pack|paint)"
 BUILDING = re.compile(PROGRAM + ": (building( anew)? from|it is being built already)")
 PROGRESS = re.compile("world: (builds|built|checks|cuts|parts|reads|writes) .*")
 NOTICE = re.compile(PROGRAM + ": not proved on this machine yet, run-time checks are on; .*")

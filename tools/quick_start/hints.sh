@@ -56,7 +56,7 @@ kind_of() {
 tell_kind() {
     local file=/dev/stdin kind reads='an OBJ text'
     case $name$1 in
-        vdpmexpand | vdpmcheck | vdpmview | vdpmlive | pack) reads='a stream of vdpm' ;;
+        vdpmexpand | vdpmcheck | vdpmview | vdpmlive | pack | paint) reads='a stream of vdpm' ;;
         pack--unpack) reads='a packed stream' ;;
         vdpmdemo) return ;;
         prepare*) reads='an OBJ, PLY or STL file' ;;

@@ -39,6 +39,7 @@ TRIAL_WORDS: Dict[str, List[str]] = {
     "prepare": [],
     "simplify": [],
     "pack": [],
+    "paint": [],
 }
 
 

@@ -11,7 +11,7 @@ from .stopped import Stopped
 # The program depends on the first alone; that it is proved, on all.
 CODE = ("src",)
 PROVED = ("src", "specs", "proofs")
-PROGRAMS = ("vdpm", "prepare", "simplify", "pack")
+PROGRAMS = ("vdpm", "prepare", "simplify", "pack", "paint")
 LIBRARY = "libvdpm"
 # What is built of the library, and the link by which a linker finds the second. Its number is
 # VDPM_VERSION_MAJOR of libvdpm.h.

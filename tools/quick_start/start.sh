@@ -1,6 +1,6 @@
-# Sourced by ./vdpm, ./prepare, ./simplify and ./pack, which set `name`: runs the program of that name with
-# the words given, the proved one where it is of the sources as they stand, and else one that isn't
-# proved.
+# Sourced by ./vdpm, ./prepare, ./simplify, ./pack and ./paint, which set `name`: runs the program
+# of that name with the words given, the proved one where it is of the sources as they stand, and
+# else one that isn't proved.
 #
 # A program is taken at once where its record (NAME.record beside it, see record.py) has its sum,
 # and nothing in crates.txt or a crate below it changed since the record's time; the time of a

@@ -9,7 +9,7 @@ from typing import Dict, List, NamedTuple, Optional, Sequence
 from quick_start.joining import archive_of, glibc_of
 from quick_start.sources import SHARED
 
-PROGRAMS = ("vdpm", "prepare", "simplify", "pack")
+PROGRAMS = ("vdpm", "prepare", "simplify", "pack", "paint")
 MUSL = "x86_64-unknown-linux-musl"
 RELEASE = "target/release"
 LIBRARIES = ("usr/lib/x86_64-linux-gnu", "lib/x86_64-linux-gnu")

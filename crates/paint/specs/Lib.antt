@@ -1,0 +1,10 @@
+pub mod Words
+pub mod Input
+pub mod Coat
+pub mod Texts
+pub mod Lines
+pub mod Streams
+pub mod Making
+pub mod Ending
+pub mod FaultLine
+pub mod Devices

@@ -1,0 +1,60 @@
+//! What the program does with its devices. All memory is taken before the first byte of output.
+ghost use Rattle.std.specs.Prelude.{◌≡◌, ◌≤◌, ◌^◌, false, length};
+ghost use Rattle.paint.specs.Ending.{EndsOn, Ends, PutCounts, ReadCounts};
+ghost use Rattle.paint.specs.Ending.{of_input_fail, of_make_fail};
+
+use crate::fault::{MakeFail, RunFail};
+use crate::input::{InputFail, read_up_to};
+use crate::making::paint;
+use pm_io::{Sink, Source, put_all};
+use std::alloc::Global;
+
+/// How many bytes of the input are looked at, at most. No stream text has as many.
+pub const MOST: usize = 0x4000_0000;
+
+fn of_input(fail: InputFail) -> RunFail
+    ensures { result ≡ of_input_fail fail }
+{
+    match fail {
+        InputFail::Read => RunFail::Read,
+        InputFail::OutOfMemory => RunFail::OutOfMemory,
+    }
+}
+
+fn of_make(fail: MakeFail) -> RunFail
+    ensures { result ≡ of_make_fail fail }
+{
+    match fail {
+        MakeFail::Faulty(fault) => RunFail::Faulty(fault),
+        MakeFail::OutOfMemory => RunFail::OutOfMemory,
+    }
+}
+
+// Puts what is made of bytes.
+fn put_made<K: Sink>(alloc: Global, bytes: &[u8], out: &mut K) -> Result<(), RunFail>
+    requires { length bytes.now ≤ 2 ^ 30 }
+    ensures ends { EndsOn result bytes.now (K.got out.old) (K.got out.new) }
+    ensures counts { PutCounts result (K.faults out.old) (K.faults out.new) }
+{
+    match paint(alloc, bytes) {
+        Err(fail) => Err(of_make(fail)),
+        Ok(text) => match put_all(out, text.as_slice()) {
+            Ok(()) => Ok(()),
+            Err(_) => Err(RunFail::Write),
+        },
+    }
+}
+
+/// Puts what is made of the input.
+pub fn obey<S: Source, K: Sink>(alloc: Global, input: &mut S, out: &mut K) -> Result<(), RunFail>
+    requires { S.ended input.old ≡ false }
+    ensures ends { Ends result (S.left input.old) (S.left input.new) (K.got out.old)
+        (K.got out.new) }
+    ensures puts { PutCounts result (K.faults out.old) (K.faults out.new) }
+    ensures reads { ReadCounts result (S.faults input.old) (S.faults input.new) }
+{
+    match read_up_to(alloc, MOST, input) {
+        Err(fail) => Err(of_input(fail)),
+        Ok(bytes) => put_made(alloc, bytes.as_slice(), out),
+    }
+}

@@ -1,0 +1,153 @@
+//! What is said on the error sink.
+ghost use Rattle.std.specs.Prelude.{◌≡◌, ◌≤◌, length};
+ghost use Rattle.pm_io.specs.Devices.{Tells};
+ghost use Rattle.paint.specs.Ending.{status_of};
+ghost use Rattle.paint.specs.FaultLine.{place_line, bare_line, byte_line, stream_line};
+ghost use Rattle.paint.specs.FaultLine.{refused_line, fault_line, fail_line};
+
+use crate::fault::{Fault, RunFail};
+use crate::refused::Refused;
+use pm_format::FormatError;
+use pm_io::{Line, Sink, put_all};
+
+/// Puts text on the error sink. That it fails changes nothing.
+pub fn say<E: Sink>(err: &mut E, text: &[u8])
+    ensures { Tells E.Sink err.old err.new text.now }
+{
+    let _ = put_all(err, text);
+}
+
+// A fault with a place: a word for what is counted, its number, and why it is a fault.
+#[tactic(auto, unfolding(crate::specs::FaultLine::place_line))]
+fn put_place(line: &mut Line, number: u32, word: &[u8], place: u32, why: &[u8])
+    requires word { length word.now ≤ 16 }
+    requires why { length why.now ≤ 40 }
+    ensures { line.new ≡ place_line number word.now place why.now }
+{
+    line.clear();
+    line.add(b"paint: fault ");
+    line.add_number(number);
+    line.add(b" ");
+    line.add(word);
+    line.add(b" ");
+    line.add_number(place);
+    line.add(b" (");
+    line.add(why);
+    line.add(b")\n");
+}
+
+// A fault without a place.
+#[tactic(auto, unfolding(crate::specs::FaultLine::bare_line))]
+fn put_number(line: &mut Line, number: u32, why: &[u8])
+    requires { length why.now ≤ 40 }
+    ensures { line.new ≡ bare_line number why.now }
+{
+    line.clear();
+    line.add(b"paint: fault ");
+    line.add_number(number);
+    line.add(b" (");
+    line.add(why);
+    line.add(b")\n");
+}
+
+// A line as it stands.
+fn put_text(line: &mut Line, text: &[u8])
+    requires { length text.now ≤ 40 }
+    ensures { line.new ≡ text.now }
+{
+    line.clear();
+    line.add(text);
+}
+
+// A fault of a stream text.
+fn put_stream_fault(line: &mut Line, fault: FormatError)
+    ensures { line.new ≡ stream_line fault }
+{
+    match fault {
+        FormatError::BadMagic => put_number(line, 20, b"it begins otherwise than a stream"),
+        FormatError::BadVersion(version) => put_place(line, 21, b"version", version, b"unknown"),
+        FormatError::BadDigits(digits) => put_place(line, 33, b"digits", digits, b"not 1 to 4"),
+        FormatError::Truncated(bytes) => put_place(line, 22, b"byte", bytes, b"cut off"),
+        FormatError::BadCount => put_number(line, 23, b"the counts break their rule"),
+        FormatError::BadRoot(root) => put_place(line, 24, b"root", root, b"not in its place"),
+        FormatError::BadFace(face) => {
+            put_place(line, 25, b"face", face, b"not between three roots")
+        }
+        FormatError::BadRecord(record) => {
+            put_place(
+                line,
+                26,
+                b"record",
+                record,
+                b"it doesn't fit those before it",
+            )
+        }
+        FormatError::BadInput(field) => put_place(line, 27, b"input", field, b"a wrong number"),
+        FormatError::OutOfMemory => put_text(line, b"paint: out of memory\n"),
+    }
+}
+
+// A fault at a byte of a coat.
+fn put_byte(line: &mut Line, number: u32, byte: u32, why: &[u8])
+    requires { length why.now ≤ 40 }
+    ensures { line.new ≡ byte_line number byte why.now }
+{
+    put_place(line, number, b"byte", byte, why);
+}
+
+// A fault of a coat.
+fn put_refused(line: &mut Line, refused: Refused)
+    ensures { line.new ≡ refused_line refused }
+{
+    match refused {
+        Refused::NoCoat => put_byte(line, 61, 1, b"no coat follows the stream"),
+        Refused::Version => put_byte(line, 62, 5, b"the version is unknown"),
+        Refused::Vertices => put_byte(line, 63, 9, b"not as many vertices as leaves"),
+        Refused::Faces => put_byte(line, 64, 13, b"not as many faces as the stream"),
+        Refused::Parts => put_byte(line, 65, 17, b"the parts aren't from 1 to 7"),
+        Refused::Cut(byte) => put_byte(line, 66, byte, b"the coat is cut off"),
+        Refused::Number(byte) => put_byte(line, 67, byte, b"beyond 32 widths of the image"),
+        Refused::Filler(byte) => put_byte(line, 68, byte, b"a filler that isn't 0"),
+        Refused::Trailing(byte) => put_byte(line, 69, byte, b"bytes follow the coat"),
+    }
+}
+
+// A fault.
+#[tactic(auto, unfolding(crate::specs::FaultLine::fault_line))]
+fn put_fault(line: &mut Line, fault: Fault)
+    ensures { line.new ≡ fault_line fault }
+{
+    match fault {
+        Fault::Stream(fault) => put_stream_fault(line, fault),
+        Fault::Coat(refused) => put_refused(line, refused),
+    }
+}
+
+// Why the program ended early.
+#[tactic(auto, unfolding(crate::specs::FaultLine::fail_line))]
+fn put_fail(line: &mut Line, fail: RunFail)
+    ensures { line.new ≡ fail_line fail }
+{
+    match fail {
+        RunFail::Faulty(fault) => put_fault(line, fault),
+        RunFail::Read => put_text(line, b"paint: read fault\n"),
+        RunFail::Write => put_text(line, b"paint: write fault\n"),
+        RunFail::OutOfMemory => put_text(line, b"paint: out of memory\n"),
+    }
+}
+
+/// Says why the program ended early, and answers its status.
+pub fn tell<E: Sink>(err: &mut E, fail: RunFail) -> u8
+    ensures status { result ≡ status_of fail }
+    ensures said { Tells E.Sink err.old err.new (fail_line fail) }
+{
+    let mut line = Line::new();
+    put_fail(&mut line, fail);
+    say(err, line.as_slice());
+    match fail {
+        RunFail::Faulty(_) => 1,
+        RunFail::Read => 3,
+        RunFail::Write => 4,
+        RunFail::OutOfMemory => 5,
+    }
+}
