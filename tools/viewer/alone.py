@@ -3,8 +3,8 @@ WebAssembly module, and with a model where one is given. It opens from a file, a
 
 The page is the window's (page/index.html), with styles and scripts in it, and with the card that
 asks for a file (alone_page/welcome.html). The module and the model stand in it packed by zlib, in
-base64; alone_page/model.js tells the model's form. The words of faults are those of
-docs/commands.
+base64; alone_page/model.js tells the model's form, in which its stream is packed by `pack`. The
+words of faults are those of docs/commands.
 """
 import base64
 import json
@@ -13,9 +13,8 @@ import zlib
 from pathlib import Path
 from typing import Dict, List, Optional
 
-from . import manual
+from . import kept, manual
 from .bundle import bundled
-from .kept import packed as model_packed
 from .model import Model
 
 HERE = Path(__file__).resolve().parent
@@ -31,11 +30,11 @@ LINKS = """<link rel="stylesheet" href="style.css">
 <script type="module" src="main.js"></script>
 """
 _CODE = re.compile(r"`([^`]*)`")
-_LAST_FAULT = 13
+_LAST_FAULT = 56
 
 
 def fault_words() -> Dict[int, List[str]]:
-    """By the fault of a text: what its line has, and what to do."""
+    """By the fault of a text or a file: what its line or the file has, and what to do."""
     found: Dict[int, List[str]] = {}
     for number in range(1, _LAST_FAULT + 1):
         said = manual.cure_of(f"fault {number}", manual.PREPARE)
@@ -56,12 +55,13 @@ def _script(kind: str, name: str, text: str) -> str:
 
 
 def page_of(module: bytes, model: Optional[Model] = None) -> str:
+    """The page with this module, and with a model, if one is given, whose stream is packed."""
     style = "".join(path.read_text(encoding="utf-8") for path in STYLES)
     policy = ";\n  ".join(POLICY)
     head = f'<meta http-equiv="Content-Security-Policy" content="{policy}">\n'
     scripts = (
         ("text/plain", "engine", packed(module)),
-        ("text/plain", "model", packed(model_packed(model)) if model else ""),
+        ("text/plain", "model", packed(kept.packed(model)) if model else ""),
         ("application/json", "words", json.dumps(fault_words())),
         ("text/plain", "worker", bundled(ALONE_PAGE / "alone_worker.js")),
         ("text/javascript", "page", bundled(ALONE_PAGE / "alone.js")),

@@ -40,8 +40,9 @@ def _sum_of_program(path: Path) -> Optional[str]:
 
 def name_for(text: bytes, programs: Programs) -> Optional[str]:
     """The name of what these programs build of a text; None where they can't be known yet."""
+    builders = (programs.vdpm, programs.prepare, programs.simplify)
     try:
-        sums = [_sum_of_program(path) for path in programs]
+        sums = [_sum_of_program(path) for path in builders]
     except (OSError, Stopped):
         return None
     known = [each for each in sums if each is not None]
@@ -54,7 +55,7 @@ def name_for(text: bytes, programs: Programs) -> Optional[str]:
 
 
 def packed(model: Model) -> bytes:
-    """A model in the form that is told above; a page has it in it so too."""
+    """A model in the form that is told above."""
     scale = {"unit": model.scale.unit, "middle": model.scale.middle} if model.scale else None
     head = json.dumps({
         "name": model.name, "counts": model.counts, "proved": model.proved,

@@ -5,14 +5,14 @@
     ./viewer --film FLIGHT MODEL [--budget N] [--program PATH] > film.html
     ./viewer --page [MODEL] [--module FILE] > page.html
 
-MODEL is a stream; or an OBJ, PLY or STL file, which `simplify` builds first, after `prepare` where
-it isn't fit; or the world.json of a world of tiles (docs/WORLDS.md). The page's address is printed,
-and --open opens it; Ctrl-C ends all. With --film the script FLIGHT is played, and its frames are
-written as one page that needs no server. With --page the window itself is written as one page
-that needs no server: it shows MODEL, or what is dropped on it, by the engine as a WebAssembly
-module, which FILE has or else is built. With --drape a picture lies over a terrain, by where its
-edges are in the file's coordinates or by a world file beside it. Needs Python 3.8 and a browser
-with WebGL 2, and no network.
+MODEL is a stream, packed or not; or an OBJ, PLY or STL file, which `simplify` builds first, after
+`prepare` where it isn't fit; or the world.json of a world of tiles (docs/WORLDS.md). The page's
+address is printed, and --open opens it; Ctrl-C ends all. With --film the script FLIGHT is played,
+and its frames are written as one page that needs no server. With --page the window itself is
+written as one page that needs no server: it shows MODEL, or what is dropped on it, by the engine as
+a WebAssembly module, which FILE has or else is built. With --drape a picture lies over a terrain,
+by where its edges are in the file's coordinates or by a world file beside it. Needs Python 3.8 and
+a browser with WebGL 2, and no network.
 
 Ends with status 1 where the model or the module can't be had, or the program can't be started or
 ends early.
@@ -31,7 +31,7 @@ from .alone import page_of
 from .drape import BadDrape, Drape, drape_of
 from .film import BadFlight, film_page
 from .library import NOT_BUILT, TO_BUILD, built_library
-from .model import MAGIC, Model, Programs, model_of, tell
+from .model import Model, Programs, is_built, model_of, tell, with_packed_stream
 from .module import NoModule, module_of
 from .program import ALL_MOVES, ProgramEnded
 from .server import Server, is_budget
@@ -78,13 +78,13 @@ def arguments(words: Optional[List[str]] = None) -> argparse.Namespace:
 
 
 def programs_of(vdpm: Path) -> Programs:
-    """vdpm, and the prepare and simplify beside it or else at the top of the repository."""
+    """vdpm, and the other programs beside it or else at the top of the repository."""
 
     def found(name: str) -> Path:
         beside = vdpm.resolve().parent / name
         return beside if beside.is_file() else TOP / name
 
-    return Programs(vdpm.resolve(), found("prepare"), found("simplify"))
+    return Programs(vdpm.resolve(), found("prepare"), found("simplify"), found("pack"))
 
 
 def found(asked: argparse.Namespace) -> Model:
@@ -109,13 +109,13 @@ def model_kept(path: Path, programs: Programs, fresh: bool) -> Model:
     """The model of a file. What was built of a text once is taken again, unless it shall be built
     afresh."""
     text = path.read_bytes()
-    key = None if text.startswith(MAGIC) else kept.name_for(text, programs)
+    key = None if is_built(text) else kept.name_for(text, programs)
     found = None if fresh or key is None else kept.found(key, path.name)
     if found is not None:
         tell(f"it was built before, and kept in {kept.folder()}: --fresh builds it anew")
         return found
     model = model_of(path, programs)
-    key = None if text.startswith(MAGIC) else kept.name_for(text, programs)
+    key = None if is_built(text) else kept.name_for(text, programs)
     if key is not None:  # (programs that are built by their first run are known after it)
         kept.keep(key, model)
     return model
@@ -146,8 +146,9 @@ def write_page(asked: argparse.Namespace) -> None:
         sys.exit("viewer: the page goes to standard output: add > page.html")
     model = loaded(asked) if asked.model else None
     try:
-        page = page_of(module_of(asked.module), model)
-    except NoModule as why:
+        packed = with_packed_stream(model, programs_of(asked.program)) if model else None
+        page = page_of(module_of(asked.module), packed)
+    except (NoModule, ProgramEnded) as why:
         sys.exit(f"viewer: {why}")
     sys.stdout.write(page)
     tell(f"{len(page.encode()):,} bytes")

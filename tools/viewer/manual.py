@@ -10,6 +10,7 @@ OBJ = "`vdpm canon`"
 STREAM = "The faults of a stream"
 SCRIPT = "`vdpm view B`"
 PREPARE = "`prepare`"
+PACK = "`pack`"
 STATUSES = "The statuses of all commands"
 _HEADING = re.compile(r"(#+) (.*)")
 _FAULT = re.compile(r"fault (\d+)")

@@ -1,9 +1,10 @@
 """From a file to a stream that is ready to be looked at.
 
-A file that begins with the bytes `VDPM` is a stream, and `vdpm check` judges it. Of a PLY or STL
-file an OBJ text is made; any other is taken for one: `vdpm canon` judges it with the least number
-of decimals that it allows; where that refuses it, `prepare` makes it fit; then `simplify` makes the
-stream. Each step is told on standard error, with the seconds where it takes some.
+A file that begins with the bytes `VDPM` is a stream, and `vdpm check` judges it; one with `VDPK`
+is a packed stream, which `pack` unpacks before. Of a PLY or STL file an OBJ text is made; any other
+is taken for one: `vdpm canon` judges it with the least number of decimals that it allows; where
+that refuses it, `prepare` makes it fit; then `simplify` makes the stream. Each step is told on
+standard error, with the seconds where it takes some.
 """
 import re
 import subprocess
@@ -15,13 +16,13 @@ from subprocess import PIPE
 from typing import IO, List, NamedTuple, Optional, Sequence, Set, Tuple
 
 from mesh_files import obj
-from mesh_files.reading import as_obj
+from mesh_files.reading import as_obj, without_faces
 from mesh_files.soup import MeshFault
 
 from . import colours, manual, progress
 from .program import UNPROVED, ProgramEnded, end_of, feed, is_notice
 
-MAGIC = b"VDPM"
+MAGIC, PACKED = b"VDPM", b"VDPK"
 SECONDS_BETWEEN_NEWS = 5
 MOST_DIGITS = 4
 # What of a text isn't shown, by how its lines begin, in words as those of `prepare`.
@@ -38,6 +39,7 @@ class Programs(NamedTuple):
     vdpm: Path
     prepare: Path
     simplify: Path
+    pack: Path
 
 
 class Scale(NamedTuple):
@@ -162,14 +164,29 @@ def needed(done: Done, heading: str) -> Done:
     return done
 
 
+def is_built(text: bytes) -> bool:
+    """Whether a file is a stream, packed or not, so that nothing has to be built of it."""
+    return text.startswith((MAGIC, PACKED))
+
+
 def model_of(path: Path, programs: Programs) -> Model:
     """The model of a file; ProgramEnded where it can't be had, and OSError where it can't be
     read."""
     text = path.read_bytes()
-    if text.startswith(MAGIC):
-        checked = needed(run(programs.vdpm, ["check"], text, "checking"), manual.STREAM)
-        return Model(path.name, text, checked.out.decode("ascii").strip(), checked.proved)
-    return _built(path.name, text_at(path), programs)
+    if not is_built(text):
+        return _built(path.name, text_at(path), text, programs)
+    unpacked = Done(0, text, [], True)
+    if text.startswith(PACKED):
+        unpacked = needed(run(programs.pack, ["--unpack"], text, "unpacking"), manual.PACK)
+    checked = needed(run(programs.vdpm, ["check"], unpacked.out, "checking"), manual.STREAM)
+    counts = checked.out.decode("ascii").strip()
+    return Model(path.name, unpacked.out, counts, unpacked.proved and checked.proved)
+
+
+def with_packed_stream(model: Model, programs: Programs) -> Model:
+    """A model as a page has it in it."""
+    done = needed(run(programs.pack, [], model.stream, "packing"), manual.STREAM)
+    return model._replace(stream=done.out)
 
 
 def text_at(path: Path) -> bytes:
@@ -183,12 +200,13 @@ def text_at(path: Path) -> bytes:
     return text
 
 
-def _built(name: str, text: bytes, programs: Programs) -> Model:
+def _built(name: str, text: bytes, given: bytes, programs: Programs) -> Model:
+    """The model of a text that was made of what a file has."""
     progress.current.faces = obj.face_count(text)
-    mesh, digits, prepared, notes = _fitting(text, programs)
+    mesh, digits, prepared, notes = _fitting(text, given, programs)
     faces = obj.face_count(mesh)
     if faces == 0:
-        raise ProgramEnded(f"{name} has no faces, so there is nothing to look at")
+        raise ProgramEnded(str(without_faces(text)))
     tell(f"building a hierarchy of {faces:,} faces")
     begun = time.monotonic()
     words = ["0", "--digits", str(digits)]
@@ -201,7 +219,7 @@ def _built(name: str, text: bytes, programs: Programs) -> Model:
     return Model(name, stream, counts, checked.proved, prepared, scale, found, notes)
 
 
-def _fitting(text: bytes, programs: Programs) -> Fitting:
+def _fitting(text: bytes, given: bytes, programs: Programs) -> Fitting:
     for digits in range(MOST_DIGITS + 1):
         words = ["canon"] + (["--digits", str(digits)] if digits else [])
         done = run(programs.vdpm, words, text, "reading")
@@ -211,8 +229,13 @@ def _fitting(text: bytes, programs: Programs) -> Fitting:
             break
     if not is_refusal(done):
         raise end_of(done.said[-1] if done.said else "", done.status, manual.OBJ)
-    tell(f"it isn't fit as it stands ({done.said[-1]}), so prepare makes it fit")
-    ready = needed(run(programs.prepare, [], text, "preparing"), manual.PREPARE)
+    is_own = given.endswith(text)  # (else nobody has the text whose lines are named)
+    why = f" ({done.said[-1]})" if is_own else ""
+    tell(f"it isn't fit as it stands{why}, so prepare makes it fit")
+    ready = run(programs.prepare, [], text, "preparing")
+    if is_refusal(ready) and not is_own:
+        ready = run(programs.prepare, [], given, "preparing")
+    needed(ready, manual.PREPARE)
     for line in ready.said:
         print(line, file=sys.stderr)
     return Fitting(ready.out, 0, True, tuple(ready.said))

@@ -15,6 +15,7 @@ from .program import ProgramEnded
 
 TOP = Path(__file__).resolve().parent.parent.parent
 MAKER = TOP / "tools/plain_rust.py"
+LATEST = b"vdpm_unpack"  # the function of a module that pages have asked for last
 
 
 class NoModule(Exception):
@@ -31,6 +32,8 @@ def module_of(given: Optional[Path]) -> bytes:
         raise NoModule(f"{path} can't be read: {fault.strerror}") from fault
     if not found.startswith(webassembly.MAGIC):
         raise NoModule(f"{path} is no WebAssembly module")
+    if LATEST not in found:
+        raise NoModule(f"{path} is an older module: make it anew, as docs/RUST.md tells")
     return found
 
 

@@ -10,7 +10,7 @@ import { Work } from "../page/work.js";
 import { watchFiles } from "./files.js";
 import { carried } from "./model.js";
 import { sampleText } from "./sample.js";
-import { ownPage, savePage } from "./saving.js";
+import { ownPage, savePacked, savePage } from "./saving.js";
 import { Steps } from "./steps.js";
 
 const part = (name) => document.getElementById(name);
@@ -29,8 +29,9 @@ class Alone {
     this.workerAt = URL.createObjectURL(new Blob([text], { type: "text/javascript" }));
     this.engine = unpacked(part("engine").textContent);
     this.words = JSON.parse(part("words").textContent);
-    for (const name of ["open-file", "save-page"]) part(name).hidden = false;
+    for (const name of ["open-file", "save-page", "save-packed"]) part(name).hidden = false;
     part("save-page").onclick = () => savePage(this.own, this.viewer);
+    part("save-packed").onclick = () => savePacked(this.viewer);
     watchFiles((file) => this.take(file));
     part("cancel").onclick = () => this.cancel();
     part("sample").onclick = () => this.take(new File([sampleText()], "knot.obj"));

@@ -34,7 +34,7 @@ function tried(doing) {
 
 export class BuiltIn {
   // `module` has the engine's bytes; `bytes` are a file's, or else `model` is one that was built
-  // before: { stream, colours, known }. `told` is called with what is done next, as { step }, and
+  // before: { packed, colours, known }. `told` is called with what is done next, as { step }, and
   // with how many { faces } there are.
   constructor({ module, name, bytes, model, words }, told) {
     Object.assign(this, { name, words, marks: 1, session: null, budget: ALL_MOVES, lines: [] });
@@ -45,12 +45,22 @@ export class BuiltIn {
     const begun = performance.now();
     this.engine = await Vdpm.load(module);
     const loaded = performance.now();
-    this.model = model ?? tried(() => built(this.engine, bytes, { told, words: this.words }));
+    this.model = tried(() => (model ? this.unpacked(model)
+      : built(this.engine, bytes, { told, words: this.words })));
     told({ step: "open" });
     const made = performance.now();
     this.beginsAt(ALL_MOVES);
     const opened = performance.now();
     this.times = { load: loaded - begun, build: made - loaded, open: opened - made };
+  }
+
+  unpacked(model) { return { ...model, stream: this.engine.unpack(model.packed) }; }
+
+  // The stream as a packed text.
+  async packed() {
+    const { engine, model } = this;
+    model.packed ??= tried(() => engine.pack(model.stream));
+    return model.packed;
   }
 
   async about() {

@@ -1,24 +1,37 @@
 // What a file is, by how it begins.
-export const MAGIC = [0x56, 0x44, 0x50, 0x4d]; // VDPM, which begins a stream
+const STREAM = "VDPM", PACKED = "VDPK";
 
 const OTHERS = [
-  [/^(?:\xef\xbb\xbf)?ply\r?\n/, "a PLY file"], [/^solid\s/, "an STL file"],
   [/^glTF/, "a glTF file"], [/^\s*\{/, "a JSON file"], [/^PK/, "a ZIP file"],
   [/^(?:II\*|MM\0)/, "a TIFF image"], [/^\s*</, "an HTML or XML file"],
   [/^(?:Kaydara|; FBX)/, "an FBX file"], [/^(?:\xff\xd8|\x89PNG)/, "a picture"],
 ];
 const LOOKED_AT = 4096;
+const beginsWith = (bytes, word) => [...word].every((c, at) => bytes[at] === c.charCodeAt(0));
+export const isStream = (bytes) => beginsWith(bytes, STREAM);
+export const isPacked = (bytes) => beginsWith(bytes, PACKED);
 // A binary STL file tells after its head how many triangles come, each in so many bytes.
 const STL = { head: 80, count: 4, triangle: 50 };
+const PLY_OR_STL = /^(?:ply\r?\n|solid\s)/;
+const COLOURED = /^property \w+ red\s/m;
+
+const beginning = (bytes, count) => String.fromCharCode(...bytes.subarray(0, count));
+
+function isBinaryStl(bytes) {
+  if (bytes.length <= STL.head + STL.count) return false;
+  const count = new DataView(bytes.buffer, bytes.byteOffset).getUint32(STL.head, true);
+  return bytes.length === STL.head + STL.count + STL.triangle * count;
+}
+
+// Whether a file is a PLY or STL file, which `prepare` reads.
+export const isScan = (bytes) => PLY_OR_STL.test(beginning(bytes, 64)) || isBinaryStl(bytes);
+
+// Whether it is a PLY file whose vertices have colours, which `prepare` doesn't read.
+export const hasColours = (bytes) => COLOURED.test(beginning(bytes, LOOKED_AT));
 
 // Words for a file that is no text, or one of another kind; null of one that may be an OBJ file.
 export function otherKind(bytes) {
-  const text = String.fromCharCode(...bytes.subarray(0, 64));
-  const found = OTHERS.find(([looks]) => looks.test(text));
+  const text = beginning(bytes, 64), found = OTHERS.find(([looks]) => looks.test(text));
   if (found) return found[1];
-  if (bytes.length > STL.head + STL.count) {
-    const count = new DataView(bytes.buffer, bytes.byteOffset).getUint32(STL.head, true);
-    if (bytes.length === STL.head + STL.count + STL.triangle * count) return "an STL file";
-  }
   return bytes.subarray(0, LOOKED_AT).includes(0) ? "no text" : null;
 }

@@ -1,4 +1,4 @@
-// The page with the model in it, as one file.
+// The page with the model in it, as one file; and the model's stream alone, packed.
 import { download } from "../page/keeping.js";
 import { toldOf } from "../page/link.js";
 import { tell } from "../page/panel.js";
@@ -8,7 +8,7 @@ const PIECE = 1 << 16; // bytes that are packed at once
 // The page as it was written, before anything of it was changed.
 export const ownPage = () => document.documentElement.cloneNode(true);
 
-async function packed(parts) {
+async function deflated(parts) {
   const stream = new Blob(parts).stream().pipeThrough(new CompressionStream("deflate"));
   const bytes = new Uint8Array(await new Response(stream).arrayBuffer()), letters = [];
   for (let at = 0; at < bytes.length; at += PIECE) {
@@ -19,18 +19,28 @@ async function packed(parts) {
 
 // The model as model.js reads it, with the view that is seen now.
 async function carriedBy({ about, camera, work }) {
-  const { stream, colours } = await work.ask({ task: "model" });
+  const { packed, colours } = await work.ask({ task: "model" });
   const { name, prepared, scale, notes } = about, coloured = colours !== null;
   const known = { name, prepared, scale, notes, view: toldOf(camera) };
-  const told = JSON.stringify({ ...known, length: stream.length, coloured });
+  const told = JSON.stringify({ ...known, length: packed.length, coloured });
   const head = new TextEncoder().encode(told);
-  return packed([Uint32Array.of(head.length), head, stream, ...(coloured ? [colours] : [])]);
+  return deflated([Uint32Array.of(head.length), head, packed, ...(coloured ? [colours] : [])]);
+}
+
+function save({ about }, ending, blob) {
+  const name = about.name.replace(/\.[^.]*$/, ending);
+  download(name, blob);
+  tell(`Saved ${name}`);
 }
 
 export async function savePage(own, viewer) {
   const page = own.cloneNode(true), model = page.querySelector("#model");
   model.textContent = await carriedBy(viewer);
-  const name = `${viewer.about.name.replace(/\.[^.]*$/, "")}.html`;
-  download(name, new Blob([`<!doctype html>\n${page.outerHTML}\n`], { type: "text/html" }));
-  tell(`Saved ${name}`);
+  const text = `<!doctype html>\n${page.outerHTML}\n`;
+  save(viewer, ".html", new Blob([text], { type: "text/html" }));
+}
+
+export async function savePacked(viewer) {
+  const { packed } = await viewer.work.ask({ task: "model" });
+  save(viewer, ".vdpz", new Blob([packed]));
 }

@@ -7,12 +7,13 @@ import { Lists } from "./slots.js";
 const AGAINST = 0.1; // the least cosine of a face and a node's normal that it can have
 const CREASE = Math.cos((40 * Math.PI) / 180); // of two faces between which no edge is seen
 const MOST = 65535;  // of a number of 16 bits
+const LEVEL = 0x808080; // a byte for each corner that is neither hollow nor raised
 
 export class Bends {
-  // `corners` has the nodes at the corners of all drawn faces; `normals` three numbers for each
-  // node, or is null.
-  constructor(nodes, corners, normals) {
-    Object.assign(this, { corners, normals, around: new Lists(nodes, corners.length) });
+  // `corners` has the nodes at the corners of all drawn faces; a hierarchy may have `normals`,
+  // three numbers for each node, and `hollows`, one for each (hollows.js).
+  constructor(nodes, corners, { normals = null, hollows = null }) {
+    Object.assign(this, { corners, normals, hollows, around: new Lists(nodes, corners.length) });
     this.units = new Float32Array(corners.length);
     this.sizes = new Float32Array(corners.length / 3);
     this.sum = new Float64Array(3);
@@ -41,7 +42,8 @@ export class Bends {
     for (let at = first[node]; at >= 0; at = next[at]) marked.add(slots[(at / 3) | 0]);
   }
 
-  // The normals of the faces that stand in some slots, four numbers each.
+  // The normals of the faces that stand in some slots, and how hollow their corners are: four
+  // numbers each.
   of(faces, slots) {
     const bends = new Uint32Array(4 * slots.length);
     for (let i = 0, to = 0; i < slots.length; i++, to += 4) {
@@ -49,8 +51,16 @@ export class Bends {
       bends[to] = this.packed(from);
       bends[to + 1] = this.packed(from + 1);
       bends[to + 2] = this.packed(from + 2);
+      bends[to + 3] = this.hollowsAt(from);
     }
     return bends;
+  }
+
+  hollowsAt(from) {
+    const { corners, hollows } = this;
+    if (hollows === null) return LEVEL;
+    const byte = (i) => hollows[corners[from + i]];
+    return byte(0) | (byte(1) << 8) | (byte(2) << 16);
   }
 
   // The normal of a corner, as one number.

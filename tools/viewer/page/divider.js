@@ -3,8 +3,8 @@ const FIRST = 0.5, STEP = 0.02; // of the canvas's width
 const ARROWS = { ArrowLeft: -STEP, ArrowRight: STEP };
 
 export class Divider {
-  // `moved` is called where the line has moved.
-  constructor(canvas, moved, signal) {
+  // `moved` is called where the line has moved; where `signal` is aborted hands do nothing more.
+  constructor(canvas, moved, signal = undefined) {
     Object.assign(this, { canvas, moved, line: document.getElementById("halves") });
     const on = (name, act) => this.line.addEventListener(name, act, { signal });
     on("pointerdown", (event) => {

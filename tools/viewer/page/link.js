@@ -2,7 +2,8 @@
 import { Camera } from "./camera.js";
 
 const part = (name) => document.getElementById(name);
-const SWITCHES = ["edges", "smooth", "contours", "hillshade"], CHOICES = ["up", "colour", "judged"];
+const SWITCHES = ["edges", "smooth", "hollows", "contours", "hillshade"];
+const CHOICES = ["up", "colour", "judged"];
 const chosen = (name) => document.querySelector(`input[name=${name}]:checked`).value;
 
 // What stands behind the `#` of such a link.

@@ -55,7 +55,7 @@ export class KeptMesh {
     this.faces = new Row(faces);
     this.leaving = new Leaving(count);
     this.late = new Late(count, this.corners);
-    this.bends = new Bends(count, this.corners, this.hierarchy.normals ?? null);
+    this.bends = new Bends(count, this.corners, this.hierarchy);
     this.uses.fill(0);
     const { split, landing, coming, near, touched } = this;
     for (const marked of [split, landing, coming, near, touched.nodes, touched.faces]) {
@@ -91,6 +91,13 @@ export class KeptMesh {
   // Draws the front where glides to it are over.
   settle(now) {
     this.land(now);
+    return this.patch();
+  }
+
+  // Tells from now on how hollow corners are.
+  hollow(hollows) {
+    this.bends.hollows = hollows;
+    for (let slot = 0; slot < this.faces.size; slot++) this.touched.faces.add(slot);
     return this.patch();
   }
 

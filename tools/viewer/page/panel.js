@@ -31,7 +31,7 @@ export function settings() {
     upright: chosen("up"),
     smooth: isOn("smooth"), edges: isOn("edges"), glide: isOn("glide"), freeze: isOn("freeze"),
     round: isOn("round"), beside: isOn("beside"), picks: isOn("picks"),
-    contours: isOn("contours"), hillShade: isOn("hillshade"),
+    contours: isOn("contours"), hillShade: isOn("hillshade"), hollows: isOn("hollows"),
     exaggeration: part("exaggeration").valueAsNumber,
   };
 }
@@ -54,7 +54,7 @@ export function saySettings(now) {
 }
 
 // What of a file isn't shown, by what `prepare` says that it ignored.
-const DROPPED = [[/texture/, "textures"], [/material/, "materials"]];
+const DROPPED = [[/texture/, "textures"], [/material/, "materials"], [/PLY/, "vertex colours"]];
 function droppedOf(notes) {
   const said = notes.filter((note) => note.includes("ignored")).join();
   return DROPPED.filter(([looks]) => looks.test(said)).map(([, name]) => name);
@@ -67,7 +67,7 @@ export function sayModel({ notes = [], ...about }, { upright }) {
   part("name").textContent = name;
   document.title = name;
   const notices = engine ? [engine] : proved ? [] : ["not proved on this machine"];
-  if (prepared) notices.push("made fit by prepare");
+  if (prepared) notices.push("rounded and repaired by prepare");
   if (dropped.length > 0) {
     const said = `Not shown: ${dropped.join(" and ")} of the file`;
     notices.push(said);
@@ -108,7 +108,7 @@ const other = (name) => () => {
 export const KEYS = {
   f: press("freeze"), e: press("edges"), s: press("smooth"), g: press("glide"), o: press("round"),
   b: press("beside"), y: other("up"), d: other("judged"),
-  c: press("contours"), l: press("hillshade"),
+  c: press("contours"), l: press("hillshade"), v: press("hollows"),
   1: choose("stone"), 2: choose("depth"), 3: choose("own"), 4: choose("wire"), 5: choose("height"),
 };
 
@@ -159,11 +159,15 @@ function made(kind, inside) {
 
 export const rowOf = (cells) => made("tr", cells.map((cell) => made("td", [cell])));
 
-// The captions left and right of the line, where there is one.
-const INPUT_SAID = { unasked: "", asked: "the full model is on its way", shown: "full model" };
-export function sayHalves(beside, inputState) {
+// What is said of the full model right of the line, by whether it was asked for.
+export const INPUT_SAID = {
+  unasked: "", asked: "the full model is on its way", shown: "full model",
+};
+
+// The line between two pictures, if there is one, and what is said of that right of it.
+export function sayHalves(beside, right) {
   part("halves").hidden = !beside;
-  part("right-half").textContent = INPUT_SAID[inputState];
+  part("right-half").textContent = right;
 }
 
 export function sayPicked(text) {

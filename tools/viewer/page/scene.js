@@ -45,7 +45,8 @@ export class Scene {
     }
     const cut = look.beside ? Math.round(look.cut * width) : width;
     const parts = [{ names: look.names ?? ["front"], left: 0, width: cut }];
-    if (look.beside) parts.push({ names: ["input"], left: cut, width: width - cut });
+    const inputs = look.inputs ?? ["input"];
+    if (look.beside) parts.push({ names: inputs, left: cut, width: width - cut });
     this.renderer.draw({ camera, picture, parts, look });
   }
 

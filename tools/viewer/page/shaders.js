@@ -26,6 +26,7 @@ export const MESH_VERTEX = `#version 300 es
   out vec3 normal;
   out vec3 own;             // the node's colour in the input
   out float rise;           // the height, in steps between contours
+  out float hollow;         // from -1, where the mesh is hollow, to 1, where it is raised
   out float depth;
   flat out float isPicked;
   ivec2 cell(int i) { return ivec2(i % ${WIDTH}, i / ${WIDTH}); }
@@ -54,8 +55,10 @@ export const MESH_VERTEX = `#version 300 es
     if (bent) {
       uvec4 three = texelFetch(bends, cell(face), 0);
       normal = direction(which == 0 ? three.x : which == 1 ? three.y : three.z);
+      hollow = float((three.w >> (8 * which)) & 255u) / 127.0 - 128.0 / 127.0;
     } else {
       normal = vec3(texelFetch(normals, node, 0).xyz);
+      hollow = 0.0;
     }
     own = texelFetch(colours, node, 0).rgb;
     depth = float(stands.w) / deepest;
@@ -69,7 +72,7 @@ export const MESH_FRAGMENT = `#version 300 es
   uniform float side;       // 1 of a closed mesh, -1 of one inside out, 0 of one that isn't closed
   uniform int colour;       // 0 stone, 1 by depth, 2 edges alone, 3 the input's, 4 drape, 5 height
   uniform sampler2D drape;
-  uniform bool smoothly;
+  uniform bool smoothly, hollows;
   uniform float edges;
   uniform vec3 up;
   uniform float times;
@@ -78,7 +81,7 @@ export const MESH_FRAGMENT = `#version 300 es
   uniform vec3 heights[${RAMP.length + 1}]; // the colours of heights, and that of water
   in vec3 seen, nearness, normal, own;
   in vec2 spot;
-  in float rise, depth;
+  in float rise, depth, hollow;
   flat in float isPicked;
   out vec4 shown;
 
@@ -146,6 +149,8 @@ export const MESH_FRAGMENT = `#version 300 es
     bool isBare = colour == 0 || colour == 4 && spot != clamp(spot, 0.0, 1.0);
     vec3 told = colour == 1 ? ramp(depth) : colour == 4 ? laid : colour == 5 ? byHeight() : own;
     vec3 base = isBare ? stone : pow(told, vec3(2.2));
+    // Less light comes into a hollow, and dust is worn off ridges.
+    if (hollows) base *= 1.0 + (hollow < 0.0 ? 0.75 : 0.2) * hollow;
     if (colour == 2) {
       vec3 bare = paper * (0.85 + 0.2 * dot(n, light));
       shown = vec4(mix(bare, ink, max(wires * 0.9, level)), 1.0);

@@ -4,6 +4,7 @@ import { homeOf, wayThrough } from "./camera.js";
 import { plus } from "./matrices.js";
 import { isStill } from "./panel.js";
 import { met } from "./picking.js";
+import { rememberUp } from "./remembering.js";
 
 const ROOM = 1.08;    // of the mesh in a picture that shows the whole
 const FLIGHT = 350;   // milliseconds of a way, where it may be seen
@@ -43,6 +44,13 @@ export class Steering {
   async goHome() {
     this.goesHome = true;
     this.fly((await this.whole()).camera);
+  }
+
+  // Another axis points up, and will when the model is opened again.
+  turnUp() {
+    const { about, hierarchy, set } = this.viewer;
+    rememberUp(about, hierarchy, set.upright);
+    this.goHome();
   }
 
   // The picture has another size: what was seen whole is so again.

@@ -6,9 +6,11 @@ import { showFault } from "./faults.js";
 import { Keeping } from "./keeping.js";
 import { Glides } from "./glides.js";
 import { takeHands } from "./hands.js";
+import { shadeHollows } from "./hollowing.js";
 import { restored } from "./link.js";
 import * as panel from "./panel.js";
 import { met, sentence } from "./picking.js";
+import { upOf } from "./remembering.js";
 import { NO_FACE, watchTheme } from "./renderer.js";
 import { Session } from "./session.js";
 import { Steering } from "./steering.js";
@@ -68,7 +70,7 @@ export class Viewer {
     this.session.began(about);
     this.terrain = new Terrain(hierarchy.box, hierarchy.grid);
     this.terrain.hear("model", hierarchy.grounds);
-    panel.sayModel(about, hierarchy);
+    panel.sayModel(about, { upright: upOf(about, hierarchy) });
     if (!about.coloured && this.terrain.isField(hierarchy.upright)) panel.choose("height")();
     panel.sayPicked(null);
     this.set = panel.settings();
@@ -91,6 +93,7 @@ export class Viewer {
     this.set = panel.settings();
     panel.saySettings(this.set);
     this.terrain.say(this.set);
+    if (this.set.hollows) shadeHollows(this);
   }
 
   // Takes what is known now, which has to be drawn.
@@ -110,7 +113,7 @@ export class Viewer {
     this.takeSettings();
     if (name === "freeze") this.frozen = this.set.freeze ? this.seen() : null;
     if (name === "budget") this.budgetAt = performance.now() + BUDGET_SETTLES;
-    if (name === "up") this.steering.goHome();
+    if (name === "up") this.steering.turnUp();
     if (name === "exaggeration") this.steering.stretch(this.terrain.stretch(this.set));
     if (name === "beside" && this.set.beside) this.showInput();
     this.change({});
@@ -186,7 +189,7 @@ export class Viewer {
     const mark = set.freeze ? "LOD is frozen: turn the model" : "";
     const rates = { pictures: draws.length, fronts: fronts.length };
     panel.sayCounters({ shown, all, left, put, draw, ...rates, mark });
-    panel.sayHalves(set.beside, this.inputState);
+    panel.sayHalves(set.beside, panel.INPUT_SAID[this.inputState]);
   }
 
   // Whether the front is the one that is asked for, so that it stays until a hand moves.

@@ -4,6 +4,7 @@
 //   about()         what is told of the model
 //   stream()        its bytes, as a buffer
 //   colours()       three bytes for each vertex of the input
+//   packed()        the stream as a packed text, which the engine in a page can tell
 //   ask(script)     the bytes of the replies; arrays beside them, or null; how many bytes both
 //                   have; the milliseconds of each part of the way; and the numbers of the fronts
 //                   that were marked before and after
@@ -14,9 +15,11 @@ import { Follower } from "./follower.js";
 import { fitted } from "./fitting.js";
 import { boxOf, groundsOf } from "./ground.js";
 import { fullFrame, meanColours, readHierarchy } from "./hierarchy.js";
+import { hollowsOf } from "./hollows.js";
 import { KeptMesh } from "./mesh.js";
 import { readReplies } from "./replies.js";
 import { shapeOf } from "./shape.js";
+import { Surface } from "./surface.js";
 import { clock, startClock } from "./tasks.js";
 import { WRITERS, levelOf } from "./writers.js";
 
@@ -80,6 +83,12 @@ class Working {
     return words[0] === "hit" ? [...words, this.hierarchy.faceInputs[Number(words[1])]] : words;
   }
 
+  // What becomes another where it is told how hollow the mesh is, which is found once.
+  async hollow() {
+    this.hierarchy.hollows ??= hollowsOf(new Surface(this.hierarchy));
+    return { patch: this.follower.mesh.hollow(this.hierarchy.hollows) };
+  }
+
   // The input itself, to be drawn beside the front.
   async input() {
     const mesh = new KeptMesh(this.hierarchy, this.colours);
@@ -101,13 +110,13 @@ class Working {
 
   // The model itself, to be put into a page.
   async model() {
-    const { about, connection } = this, stream = new Uint8Array(await connection.stream());
-    return { stream, colours: about.coloured ? await connection.colours() : null };
+    const { about, connection } = this, packed = await connection.packed();
+    return { packed, colours: about.coloured ? await connection.colours() : null };
   }
 }
 
 const TASKS = [
-  "open", "view", "fit", "settle", "ask", "input", "flight", "start", "mesh", "model",
+  "open", "view", "fit", "settle", "ask", "hollow", "input", "flight", "start", "mesh", "model",
 ];
 
 // The tasks by their names.

@@ -10,7 +10,8 @@ from typing import Any, List, Optional
 
 from browser import found
 from viewer.alone import page_of
-from viewer.model import Model
+from viewer.main import programs_of
+from viewer.model import Model, with_packed_stream
 from viewer.module import NoModule, module_of
 from viewer.program import replies_to
 
@@ -30,6 +31,11 @@ def module() -> bytes:
         return module_of(Path(given) if given else None)
     except NoModule as why:
         raise unittest.SkipTest(str(why)) from why
+
+
+def looked_at(name: str) -> Model:
+    """The model of an example as a page has it in it."""
+    return with_packed_stream(model(name), programs_of(program()))
 
 
 @unittest.skipUnless(found(), "no Chromium")
@@ -101,12 +107,42 @@ class Showing(Page):
         self.page.until("document.title === 'square.obj'")
         self.shows("square.obj")
         self.assertEqual(self.value("viewer.set.colour"), "own")
-        self.assertIn("made fit by prepare", self.text("notice"))
+        self.assertIn("rounded and repaired by prepare", self.text("notice"))
 
-    def test_a_stream_that_is_dropped_is_shown(self) -> None:
+    def test_a_stream_that_is_dropped_is_shown_packed_or_not(self) -> None:
         self.open()
         self.drop(STREAM)
         self.shows("octahedron.vdpm")
+        self.value("document.getElementById('save-packed').click()")
+        packed = self.page.downloaded("octahedron.vdpz")
+        self.assertEqual(looked_at("octahedron.vdpm").stream, packed)
+        self.drop(self.written("again.vdpz", packed))
+        self.page.until("document.title === 'again.vdpz'")
+        self.shows("again.vdpz")
+        self.assertEqual(self.value("viewer.hierarchy.faces"), 8)
+
+    def test_scans_are_prepared(self) -> None:
+        self.open()
+        corners = ("0 0 0", "9.5 0 0", "9.5 9.25 0", "0 9 0.125")
+        head = "ply\nformat ascii 1.0\nelement vertex 4\n"
+        head += "".join(f"property float {axis}\n" for axis in "xyz")
+        head += "".join(f"property uchar {part}\n" for part in ("red", "green", "blue"))
+        head += "element face 2\nproperty list uchar int vertex_indices\nend_header\n"
+        rows = [*(f"{corner} 9 9 9" for corner in corners), "3 0 1 2", "3 0 2 3", ""]
+        facets = "".join(
+            "facet normal 0 0 1\nouter loop\n"
+            + "".join(f"vertex {corners[at]}\n" for at in face) + "endloop\nendfacet\n"
+            for face in ((0, 1, 2), (0, 2, 3))
+        )
+        for name, text, said in (
+            ("scan.ply", head + "\n".join(rows), "Not shown: vertex colours"),
+            ("part.stl", f"solid part\n{facets}endsolid part\n", "prepare"),
+        ):
+            self.drop(self.written(name, text.encode()))
+            self.page.until(f"document.title === {name!r} || {FAULTY}")
+            self.shows(name)
+            self.assertEqual(self.value("viewer.hierarchy.faces"), 2)
+            self.assertIn(said, self.text("notice"))
 
     def test_the_sample_is_built(self) -> None:
         self.open()
@@ -116,12 +152,12 @@ class Showing(Page):
         self.assertFalse(self.value("document.getElementById('welcome').hidden"))
 
     def test_a_model_that_the_page_has_in_it(self) -> None:
-        looked_at = model("ring_scan.obj")
-        self.open(looked_at)
+        ring = looked_at("ring_scan.obj")
+        self.open(ring)
         self.shows("ring_scan.obj")
-        self.assertEqual(self.value("viewer.hierarchy.faces"), looked_at.faces)
-        assert looked_at.scale is not None
-        self.assertEqual(self.value("viewer.about.scale.unit"), looked_at.scale.unit)
+        self.assertEqual(self.value("viewer.hierarchy.faces"), ring.faces)
+        assert ring.scale is not None
+        self.assertEqual(self.value("viewer.about.scale.unit"), ring.scale.unit)
 
     def test_a_page_that_the_page_saves_shows_the_same(self) -> None:
         self.open()
@@ -137,7 +173,7 @@ class Showing(Page):
         self.page.until("globalThis.alone !== undefined")
         self.shows("ring_scan.obj")
         self.assertEqual(self.value("viewer.views.asked"), asked)
-        self.assertIn("made fit by prepare", self.text("notice"))
+        self.assertIn("rounded and repaired by prepare", self.text("notice"))
 
     def test_it_asks_for_nothing_and_the_browser_refuses_what_would(self) -> None:
         self.open()
@@ -157,10 +193,13 @@ class Refusing(Page):
             ("bad.obj", b"v 0 0 0\nv 1 0 0\nv 0 x 0\nf 1 2 3\n", "Line 3 has a field", ""),
             ("far.obj", b"v 0 0 0\nf 1 2 3\n", "Line 2 names vertex 0, or one that isn't", ""),
             ("none.obj", b"v 0 0 0\n", "no triangles", "no point cloud"),
-            ("scan.ply", b"ply\nformat ascii 1.0\n", "This is a PLY file", "export it as OBJ"),
-            ("scan.stl", b" " * 80 + b"\1\0\0\0" + bytes(50), "an STL file", "export it as OBJ"),
+            ("cut.ply", b"ply\nformat ascii 1.0\n", "The file ends early", "copy it again"),
+            ("odd.ply", b"ply\nformat ascii 1.0\nmade by\n", "line or byte 3", ""),
+            ("flat.stl", b" " * 80 + b"\1\0\0\0" + bytes(50), "no triangles", "no point cloud"),
+            ("a.glb", b"glTF\2\0\0\0", "This is a glTF file", "export it as OBJ"),
             ("noise", b"\0\1\2\3", "This is no text", "export it as OBJ"),
             ("cut.vdpm", STREAM.read_bytes()[:100], "fault 22", ""),
+            ("cut.vdpz", looked_at("octahedron.vdpm").stream[:40], "fault 35", "copy it again"),
         ]
         for name, data, reason, cure in cases:
             with self.subTest(name):
@@ -189,7 +228,9 @@ class Writing(Case):
             self.assertNotIn(word, done.stdout.replace('"not proved on this machine"', ""))
 
     def test_what_is_no_module_is_told(self) -> None:
+        older = self.written("older.wasm", module().replace(b"vdpm_unpack", b"vdpm_before"))
         for words, said in (
+            (["--page", "--module", str(older)], "is an older module"),
             (["--page", "--module", str(STREAM)], "is no WebAssembly module"),
             (["--page", "--module", "nowhere.wasm"], "can't be read: No such file"),
             ([], "a model is needed"),

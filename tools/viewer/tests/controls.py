@@ -32,12 +32,13 @@ class Controls(Page):
             "colour=wire": drawn, "colour=height": drawn, "colour=stone": drawn,
             "colour=own": "0", "contours": drawn, "hillshade": drawn,
             "exaggeration": "viewer.camera.stretch.times", "edges": drawn, "smooth": drawn,
-            "glide": "viewer.set.glide", "beside": drawn, "up=z": drawn, "up=y": drawn,
+            "hollows": "viewer.set.hollows", "glide": "viewer.set.glide", "beside": drawn,
+            "up=z": drawn, "up=y": drawn,
             "picks": "viewer.set.picks", "save-flight": "told.textContent",
             "summary": "saves.open", "save-picture": "saved", "save-obj": "saved",
             "save-ply": "saved", "save-glb": "saved", "copy-link": "told.textContent",
             "copy-view": "told.textContent", "home": "0", "round": "0", "unhide": "0",
-            "open-file": "0", "save-page": "0",
+            "open-file": "0", "save-page": "0", "save-packed": "0",
         }
         self.assertEqual(sorted(self.value(CONTROLS)), sorted(shown))
         self.press("#unhide")
@@ -81,7 +82,7 @@ class Controls(Page):
         self.assertEqual(
             self.value(listed),
             "drag, arrows; right or Shift drag, Shift arrows; wheel, two fingers, + and −; "
-            "double click; E, S, O; 1 2 3 4 5, D; C, L; Y, R, P; B, G, F, H",
+            "double click; E, S, O; 1 2 3 4 5, D; V, C, L; Y, R, P; B, G, F, H",
         )
         yaw, pitch, target = ("viewer.camera.yaw", "viewer.camera.pitch", "viewer.camera.target[1]")
         for key, what in (
@@ -89,7 +90,8 @@ class Controls(Page):
             ("+", "viewer.camera.distance"), ("-", "viewer.camera.distance"),
             ("f", "viewer.set.freeze"), ("f", "viewer.set.freeze"), ("d", "viewer.set.judged"),
             ("2", "viewer.set.colour"), ("4", "viewer.set.colour"), ("5", "viewer.set.colour"),
-            ("1", "viewer.set.colour"), ("c", "viewer.set.contours"), ("l", "viewer.set.hillShade"),
+            ("1", "viewer.set.colour"), ("v", "viewer.set.hollows"),
+            ("c", "viewer.set.contours"), ("l", "viewer.set.hillShade"),
             ("e", "viewer.set.edges"), ("s", "viewer.set.smooth"), ("g", "viewer.set.glide"),
             ("b", "viewer.set.beside"), ("y", "viewer.set.upright"), ("r", yaw),
             ("h", "drawer.hidden"), ("h", "drawer.hidden"),

@@ -1,5 +1,6 @@
 """From a file to a model: streams, OBJ files, those that have to be prepared, and colours."""
 import os
+import struct
 import subprocess
 import sys
 import unittest.mock
@@ -9,7 +10,7 @@ from viewer import kept, progress
 from viewer.colours import PLAIN, coloured_vertices, packed
 from viewer.hierarchy import mean_colours, nodes_of
 from viewer.main import model_kept, programs_of
-from viewer.model import Model, Programs, model_of, scale_of
+from viewer.model import Model, Programs, model_of, scale_of, with_packed_stream
 from viewer.program import UNPROVED, ProgramEnded, is_notice, said_last
 
 from .common import EXAMPLES, STREAM, TOP, Case, model, program
@@ -26,6 +27,13 @@ class Files(Case):
         octahedron = model("octahedron.vdpm")
         self.assertEqual(octahedron.stream, STREAM.read_bytes())
         self.assertEqual((octahedron.records, octahedron.faces, octahedron.prepared), (2, 8, False))
+
+    def test_a_packed_stream_is_unpacked(self) -> None:
+        octahedron = model("octahedron.vdpm")
+        packed = with_packed_stream(octahedron, programs_of(program())).stream
+        again = looked_at(self.written("octahedron.vdpm", packed))
+        self.assertEqual(again, octahedron)
+        self.assertLess(3 * len(packed), len(octahedron.stream))
 
     def test_an_obj_is_built_with_the_decimals_that_it_has(self) -> None:
         self.assertEqual(model("octahedron.obj").faces, 8)
@@ -58,6 +66,7 @@ class Files(Case):
         cases = [
             (stream[:100], "fault 22 byte 100", "copy the file again"),
             (stream + b"w\n", "fault 29", "The stream"),
+            (b"VDPK\1\0", "pack: fault 35", "copy the file again"),
             (b"v 0 0 0\nv 1 0 0\nv 0 1 0\nf 1 2 9\n",
              "prepare: fault 7 line 4 (there is no such vertex)", "isn't read yet"),
         ]
@@ -70,14 +79,21 @@ class Files(Case):
     def test_nothing_to_look_at_is_told(self) -> None:
         with self.assertRaisesRegex(ProgramEnded, "looks like a PNG picture"):
             looked_at(self.written("picture.png", b"\x89PNG\r\n"))
-        with self.assertRaisesRegex(ProgramEnded, "no faces"):
-            looked_at(self.written("words.txt", b"words\n"))
+        for text, said in ((b"words\n", "no faces"), (b"", "it is empty"), (b"\1", "is no text")):
+            with self.assertRaisesRegex(ProgramEnded, said):
+                looked_at(self.written("words.txt", text))
+
+    def test_a_fault_of_another_kind_of_file_has_its_byte(self) -> None:
+        corners = (0, 0, 0, 1, 0, 0, 0, 1e20, 0)
+        data = bytes(80) + struct.pack("<I12fH", 1, 0, 0, 1, *corners, 0)
+        with self.assertRaisesRegex(ProgramEnded, "fault 24 byte 124 .*: scale the mesh"):
+            looked_at(self.written("far.stl", data))
 
     def test_a_program_that_is_not_proved_says_so(self) -> None:
         notice = "vdpm: not proved on this machine yet, run-time checks are on; ./prove proves it"
         text = f"#!/bin/sh\necho '{notice}' >&2\nexec '{program()}' \"$@\"\n"
         fake = self.written("vdpm", text.encode(), runs=True)
-        fakes = Programs(fake, fake, fake)
+        fakes = Programs(fake, fake, fake, fake)
         self.assertFalse(model_of(STREAM, fakes).proved)
         with self.assertRaises(ProgramEnded) as caught:
             model_of(self.written("short", STREAM.read_bytes()[:50]), fakes)
@@ -98,7 +114,7 @@ class Files(Case):
         text = b"#!/bin/sh\necho 'vdpm: not built, so nothing was run' >&2\nexit 1\n"
         fake = self.written("vdpm", text, runs=True)
         with self.assertRaisesRegex(ProgramEnded, "status 1: vdpm: not built, so nothing was run"):
-            model_of(EXAMPLES / "octahedron.obj", Programs(fake, fake, fake))
+            model_of(EXAMPLES / "octahedron.obj", Programs(fake, fake, fake, fake))
 
     def test_the_command_says_what_is_wrong(self) -> None:
         words = [sys.executable, str(TOP / "viewer"), "--program", str(program()), "nowhere.obj"]

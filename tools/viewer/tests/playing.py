@@ -189,7 +189,7 @@ class Models(Page):
     def test_a_prepared_mesh_tells_places_of_its_file(self) -> None:
         self.look_at(model("ring_scan.obj"))
         # (a program that isn't proved says so before it)
-        self.assertIn("made fit by prepare", self.text("notice"))
+        self.assertIn("rounded and repaired by prepare", self.text("notice"))
         self.tick("picks")
         self.page.click(270, 320)
         self.page.until("!document.getElementById('picked').hidden")
