@@ -4,8 +4,9 @@ whether these meet.
     python3 tests/random_worlds.py SEED COUNT [--vdpm PATH] [--processes N]
 
 World I of a seed is always the same one. Each is an oriented manifold whose vertices stand at
-different places; it is cut by `tools/world.py`, its streams and parents are built, and tiles of any
-levels that make up the world are shown, each by a random script. What is looked at are the frames
+different places; it is cut, and its streams and parents are built, by what `tools/world.py` calls
+(in one process, since many starts would take most of the time), and tiles of any levels that make
+up the world are shown, each by a random script. What is looked at are the frames
 of `vdpm view` alone, moved to where world.json has each tile, beside the surface itself: a vertex
 on the border of a frame is the one of the world at its place, each other one is of its own; over
 these all faces together are an oriented manifold, and its border is that of the surface. The last
@@ -30,6 +31,11 @@ TOP = Path(__file__).resolve().parent.parent
 sys.path.insert(0, str(TOP / "tools"))
 
 from frames import Frame, read_frames  # noqa: E402
+from viewer.main import programs_of  # noqa: E402
+from worlds.building import Build, build_world  # noqa: E402
+from worlds.form import WorldFault, read_world  # noqa: E402
+from worlds.making import Asked, make_world  # noqa: E402
+from worlds.progress import Work  # noqa: E402
 
 ALL_MOVES = str((1 << 32) - 1)
 FRONTS = 3  # of each world
@@ -82,14 +88,25 @@ def border_of(faces: List[Tuple[Vertex, ...]]) -> Set[Tuple[Vertex, Vertex]]:
     return {(a, b) for a, b in sides if (b, a) not in sides}
 
 
-def world_tool(*words: object) -> None:
-    command = [sys.executable, str(TOP / "tools" / "world.py"), *map(str, words)]
-    done = subprocess.run(command, capture_output=True, text=True, check=False)
-    if done.returncode:
-        raise Wrong(f"{words[0]} ended with status {done.returncode}: {done.stderr.strip()}")
-
-
 class Wrong(Exception):
+    pass
+
+
+def make(source: Path, folder: Path, most: int, parent: int, vdpm: Path) -> None:
+    """Cuts a surface into tiles of so many faces, and builds them and their parents."""
+    programs = programs_of(vdpm)
+    try:
+        make_world(Asked(source, folder, most, unit=1), say_nothing)
+        world = read_world(folder)
+        with Work(say_nothing) as work:
+            build_world(
+                Build(world, programs.simplify, programs.vdpm, parent, 1, work, apart=False)
+            )
+    except WorldFault as fault:
+        raise Wrong(str(fault)) from fault
+
+
+def say_nothing(_: str) -> None:
     pass
 
 
@@ -179,9 +196,7 @@ def tried(vdpm: Path, seed: str, number: int) -> str:
         try:
             if not surface.faces:
                 return ""
-            world_tool("cut", source, folder, "--unit", 1, "--faces", most)
-            given = ("--faces", parent, "--program", vdpm)
-            world_tool("build", folder, *given)
+            make(source, folder, most, parent, vdpm)
             world = World(folder, vdpm)
             for _ in range(FRONTS):
                 names = world.some_cut(rng)

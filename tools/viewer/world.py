@@ -20,7 +20,7 @@ from .server import BYTES, JSON, TEXT, Content, drape_content
 from .server import Page as ServedPage
 
 WORLD_PAGE = Path(__file__).resolve().parent / "world_page"
-OWN_FILES = ("tiles.js", "tiling.js", "world_bar.js", "world_worker.js")
+OWN_FILES = ("finest.js", "tiles.js", "tiling.js", "world_bar.js", "world_worker.js")
 # Measured: `vdpm view` takes 57 MB for a stream of 199,712 faces, and 272 for one of 980,000.
 # `vdpm live` takes 8 bytes more for each node, and there are about as many nodes as faces.
 MEMORY_A_FACE = 300
@@ -63,7 +63,7 @@ class WorldShowing:
         return {
             "name": tile.name, "level": tile.level, "offset": tile.offset, "low": tile.low,
             "high": tile.high, "children": children, "error": error_of(self.world, tile),
-            "memory": self._memory(tile),
+            "faces": faces_of(self.world, tile), "memory": self._memory(tile),
         }
 
     def _memory(self, tile: Tile) -> int:

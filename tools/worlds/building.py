@@ -12,7 +12,7 @@ from viewer import manual
 from viewer.program import UNPROVED, end_of, is_notice
 
 from .form import Tile, World, WorldFault
-from .parents import told_path
+from .parents import make_parent, told_path
 from .progress import Work
 
 TOOL = Path(__file__).resolve().parent.parent / "world.py"
@@ -27,6 +27,7 @@ class Build(NamedTuple):
     faces: int  # of a parent at most
     jobs: int
     work: Work
+    apart: bool = True  # a parent is made by a process of its own, so that several are at a time
 
 
 def is_fresh(world: World, tile: Tile) -> bool:
@@ -49,6 +50,9 @@ def _ended(tile: Tile, said: bytes, status: int, heading: str) -> WorldFault:
 
 
 def _make_parent(build: Build, tile: Tile) -> None:
+    if not build.apart:
+        make_parent(build.vdpm, build.world, tile, build.faces)
+        return
     words = [sys.executable, str(TOOL), "parent", str(build.world.folder), tile.name]
     words += ["--faces", str(build.faces), "--program", str(build.vdpm)]
     done = subprocess.run(words, capture_output=True, check=False)

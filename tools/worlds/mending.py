@@ -130,6 +130,12 @@ def first_broken(faces: List[Corners]) -> Optional[int]:
     return None
 
 
+def cut_open(mesh: Mesh, edges: Iterable[Tuple[int, ...]] = ()) -> Mended:
+    """The surface, cut open along these edges and where it isn't a manifold."""
+    done = split(mesh, _twins(mesh.faces, edges))
+    return Mended(done, border_sides(done.faces), 0, len(done.places) - len(mesh.places))
+
+
 def mended(
     places: List[Place], faces: List[Corners], opened: FrozenSet[FrozenSet[Place]] = frozenset()
 ) -> Mended:
@@ -137,7 +143,4 @@ def mended(
     once = joined(places, faces)
     number_at = {place: number for number, place in enumerate(once.places)} if opened else {}
     edges = (tuple(number_at.get(place, _NONE) for place in edge) for edge in opened)
-    twins = _twins(once.faces, edges)
-    mesh = split(once, twins)
-    border = border_sides(mesh.faces)
-    return Mended(mesh, border, len(faces) - len(once.faces), len(mesh.places) - len(once.places))
+    return cut_open(once, edges)._replace(dropped=len(faces) - len(once.faces))

@@ -1,19 +1,19 @@
 """Makes a parent: one coarse mesh of its children's fronts, for views from far away.
 
 Each child is shown as coarse as one tolerance allows, so that all of them together have at most so
-many faces; the fronts are put together, with one vertex a place. The border of what comes out is
-that of the children, so a parent that keeps it meets every tile beside it.
+many faces; the fronts are put together at their borders. The border of what comes out is that of
+the children, so a parent that keeps it meets every tile beside it.
 """
 import json
 from pathlib import Path
-from typing import Iterable, List, NamedTuple, Set, Tuple
+from typing import Dict, Iterable, List, NamedTuple, Set, Tuple
 
 from .form import (
     GREATEST_COORDINATE, OPENED, Corners, Place, Side, Tile, World, WorldFault, sides_of,
 )
 from .fronts import frame_of, needed, places_in_world, splits
 from .making import write_mesh
-from .mending import Mended, Mesh, mended
+from .mending import Mended, Mesh, border_sides, cut_open
 from .streams import Stream, closed, distance_up, errors_of, face_count, read_stream
 
 
@@ -64,14 +64,23 @@ def least_tolerance(children: List[Child], most: int) -> int:
 def together(
     parts: List[Tuple[List[Place], List[Corners]]], opened: Iterable[Side] = ()
 ) -> Mended:
-    """Meshes in places of the world as one, which is cut open at the opened edges."""
+    """Meshes in places of the world as one, which is cut open at the opened edges. Vertices of
+    their borders at one place are one; no other is joined, since what is coarse may fold onto
+    itself."""
     places: List[Place] = []
     faces: List[Corners] = []
+    at: Dict[Place, int] = {}  # of vertices on borders
     for own, corners in parts:
-        start = len(places)
-        places += own
-        faces += [(a + start, b + start, c + start) for a, b, c in corners]
-    return mended(places, faces, frozenset(map(frozenset, opened)))
+        on_border = {end for side in border_sides(corners) for end in side}
+        number: List[int] = []
+        for vertex, place in enumerate(own):
+            new = len(places)
+            number.append(at.setdefault(place, new) if vertex in on_border else new)
+            if number[-1] == new:
+                places.append(place)
+        faces += [(number[a], number[b], number[c]) for a, b, c in corners]
+    edges = [(at[a], at[b]) for a, b in opened if a in at and b in at]
+    return cut_open(Mesh(places, faces), edges)
 
 
 def within_reach(mesh: Mesh, middle: Place) -> Tuple[Mesh, int]:

@@ -198,8 +198,36 @@ class Looking(WithWindow):
         seen = "(name) => document.getElementById(name).closest('label').hidden"
         names = ["beside", "picks", "draft", "edges", "outline", "budget"]
         hidden = self.page.run(f"{names!r}.map({seen})")
-        self.assertEqual(hidden, [True, True, True, False, False, False])
-        self.assertIn("compare with the full model", self.page.run("notice.textContent"))
+        self.assertEqual(hidden, [False, True, True, False, False, False])
+        self.assertIn("can't inspect a click", self.page.run("notice.textContent"))
+
+    def finest(self, most: int) -> List[str]:
+        """The tiles right of the line, where all may have so many faces."""
+        self.page.run(f"viewer.finest.close(), viewer.finest.most = {most}")
+        self.page.until("!viewer.finest.isThere || viewer.finest.drawn.length > 0")
+        self.page.until(SETTLED)
+        found: List[str] = self.page.run("viewer.finest.drawn")
+        return sorted(name[len("finest "):] for name in found)
+
+    def test_the_finest_level_is_shown_beside_as_far_as_it_may(self) -> None:
+        self.opened()
+        self.look(900, 28)
+        left = self.page.run("viewer.tiles.counts.faces")
+        self.page.key("b")
+        self.page.until(SETTLED)
+        leaves = sorted(tile.name for tile in self.world.level(0))
+        faces = sum(tile.faces for tile in self.world.level(0))
+        self.assertEqual(self.finest(faces), leaves)
+        self.assertEqual(self.page.run("viewer.finest.faces"), faces)
+        self.page.until(f"document.getElementById('right-half').textContent.includes('{faces}')")
+        self.assertEqual(self.page.run("viewer.tiles.counts.faces"), left)
+        fewer = self.finest(faces - 1)
+        self.assertNotEqual(fewer, leaves)
+        self.assertLess(self.page.run("viewer.finest.faces"), faces)
+        self.assertEqual(self.finest(0), ["t"])  # what is closed is as coarse as it can be
+        self.page.key("b")
+        self.page.until("![...viewer.renderer.meshes.keys()].some((name) => /finest/.test(name))")
+        self.assertEqual(self.page.errors(), [])
 
     def test_outlines_and_budgets_lead_to_the_fronts_of_the_programs(self) -> None:
         server = self.opened()

@@ -6,8 +6,10 @@ import { toggle, watchMenu } from "./bar.js";
 import { boot } from "./boot.js";
 import { homeOf } from "./camera.js";
 import { Controls } from "./controls.js";
+import { Divider } from "./divider.js";
 import { layDrape } from "./draping.js";
 import { showFault } from "./faults.js";
+import { Finest } from "./finest.js";
 import { Glides } from "./glides.js";
 import { chosenSize, copy, download } from "./keeping.js";
 import { restored, toldOf } from "./link.js";
@@ -38,6 +40,7 @@ class WorldViewer {
     this.glides = new Glides({ land: (name) => this.land(name), failed });
     Object.assign(this, { set: panel.settings(), saidAt: 0, dirty: true, ended: false });
     this.larger = null; // a picture of another size that is being made
+    this.divider = new Divider(canvas, () => { this.dirty = true; });
   }
 
   async open() {
@@ -47,13 +50,13 @@ class WorldViewer {
       this.fail(fault);
       return;
     }
-    const heard = {
-      framed: (tile, patch, grounds) => this.framed(tile, patch, grounds),
-      dropped: (name) => this.drop(name),
-      failed: (fault) => this.fail(fault),
-    };
+    const heard = { dropped: (name) => this.drop(name), failed: (fault) => this.fail(fault) };
     const { drape, origin: middle, tiles, unit } = this.about;
-    this.tiles = new Tiles(tiles, this.work, heard);
+    const framed = (tile, patch, grounds) => this.framed(tile, patch, grounds);
+    this.tiles = new Tiles(tiles, this.work, { ...heard, framed });
+    this.finest = new Finest(tiles, this.work, {
+      ...heard, framed: (name, patch, offset) => this.put(name, patch, offset),
+    });
     this.terrain = new Terrain(this.about, { unit, middle });
     asWorld(this.about);
     this.goHome();
@@ -86,7 +89,7 @@ class WorldViewer {
   }
 
   takeHands() {
-    const pressed = ["f", "e", "s", "g", "o", "y", "d", "c", "l", 1, 2, 3, 4, 5];
+    const pressed = ["f", "e", "s", "g", "o", "b", "y", "d", "c", "l", 1, 2, 3, 4, 5];
     const keys = Object.fromEntries(pressed.map((key) => [key, panel.KEYS[key]]));
     new Controls(this.canvas, {
       camera: () => this.camera,
@@ -116,6 +119,7 @@ class WorldViewer {
     panel.saySettings(this.set);
     if (name === "up") this.goHome();
     if (name === "exaggeration") this.stretch();
+    if (!this.set.beside) this.finest.close();
     this.terrain.say(this.set);
     this.dirty = true;
   }
@@ -132,6 +136,7 @@ class WorldViewer {
     }
     const isFirst = tiles.wanted === null, picture = this.larger ?? this.picture();
     if (isFirst || !set.freeze) tiles.look(this.camera, picture, set, this.about.memory);
+    if (set.beside) this.finest.look(this.camera, picture, now);
     if (!this.isChosen && tiles.drawn.length > 0) this.chooseColours();
     this.glides.end(now);
     if (this.dirty || this.glides.isOn(now)) this.draw();
@@ -147,15 +152,19 @@ class WorldViewer {
   look() {
     return {
       ...this.set, ...this.terrain.look(this.set), names: this.tiles.drawn, theme: this.theme,
-      now: performance.now() / 1000, frozen: null, reach: 2 * this.radius, deepest: DEEPEST,
-      picked: NO_FACE, hit: null,
+      inputs: this.finest.drawn, cut: this.divider.cut, now: performance.now() / 1000,
+      frozen: null, reach: 2 * this.radius, deepest: DEEPEST, picked: NO_FACE, hit: null,
     };
   }
 
   framed(tile, patch, grounds) {
-    this.renderer.change(tile.name, patch, tile.offset);
+    this.put(tile.name, patch, tile.offset);
     this.glides.take(tile.name, patch, this.set.glide);
     if (grounds && this.terrain.hear(tile.name, grounds, tile.offset)) this.terrain.say(this.set);
+  }
+
+  put(name, patch, offset) {
+    this.renderer.change(name, patch, offset);
     this.dirty = true;
   }
 
@@ -168,6 +177,7 @@ class WorldViewer {
   drop(name) {
     this.renderer.drop(name);
     this.glides.drop(name);
+    this.dirty = true;
   }
 
   // Draws a tile's front itself, now that the nodes that go have come to where they go.
@@ -190,6 +200,7 @@ class WorldViewer {
     part("faces-said").textContent = counted(faces);
     part("all-said").textContent = `of ${counted(this.about.faces)} triangles`;
     part("rows").replaceChildren(...rows.map(panel.rowOf));
+    panel.sayHalves(this.set.beside, this.finest.told);
     const isComing = faces === 0 ? "Opening the tiles in view" : "";
     part("mark").textContent = this.set.freeze ? "LOD is frozen: turn the world" : isComing;
     part("mark").hidden = part("mark").textContent === "";
@@ -197,8 +208,9 @@ class WorldViewer {
 
   // Whether all is shown as it is asked for.
   get isSettled() {
-    const { tiles } = this;
+    const { finest, set, tiles } = this;
     if (!tiles?.wanted || tiles.waiting > 0 || !this.glides.isOver) return false;
+    if (set.beside && !finest.isThere) return false;
     const names = [...tiles.wanted.open, ...tiles.wanted.closed];
     return !this.dirty && names.every((name) => tiles.isShown(name))
       && names.length === tiles.drawn.length;

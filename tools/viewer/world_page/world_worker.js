@@ -2,7 +2,7 @@
 import { Connection, fetched } from "./connection.js";
 import { Follower } from "./follower.js";
 import { groundsOf } from "./ground.js";
-import { NO_PARENT, readHierarchy } from "./hierarchy.js";
+import { NO_PARENT, fullFrame, readHierarchy } from "./hierarchy.js";
 import { plus } from "./matrices.js";
 import { KeptMesh } from "./mesh.js";
 import { readReplies } from "./replies.js";
@@ -27,9 +27,13 @@ function tint(name, count) {
   return colours;
 }
 
+async function hierarchyOf(name) {
+  return readHierarchy(await (await fetched(`stream/${name}`)).arrayBuffer());
+}
+
 async function followerOf(name) {
   if (!followers.has(name)) {
-    const hierarchy = readHierarchy(await (await fetched(`stream/${name}`)).arrayBuffer());
+    const hierarchy = await hierarchyOf(name);
     const mesh = new KeptMesh(hierarchy, tint(name, hierarchy.parents.length));
     const follower = new Follower(mesh, (script) => talk(name, script));
     followers.set(name, Object.assign(follower, { grounds: groundsIn(name, hierarchy) }));
@@ -73,10 +77,20 @@ const tasks = {
   // What a closed tile shows: a tile without a program, whose nodes are roots.
   async base({ name }) {
     followers.delete(name);
-    const text = new Uint8Array(await (await fetched(`base/${name}`)).arrayBuffer());
-    const { frame } = readReplies(text), mesh = new KeptMesh(...baseOf(name, frame));
+    const frame = await baseFrame(name);
     bases.set(name, frame);
-    return { patch: mesh.take(mesh.front.changeTo(frame), null), left: 0 };
+    return { patch: whole(frame, ...baseOf(name, frame)), left: 0 };
+  },
+
+  // All faces of a tile, whatever else is shown of it; or, of a closed one, as few as it has.
+  async finest({ name, isClosed }) {
+    if (isClosed) {
+      const frame = await baseFrame(name);
+      return { patch: whole(frame, ...baseOf(name, frame)) };
+    }
+    const hierarchy = followers.get(name)?.mesh.hierarchy ?? await hierarchyOf(name);
+    const colours = tint(name, hierarchy.parents.length);
+    return { patch: whole(fullFrame(hierarchy), hierarchy, colours) };
   },
 
   // The triangles of all tiles that are drawn as one mesh, as a file of another program.
@@ -98,6 +112,17 @@ const tasks = {
     return {};
   },
 };
+
+async function baseFrame(name) {
+  const text = new Uint8Array(await (await fetched(`base/${name}`)).arrayBuffer());
+  return readReplies(text).frame;
+}
+
+// What is drawn of a frame alone.
+function whole(frame, hierarchy, colours) {
+  const mesh = new KeptMesh(hierarchy, colours);
+  return mesh.take(mesh.front.changeTo(frame), null);
+}
 
 // One mesh of the frames of tiles: vertices at the same place of the world are one.
 function joined(frames, grid) {

@@ -4,8 +4,9 @@ import struct
 from math import cos, pi, sin
 from typing import List, Tuple
 
-from ..form import Corners, Place, WorldFault, below, box_of
+from ..form import Corners, Place, Side, WorldFault, below, box_of
 from ..mending import border_sides, mended
+from ..parents import together
 from .common import (
     Field, WithWorld, field_faces, grid_text, is_oriented_manifold, random_field, triangles, turned,
 )
@@ -172,6 +173,18 @@ class Mending(WithWorld):
         self.assertTrue(is_oriented_manifold(done.mesh.faces))
         self.assertEqual(sorted(border_sides(done.mesh.faces)), sorted(done.border))
         return len(done.mesh.places), len(done.mesh.faces), len(done.border)
+
+    def test_coarse_fronts_that_fold_are_joined_at_their_borders_alone(self) -> None:
+        fan = [(0, 1, 4), (1, 2, 4), (2, 3, 4), (3, 0, 4)]
+        beside = [(2, 0, 0), (1, 0, 0), (1, 1, 0), (2, 1, 0), (1, 0, 0)]
+        turned = [(c, b, a) for a, b, c in fan]
+        whole = together([([*SQUARE, SQUARE[0]], fan), (beside, turned)])
+        self.assertTrue(is_oriented_manifold(whole.mesh.faces))
+        came = len(whole.mesh.places), len(whole.mesh.faces), len(whole.border)
+        self.assertEqual((came, whole.dropped, whole.split), ((8, 8, 6), 0, 0))
+        edge: Side = ((1, 0, 0), (1, 1, 0))
+        opened = together([([*SQUARE, SQUARE[0]], fan), (beside, turned)], [edge])
+        self.assertEqual((len(opened.border), opened.split), (8, 2))
 
     def test_a_tile_that_touches_itself_in_a_vertex(self) -> None:
         tie = SQUARE + [(2, 2, 0), (1, 2, 0)]
