@@ -7,8 +7,9 @@ For each tolerance the stream is opened twice, and looked at by `v` and by `vd`.
 number of shown faces, and the greatest and the root mean square of the distances: from the corners
 and from places of the input's faces to the shown faces (`from input`), and from places of shown
 faces to those of the input (`from shown`). A distance is as it looks from the eye: units times the
-focal length over the way to the eye. What is turned away from the eye doesn't count, since views
-leave it coarse. Samples don't show what lies between them: no row is a bound.
+focal length over the way to the eye. What is turned away from the eye doesn't count, since `v`
+leaves it coarse, and `vd` on a closed surface. Samples don't show what lies between them: no row
+is a bound.
 """
 import argparse
 import random
