@@ -20,10 +20,13 @@ export class Steering {
   // `viewer` has the camera.
   constructor(viewer) {
     Object.assign(this, { viewer, flight: null, gripped: null, waiting: null, home: null });
-    this.goesHome = false; // whether the camera is on its way to where the whole is seen
+    this.finding = 0; // how often the worker is being asked from where the whole is seen
   }
 
   get isFlying() { return this.flight !== null; }
+
+  // Whether the camera is on its way to where the whole is seen, or will be.
+  get goesHome() { return this.finding > 0 || Boolean(this.flight?.isHome); }
 
   // Whether the camera still is where the whole was seen from.
   get isAtHome() { return this.home !== null && this.home === JSON.stringify(this.viewer.camera); }
@@ -41,9 +44,11 @@ export class Steering {
     return { camera, radius };
   }
 
-  async goHome() {
-    this.goesHome = true;
-    this.fly((await this.whole()).camera);
+  // Where it is asked for again meanwhile the last one that is found counts.
+  async goHome(isQuick = isStill.matches) {
+    this.finding++;
+    const { camera } = await this.whole().finally(() => { this.finding--; });
+    this.fly(camera, { isQuick, isHome: true });
   }
 
   // Another axis points up, and will when the model is opened again.
@@ -54,26 +59,28 @@ export class Steering {
   }
 
   // The picture has another size: what was seen whole is so again.
-  async resized() {
-    if (!this.isAtHome) return;
-    this.viewer.camera = (await this.whole()).camera;
-    this.viewer.moved();
+  resized() {
+    if (this.isAtHome || this.goesHome) this.goHome(true);
   }
 
   // The mesh is drawn otherwise: what was seen whole is so again.
   stretch(stretch) {
     if (this.isAtHome || this.goesHome) this.goHome();
-    else this.viewer.camera.stretchAs(stretch);
+    else {
+      this.stop(); // it leads to where the mesh is drawn as before
+      this.viewer.camera.stretchAs(stretch);
+    }
     this.viewer.moved();
   }
 
-  fly(to) {
-    const { camera } = this.viewer;
-    const isQuick = isStill.matches || to.upright !== camera.upright
-      || to.stretch.times !== camera.stretch.times;
-    const begun = performance.now() - (isQuick ? FLIGHT : 0);
-    this.flight = { from: this.viewer.camera.copy(), to, begun };
-    this.viewer.moved();
+  // Flies to a camera. It is there at once where that is asked for, or draws the mesh otherwise.
+  fly(to, { isQuick = isStill.matches, isHome = false } = {}) {
+    const { viewer, viewer: { camera } } = this;
+    const isOther = to.upright !== camera.upright || to.stretch.times !== camera.stretch.times;
+    this.stop();
+    if (isQuick || isOther) viewer.camera = to.copy();
+    else this.flight = { from: camera.copy(), to, begun: performance.now(), isHome };
+    viewer.moved();
   }
 
   flyOn(now) {
@@ -83,7 +90,7 @@ export class Steering {
     this.viewer.moved();
   }
 
-  stop() { Object.assign(this, { flight: null, goesHome: false }); }
+  stop() { this.flight = null; }
 
   // What is under the pointer: a place of the mesh, or one as far away as what is looked at.
   async grip(x, y) {

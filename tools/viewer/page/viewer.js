@@ -196,7 +196,8 @@ export class Viewer {
   get isDone() {
     const now = performance.now(), { views } = this;
     if (this.shown === null || !this.session.isRunning || this.budgetAt !== null) return false;
-    if (this.set.round || this.steering.isFlying || !views.isIdle || views.goesOn) return false;
+    if (this.steering.isFlying || this.steering.goesHome) return false;
+    if (this.set.round || !views.isIdle || views.goesOn) return false;
     const { camera, picture } = this.frozen ?? this.seen();
     return views.isAtRest(now) && views.asked === views.line(camera, picture, this.set, now);
   }

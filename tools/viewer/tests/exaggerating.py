@@ -53,6 +53,24 @@ PIXEL = """(place) => {
 }"""
 
 
+# As soon as 5 times are found, 1 is asked for: after 2 times are drawn, and before 5 are.
+HASTY = """(() => {
+  const { steering, work } = viewer, ask = work.ask.bind(work), fly = steering.fly.bind(steering);
+  const picture = () => new Promise(requestAnimationFrame);
+  work.ask = async (task) => {
+    const answer = await ask(task), isHeld = task.stretch?.times === 5;
+    while (isHeld && viewer.camera.stretch.times !== 2) await picture();
+    return answer;
+  };
+  steering.fly = (to, ...how) => {
+    fly(to, ...how);
+    if (to.stretch.times !== 5) return;
+    exaggeration.value = 1;
+    exaggeration.dispatchEvent(new Event('input', { bubbles: true }));
+  };
+})()"""
+
+
 class Exaggerating(Terrain):
     def test_views_and_rays_are_those_of_what_is_drawn(self) -> None:
         self.look_at(model("octahedron.vdpm"))
@@ -83,13 +101,23 @@ class Exaggerating(Terrain):
         before = self.value("viewer.camera.distance")
         for times in (2, 5, 1):
             self.slide("exaggeration", times)
-        self.page.until(f"viewer.camera.distance === {before} && {self.settled}")
+        self.drawn(1)
+        self.assertAlmostEqual(self.value("viewer.camera.distance"), before)
         self.exaggerate(5)
         self.assertGreater(self.value("viewer.camera.distance"), 1.2 * before)
         self.page.key("ArrowLeft")
         self.exaggerate(2)
         target, top = self.value("[viewer.camera.target[2], viewer.terrain.box.high[2]]")
         self.assertLess(target, 2 * top)
+
+    def test_what_is_asked_for_last_is_drawn(self) -> None:
+        self.look_at(self.island())
+        self.value(HASTY)
+        for times in (2, 5):
+            self.slide("exaggeration", times)
+        self.page.until("viewer.set.exaggeration === 1")
+        self.drawn(1)
+        self.assertTrue(self.value("viewer.steering.isAtHome"))
 
     def test_a_link_brings_all_of_it_back(self) -> None:
         self.look_at(self.island())

@@ -85,6 +85,10 @@ class Terrain(Page):
 
     def exaggerate(self, times: float) -> None:
         self.slide("exaggeration", times)
+        self.drawn(times)
+
+    def drawn(self, times: float) -> None:
+        """Waits until it is drawn so many times as high."""
         self.page.until(f"viewer.camera.stretch.times === {times} && {self.settled}")
 
     def text_of(self, name: str) -> str:
