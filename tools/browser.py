@@ -31,7 +31,7 @@ FLAGS = (
 )
 COMPLAINTS = ("Runtime.exceptionThrown", "Runtime.consoleAPICalled", "Log.entryAdded")
 # A machine that does much else is slow; nothing waits this long where all is well.
-PATIENCE = 120.0
+PATIENCE = 600.0
 SHIFT = 8  # among the modifiers of an event
 LOOK_AGAIN = 0.02
 
@@ -130,9 +130,13 @@ class Browser:
                 raise RuntimeError("Chromium doesn't start")
             time.sleep(LOOK_AGAIN)
         port = told.read_text().split("\n")[0]
-        with urlopen(f"http://127.0.0.1:{port}/json/list", timeout=PATIENCE) as answer:
-            pages = [page for page in json.load(answer) if page["type"] == "page"]
-        return str(pages[0]["webSocketDebuggerUrl"])
+        while time.monotonic() < end:  # (it listens before it has its page)
+            with urlopen(f"http://127.0.0.1:{port}/json/list", timeout=PATIENCE) as answer:
+                pages = [page for page in json.load(answer) if page["type"] == "page"]
+            if pages:
+                return str(pages[0]["webSocketDebuggerUrl"])
+            time.sleep(LOOK_AGAIN)
+        raise RuntimeError("Chromium has no page")
 
     def call(self, method: str, **words: Any) -> Dict[str, Any]:
         """The result of a command of the protocol."""
@@ -157,6 +161,12 @@ class Browser:
 
     def go(self, address: str) -> None:
         self.call("Page.navigate", url=address)
+
+    def begin(self, address: str) -> None:
+        """Goes there from an empty page, so that nothing of the page before is complained of."""
+        self.go("about:blank")
+        self.told.clear()
+        self.go(address)
 
     def resize(self, width: int, height: int) -> None:
         size = {"width": width, "height": height}

@@ -46,8 +46,7 @@ class Page(Case):
 
     def open(self, shown: Optional[Model] = None) -> None:
         path = self.written("page.html", page_of(module(), shown).encode())
-        self.page.told.clear()
-        self.page.go(f"{path.as_uri()}?sharpness=0.2")
+        self.page.begin(f"{path.as_uri()}?sharpness=0.2")
         self.page.until("globalThis.alone !== undefined")
 
     def value(self, text: str) -> Any:

@@ -6,7 +6,6 @@ from .pages import HEIGHT, WIDTH, Page
 CONTROLS = """[...document.querySelectorAll("#panel input, #panel button, #panel summary")]
   .map((it) => it.id || (it.name ? `${it.name}=${it.value}` : it.localName))"""
 DRAWING = "(viewer.draw(performance.now()), viewer.scene.canvas.toDataURL())"
-SOON = 20  # seconds
 IN_MENU = ("save-picture", "save-obj", "save-ply", "save-glb", "copy-link")
 MIDDLE = (WIDTH // 2 - 100, HEIGHT // 2)
 
@@ -21,7 +20,7 @@ class Controls(Page):
         self.value(f"globalThis.before = ({what}), 0")
         act()
         self.settle()
-        self.page.until(f"({what}) !== before", SOON)
+        self.page.until(f"({what}) !== before")
 
     def test_each_control_of_the_panel_by_mouse(self) -> None:
         drawn, asked = DRAWING, "viewer.views.asked"
@@ -50,7 +49,7 @@ class Controls(Page):
             if what != "0":
                 with self.subTest(name):
                     self.changes(lambda: self.press_control(name), what)
-        self.page.until("saved === 5", SOON)
+        self.page.until("saved === 5")
         self.assertTrue(self.value("document.querySelector('[value=own]').disabled"))
 
     def press_control(self, name: str) -> None:

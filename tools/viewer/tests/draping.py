@@ -140,7 +140,7 @@ class Draped(Case):
         server = self.served(model)
         words = [str(self.written("q.png", quarters(64))), *map(str, edges)]
         server.showing.drape = drape_of(words)
-        self.page.go(server.address)
+        self.page.begin(server.address)
         self.page.until("globalThis.viewer && viewer.isSettled && viewer.set.colour === 'drape'")
         self.page.run("viewer.set = { ...viewer.set, upright: 'z' }; 0")
         self.rows = rows_over(server.showing.drape, model)
@@ -168,7 +168,7 @@ class DrapedWorlds(WithWindow):
         words = [path, low, high, low + span, high + span]
         server.showing.drape = drape_of(list(map(str, words)))
         self.page = browser()
-        self.page.go(server.address)
+        self.page.begin(server.address)
         self.page.until(f"{SETTLED} && viewer.set.colour === 'drape'")
         self.page.run("Object.assign(viewer.camera, { pitch: 1.54, yaw: 0 }); viewer.dirty = true")
         self.page.until(SETTLED)

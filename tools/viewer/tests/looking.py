@@ -109,10 +109,11 @@ class Drawing(Page):
     def test_missing_graphics_are_told(self) -> None:
         none = "HTMLCanvasElement.prototype.getContext = () => null"
         made = self.page.call("Page.addScriptToEvaluateOnNewDocument", source=none)
+        remove = "Page.removeScriptToEvaluateOnNewDocument"
+        self.addCleanup(self.page.call, remove, identifier=made["identifier"])
         self.page.go(self.server.address)
         self.page.until("document.getElementById('fault')?.hidden === false")
         self.assertIn("no WebGL 2", self.text("fault-reason"))
-        self.page.call("Page.removeScriptToEvaluateOnNewDocument", identifier=made["identifier"])
 
 
 class Moving(Page):

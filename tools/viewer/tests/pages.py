@@ -46,8 +46,7 @@ class Page(Case):
             return self.answers[-1]
 
         setattr(self.server.showing, "ask", noted)
-        self.page.told.clear()
-        self.page.go(f"{self.server.address}?sharpness={drawn}")
+        self.page.begin(f"{self.server.address}?sharpness={drawn}")
         self.page.until(self.settled)
         self.slide("tolerance", COARSE)
         self.page.until(self.settled)

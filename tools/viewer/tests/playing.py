@@ -44,7 +44,7 @@ class Films(Page):
 
     def open(self, page: str) -> None:
         path = self.written("film.html", page.encode())
-        self.page.go(path.as_uri())
+        self.page.begin(path.as_uri())
         self.page.until(f"location.href === '{path.as_uri()}' && globalThis.film")
 
     def play(self, looked_at: Model, flight: bytes) -> List[int]:
@@ -76,10 +76,14 @@ class Films(Page):
             sorted(self.value(f"{controls}.map((it) => it.id)")),
             ["at", "colour", "edges", "follow", "play", "smooth", "speed"],
         )
-        # As slow as it goes, so that it still plays when it is looked at.
+        # As slow as it goes. How it plays is looked at in the page, since it may soon be over.
         self.value("speed.value = '1', 0")
+        self.value(
+            "play.addEventListener('click', () => {"
+            " globalThis.begun = [film.plays, film.reel.at, play.textContent]; }, { once: true })"
+        )
         self.press("#play")
-        self.page.until("film.plays && film.reel.at === 0 && play.textContent === 'Pause'")
+        self.assertEqual(self.value("begun"), [True, 0, "Pause"])
         self.press("#play")
         self.page.until("!film.plays && play.textContent === 'Play'")
         for frame in (1, 0):
@@ -102,8 +106,8 @@ class Films(Page):
         self.press("#follow")
         self.page.until(f"film.camera.yaw !== {turned}")
         self.assertEqual(len(seen), 6)
-        self.press("#play")
         begun = time.monotonic()
+        self.press("#play")
         self.page.until("!film.plays")
         self.assertGreater(time.monotonic() - begun, 0.5)
 

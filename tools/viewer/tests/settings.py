@@ -21,7 +21,7 @@ class Detail(Page):
             "globalThis.taken = null; const { change } = viewer.scene.renderer;"
             " viewer.scene.renderer.change = function (name, patch) {"
             "   const { places, starts } = patch.nodes;"
-            "   globalThis.taken = [[...places], [...starts]];"
+            "   globalThis.taken ??= [[...places], [...starts]];"
             "   change.call(this, name, patch); }; 0"
         )
         self.slide("tolerance", 12)

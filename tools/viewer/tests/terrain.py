@@ -171,8 +171,7 @@ class Colours(Terrain):
 class Worlds(WithWindow):
     def go(self, server: Any, link: str = "") -> None:
         self.page = browser()
-        self.page.go("about:blank")
-        self.page.go(f"{server.address}{link}")
+        self.page.begin(f"{server.address}{link}")
         self.page.until(SETTLED)
 
     def test_a_world_of_heights_is_shown_by_height(self) -> None:

@@ -122,7 +122,7 @@ class Looking(WithWindow):
     def opened(self, memory: int = ALL) -> WorldServer:
         server = self.served(memory)
         self.page = browser()
-        self.page.go(server.address)
+        self.page.begin(server.address)
         self.page.until(SETTLED)
         return server
 
