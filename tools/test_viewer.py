@@ -10,6 +10,7 @@ import unittest
 from pathlib import Path
 
 from browser import NAMES
+from second_try import TriedTwice
 
 TOOLS = Path(__file__).resolve().parent
 SUBJECTS = (
@@ -20,14 +21,23 @@ SUBJECTS = (
 NO_BROWSER = "no Chromium"
 
 
+def new_browser() -> None:
+    """The next test gets a browser of its own, since the one before may have ended."""
+    from viewer.tests.pages import browser
+
+    browser.cache_clear()
+
+
 def main() -> None:
     words = sys.argv[1:]
     if words and Path(words[0]).is_file():
         os.environ["VIEWER_TESTS_PROGRAM"] = str(Path(words.pop(0)).resolve())
     sys.path.insert(0, str(TOOLS))
     names = [f"viewer.tests.{name}" for name in words or SUBJECTS]
-    suite = unittest.defaultTestLoader.loadTestsFromNames(names)
+    suite = TriedTwice([unittest.defaultTestLoader.loadTestsFromNames(names)], new_browser)
     result = unittest.TextTestRunner(buffer=True).run(suite)
+    for line in suite.saved:
+        print(line)
     for reason in sorted({why for _, why in result.skipped}):
         tests = [test.id() for test, why in result.skipped if why == reason]
         classes = sorted({".".join(name.split(".")[2:4]) for name in tests})
