@@ -98,7 +98,8 @@ class Serving(WithWindow):
         self.world.stream(self.world.tiles["t"]).unlink()
         with mock.patch("viewer.world.tell", self.said.append):
             self.assertNotIn("t", self.served().showing.tiles)
-        self.assertRegex(self.said[0], "1 of .* aren't built, t: .*world.py build .*world`; until")
+        wanted = "1 of .* aren't built, t: .*world.py build .*world`; until"
+        self.assertRegex(" ".join(self.said), wanted)
         self.world.stream(self.world.tiles["t010"]).unlink()
         with self.assertRaisesRegex(ProgramEnded, "2 of .* aren't built, t010, t: .* first"):
             self.served()

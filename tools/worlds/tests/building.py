@@ -5,7 +5,7 @@ import random
 import time
 from unittest import mock
 
-from .. import making
+from .. import making, progress
 from ..building import Build, build_world
 from ..checking import check_world
 from ..form import World, WorldFault
@@ -141,16 +141,17 @@ class Scales(WithWorld):
 
 
 class Told(WithWorld):
+    @mock.patch.object(progress.time, "monotonic", lambda: 1000.0)
     def test_a_pipe_has_lines_and_a_terminal_one_line(self) -> None:
         work = Work(self.said.append, io.StringIO())
         work.begin("cuts tile 3 of about 12", 200)
         self.assertEqual(work.line(), "cuts tile 3 of about 12")
-        work.done, work.begun = 50, time.monotonic() - 10
+        work.done, work.begun = 50, 1000.0 - 10
         self.assertEqual(work.line(), "cuts tile 3 of about 12: 25 %, 30 s left")
         path = self.file("some.bin", "x" * 100)
         with path.open("rb") as file:
             work.read("some.bin", 100)(file)
             file.read(50)
-            self.assertRegex(work.line(), "reads some.bin: 50 %, . s left")
+            self.assertEqual(work.line(), "reads some.bin: 50 %, 0 s left")
         self.assertEqual([left_of(s) for s in (89, 600, 7200)],
                          ["89 s left", "10 min left", "2.0 h left"])

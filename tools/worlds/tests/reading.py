@@ -109,7 +109,7 @@ class Rasters(WithWorld):
             fake.chmod(0o755)
             world = self.cut(path, 8)
             self.assertEqual([tile.faces for tile in world.level(0)], [2])
-            self.assertIn("gdal_translate -of AAIGrid", self.said[0])
+            self.assertIn("gdal_translate -of AAIGrid", " ".join(self.said))
             self.assertFalse((world.folder / "raster").exists())
             fake.write_text("#!/bin/sh\necho no such driver >&2\nexit 3\n")
             self.refused(path, "gdal_translate ended with status 3: no such driver")
