@@ -15,8 +15,8 @@ from urllib.request import ProxyHandler, build_opener
 
 from .kept import folder
 
-PATIENCE = 2.0  # seconds that a window may take to say that it is there
-MOST = 200      # seats that are kept
+PATIENCE = 20.0  # seconds for a window to say that it is there; where there is none that is quick
+MOST = 200       # seats that are kept
 
 
 class Seat(NamedTuple):
