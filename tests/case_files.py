@@ -180,7 +180,7 @@ def case_of(block: Block, row: Dict[str, str], named: Dict[str, bytes]) -> Case:
         devices=dict(device_of(line) for line in lines if line.key == "device"),
         pieces=number_of(once, "pieces"),
         memory=number_of(once, "memory"),
-        seconds=float(once.get("seconds", "60")),
+        seconds=float(once.get("seconds", "300")),
     )
 
 

@@ -32,7 +32,7 @@ from random_soups import random_soup, soup_text
 
 TOP = Path(__file__).resolve().parent.parent
 NOTICE = "not proved on this machine yet, run-time checks are on; "
-SECONDS = 60
+SECONDS = 300
 
 
 class Case(NamedTuple):
