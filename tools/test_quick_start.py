@@ -7,6 +7,7 @@ With --real the kit on the path and cargo are tried too, which takes some minute
 import os
 import shutil
 import signal
+import subprocess
 import sys
 import time
 import unittest
@@ -68,23 +69,34 @@ class Unproved(OverTestKit):
 class Together(OverTestKit):
     def test_two_at_once_build_once(self) -> None:
         self.repository.change("crates/vdpm/src/main.rt", "# SLOW\n")
-        both = [self.repository.start("vdpm") for _ in range(2)]
-        said = [one.communicate()[1] for one in both]
-        self.assertEqual([one.returncode for one in both], [3, 3], said)
+        first = self.begun()
+        second = self.repository.start("vdpm")
+        assert second.stderr is not None
+        self.assertIn("waiting", second.stderr.readline())
+        write(self.repository.kit / "bin/go", "")
+        said = [one.communicate()[1] for one in (first, second)]
+        self.assertEqual([one.returncode for one in (first, second)], [3, 3], said)
         self.assertEqual(self.repository.built(), 1)
-        self.assertEqual(sum("waiting" in text for text in said), 1, said)
+        self.assertNotIn("waiting", said[0])
+
+    def begun(self) -> "subprocess.Popen[str]":
+        """A build that has begun, and ends once the kit has its file `bin/go`."""
+        count = self.repository.built()
+        begun = self.repository.start("vdpm")
+        while self.repository.built() == count:
+            time.sleep(0.02)
+        return begun
 
     def test_a_build_that_was_stopped_leaves_nothing_behind(self) -> None:
         for ended_by in (signal.SIGKILL, signal.SIGTERM):
             self.repository.change("crates/vdpm/src/main.rt", "# SLOW\n")
-            count = self.repository.built()
-            begun = self.repository.start("vdpm")
-            while self.repository.built() == count:
-                time.sleep(0.02)
+            begun = self.begun()
             os.killpg(begun.pid, ended_by)
             begun.communicate()
             self.assertFalse((self.repository.top / "unproved/vdpm.record").exists())
+            write(self.repository.kit / "bin/go", "")
             self.assert_unproved(self.repository.run("vdpm"))
+            (self.repository.kit / "bin/go").unlink()
             left = sorted(it.name for it in (self.repository.top / "unproved").iterdir())
             self.assertEqual(left, ["vdpm", "vdpm.lock", "vdpm.record"])
             (self.repository.top / "unproved/vdpm.record").unlink()
