@@ -10,8 +10,6 @@ mod plane;
 mod reading;
 mod ring;
 mod slots;
-#[cfg(test)]
-mod tests;
 mod text;
 mod theory;
 mod word;
