@@ -1,5 +1,5 @@
 //! A packed text as the stream text that it is of.
-ghost use Rattle.std.specs.Prelude.{◌≡◌, ◌≢◌, ◌<◌, ◌≤◌, ◌+◌, ◌^◌, ◌++◌, ℕ, List, true};
+ghost use Rattle.std.specs.Prelude.{◌≡◌, ◌≢◌, ◌<◌, ◌≤◌, ◌+◌, ◌^◌, ◌++◌, [], ℕ, List, true};
 ghost use Rattle.std.specs.Prelude.{IfOk, IfErr, MatchOption};
 ghost use Rattle.byteorder.specs.Endian.{little_bytes};
 ghost use Rattle.pm_coder.specs.RoundTrips.{first};
@@ -10,6 +10,7 @@ ghost use Rattle.pm_pack.specs.Unpacking.{named, Feeds, ReadsOn, Steps, Ends, Sa
 ghost use Rattle.pm_pack.specs.Unpacking.{IsFailOf, IsFail};
 
 use crate::next::Known;
+use crate::slots::Slots;
 use crate::writing::{HEAD, at_first};
 use pm_coder::{Cut, Decoder, Fault, Predictor};
 use pm_format::FormatError;
@@ -115,15 +116,54 @@ fn unpack_by(alloc: Global, coder: Decoder) -> Result<Vec<u8>, UnpackFail>
     ensures fail { (code : List ℕ) → first code ≡ coder.entry
         → IfErr result (λ e. IsFailOf slots at_first code e) }
 {
+    match at_first(alloc) {
+        Err(_) => Err(UnpackFail::OutOfMemory),
+        Ok(known) => {
+            let mut known = known;
+            unpack_from(alloc, &mut known, coder)
+        }
+    }
+}
+
+// The same where what is known at first is lent.
+fn unpack_from(
+    alloc: Global,
+    known: &mut Known<Slots>,
+    coder: Decoder,
+) -> Result<Vec<u8>, UnpackFail>
+    requires { known.old ≡ at_first }
+    ensures ok { (code : List ℕ) → first code ≡ coder.entry
+        → IfOk result (λ text. SaysStream code text.items) }
+    ensures fail { (code : List ℕ) → first code ≡ coder.entry
+        → IfErr result (λ e. IsFailOf slots at_first code e) }
+{
+    match pm_format::Decoder::new(alloc) {
+        Err(_) => Err(UnpackFail::OutOfMemory),
+        Ok(stream) => {
+            let mut stream = stream;
+            read_text(alloc, known, &mut stream, coder)
+        }
+    }
+}
+
+// The same where the decoder of the stream is lent too, which has taken none.
+fn read_text(
+    alloc: Global,
+    known: &mut Known<Slots>,
+    stream: &mut pm_format::Decoder,
+    coder: Decoder,
+) -> Result<Vec<u8>, UnpackFail>
+    requires first { known.old ≡ at_first }
+    requires fresh { IsDecoderAfter [] stream.old }
+    requires none { stream.old.taken ≡ 0 }
+    ensures ok { (code : List ℕ) → first code ≡ coder.entry
+        → IfOk result (λ text. SaysStream code text.items) }
+    ensures fail { (code : List ℕ) → first code ≡ coder.entry
+        → IfErr result (λ e. IsFailOf slots at_first code e) }
+{
     let mut coder = coder;
-    let Ok(mut known) = at_first(alloc) else {
-        return Err(UnpackFail::OutOfMemory);
-    };
-    let Ok(mut stream) = pm_format::Decoder::new(alloc) else {
-        return Err(UnpackFail::OutOfMemory);
-    };
     let mut text = Vec::new(alloc);
-    match read_words(&mut known, &mut coder, &mut stream, &mut text) {
+    match read_words(known, &mut coder, stream, &mut text) {
         Err(fail) => Err(fail),
         Ok(()) if coder.is_at_end() => Ok(text),
         Ok(()) => Err(UnpackFail::Trailing),
