@@ -4,7 +4,6 @@
 mod fault;
 mod format;
 mod number;
-mod tests;
 mod units;
 
 pub use fault::FloatFault;

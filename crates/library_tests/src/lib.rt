@@ -7,9 +7,15 @@ mod base;
 #[cfg(test)]
 mod bounds;
 #[cfg(test)]
+mod coder;
+#[cfg(test)]
 mod devices;
 #[cfg(test)]
+mod fit;
+#[cfg(test)]
 mod fits;
+#[cfg(test)]
+mod floats;
 #[cfg(test)]
 mod forest;
 #[cfg(test)]

@@ -10,8 +10,6 @@ mod interval;
 mod numbers;
 mod predictor;
 mod slot;
-#[cfg(test)]
-mod tests;
 mod theory;
 
 pub use coder::{Coder, Fault};

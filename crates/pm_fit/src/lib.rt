@@ -4,8 +4,6 @@
 mod fitting;
 mod moments;
 mod slopes;
-#[cfg(test)]
-mod tests;
 
 pub use fitting::fit;
 pub use moments::{Moments, NumberSums, PlaceSums, Spot};

@@ -1,6 +1,5 @@
-//! Rows worked by hand.
-use crate::fault::FloatFault;
-use crate::number::{double_coordinate, single_coordinate, whole_coordinate};
+//! Tests of float_read: rows worked by hand.
+use float_read::{FloatFault, double_coordinate, single_coordinate, whole_coordinate};
 use std::test::Fail;
 
 const ONE: i128 = 1_000_000_000_000_000_000;

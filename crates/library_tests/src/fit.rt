@@ -1,7 +1,7 @@
-//! Rows worked by hand.
+//! Tests of pm_fit: rows worked by hand.
 ghost use Rattle.std.specs.Prelude.{◌≤◌};
 
-use crate::{Moments, NumberSums, PlaceSums, Spot, fit};
+use pm_fit::{Moments, NumberSums, PlaceSums, Spot, fit};
 use std::test::Fail;
 
 // What is fitted at x to two places 1,000 apart along x, which have 100 and 2,100. The spread is

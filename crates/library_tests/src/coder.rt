@@ -1,7 +1,7 @@
-//! Worked rows: the code bytes of choices, by a plain range coder in another language.
+//! Tests of pm_coder: the code bytes of choices, by a plain range coder in another language.
 ghost use Rattle.std.specs.Prelude.{◌<◌};
 
-use crate::{
+use pm_coder::{
     Coder, Cut, Decoder, Encoder, Fault, NEW_SLOT, OutOfMemory, slot_learned, slot_share, uniform,
 };
 use std::alloc::Global;
