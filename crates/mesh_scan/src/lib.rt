@@ -5,7 +5,6 @@ mod fault;
 mod format;
 mod gather;
 mod scan;
-mod tests;
 mod text;
 mod whole;
 

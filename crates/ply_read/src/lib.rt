@@ -14,7 +14,6 @@ mod opening;
 mod read;
 mod row;
 mod stop;
-mod tests;
 mod words;
 
 pub use declared::{
