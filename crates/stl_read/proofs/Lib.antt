@@ -1,3 +1,4 @@
 pub mod VertexLaws
+pub mod RecentLaws
 pub mod FacetLaws
 pub mod LineLaws

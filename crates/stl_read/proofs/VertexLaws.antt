@@ -27,6 +27,14 @@ is_same_is p q e =
       (Decides-int_eq p.z q.z).0 z,
     ) refl
 
+pub same_itself : (p : Place) → is_same p p ≡ true
+same_itself p =
+    rw (
+      (Decides-int_eq p.x p.x).1 refl,
+      (Decides-int_eq p.y p.y).1 refl,
+      (Decides-int_eq p.z p.z).1 refl,
+    ) refl
+
 pub number_within : (points : List Place) (p : Place) → number_of points p ≤ length points
 number_within [] p = omega arith
 number_within (q ∷ qs) p =
@@ -35,7 +43,7 @@ number_within (q ∷ qs) p =
     (λ same. omega arith) (λ apart. omega (arith, rest))
 
 -- With one point more.
-more_old : (points : List Place) (p q : Place) → number_of points q < length points
+pub more_old : (points : List Place) (p q : Place) → number_of points q < length points
     → number_of (points ++ p ∷ []) q ≡ number_of points q
 more_old [] p q l = absurd (omega arith)
 more_old (r ∷ rs) p q l =
@@ -50,7 +58,7 @@ more_old (r ∷ rs) p q l =
           ∙ ap (λ (n : ℕ). 1 + n) rest ∙ sym at
     ]
 
-more_new : (points : List Place) (p q : Place) → number_of points q ≡ length points
+pub more_new : (points : List Place) (p q : Place) → number_of points q ≡ length points
     → number_of (points ++ p ∷ []) q ≡ length points + number_of (p ∷ []) q
 more_new [] p q e = omega arith
 more_new (r ∷ rs) p q e =
@@ -68,7 +76,7 @@ more_new (r ∷ rs) p q e =
           omega (arith, here, rest)
     ]
 
-number_there : (points : List Place) (p : Place) → number_of points p < length points
+pub number_there : (points : List Place) (p : Place) → number_of points p < length points
     → number_if points p ≡ Some (number_of points p)
 number_there points p l = cond-true _ _ _ (lt-ltb _ _ l)
 

@@ -1,16 +1,20 @@
 //! Binary files.
 ghost use Rattle.std.specs.Prelude.{◌≡◌, ◌+◌, ◌*◌, ◌≤◌, ◌<◌, ◌^◌, IfOk, OnOk, IfErr, length, Ok};
-ghost use Rattle.std.specs.Prelude.{unsigned_abs};
+ghost use Rattle.std.specs.Prelude.{unsigned_abs, []};
 ghost use Rattle.pm_base.specs.declared.limits.TheConstants.{MOST_VERTICES, MOST_FACES};
 ghost use Rattle.stl_read.specs.Binary.{word_at, coordinate_at, point_at, corner_at, facet_at};
 ghost use Rattle.stl_read.specs.Binary.{has_its_length, facet_count, with_facets, binary_meaning};
 ghost use Rattle.stl_read.specs.Binary.{count_of, has_attributes};
-ghost use Rattle.stl_read.specs.Vertices.{marked_after, no_triangles};
+ghost use Rattle.stl_read.specs.Vertices.{corner_of, marked_after, no_triangles};
 ghost use Rattle.stl_read.specs.Meaning.{Explains, triangles_of};
 ghost use Rattle.stl_read.specs.Numbering.{AreNumbered};
 ghost use Rattle.stl_read.specs.Refusals.{of_number};
+ghost use Rattle.stl_read.specs.Recent.{AreKnown, AreWordsOf, words_at};
+ghost use Rattle.float_read.specs.Floats.{float_coordinate, binary32};
 
+use crate::OutOfMemory;
 use crate::fault::{Refused, StlFail, StlFault};
+use crate::recent::{Recent, Words};
 use crate::vertices::{StlTriangles, Vertices};
 use float_read::{FloatFault, single_coordinate};
 use obj_prepare::ExactPoint;
@@ -26,6 +30,17 @@ const BEFORE_FACETS: usize = 84;
 const FACET_BYTES: usize = 50;
 
 const BEFORE_ATTRIBUTES: usize = 48;
+
+// The most slots for the last corners: those of some rows of a large grid, in memory that stays
+// near the processor.
+const MOST_SLOTS: usize = 65_536;
+
+/// The vertices so far, and the last corners.
+#[derive(Drop)]
+struct Reader {
+    vertices: Vertices,
+    recent: Recent,
+}
 
 fn of_number(fault: FloatFault) -> StlFault
     ensures { result ≡ of_number fault }
@@ -50,6 +65,7 @@ fn word_at(bytes: &[u8], at: usize) -> u32
 fn coordinate_at(bytes: &[u8], at: usize) -> Result<i128, Refused>
     requires { at + 4 ≤ length bytes.now }
     ensures value { result ≡ coordinate_at bytes.now at }
+    ensures word { IfOk result (λ x. float_coordinate binary32 (word_at bytes.now at) ≡ Ok x) }
     ensures range { IfOk result (λ x. unsigned_abs x ≤ 10 ^ 32) }
 {
     match single_coordinate(word_at(bytes, at)) {
@@ -64,7 +80,8 @@ fn coordinate_at(bytes: &[u8], at: usize) -> Result<i128, Refused>
 #[tactic(auto, unfolding(crate::specs::Binary::point_at))]
 fn point_at(bytes: &[u8], at: usize) -> Result<ExactPoint, Refused>
     requires { at + 12 ≤ length bytes.now }
-    ensures { result ≡ point_at bytes.now at }
+    ensures value { result ≡ point_at bytes.now at }
+    ensures words { IfOk result (λ p. AreWordsOf (words_at bytes.now at) p) }
 {
     let x = coordinate_at(bytes, at)?;
     let y = coordinate_at(bytes, at + 4)?;
@@ -78,41 +95,107 @@ fn point_at(bytes: &[u8], at: usize) -> Result<ExactPoint, Refused>
     }
 }
 
+fn words_at(bytes: &[u8], at: usize) -> Words
+    requires { at + 12 ≤ length bytes.now }
+    ensures { result ≡ words_at bytes.now at }
+{
+    Words {
+        x: word_at(bytes, at),
+        y: word_at(bytes, at + 4),
+        z: word_at(bytes, at + 8),
+    }
+}
+
+impl Reader {
+    fn new(alloc: Global, slots: usize) -> Result<Reader, OutOfMemory>
+        requires { 0 < slots }
+        ensures points { IfOk result (λ r. r.vertices.points.items ≡ []) }
+        ensures numbered { IfOk result
+            (λ r. AreNumbered r.vertices.points.items r.vertices.numbers) }
+        ensures known { IfOk result
+            (λ r. AreKnown r.vertices.points.items r.recent.slots.items) }
+    {
+        let recent = Recent::new(alloc, slots)?;
+        let vertices = Vertices::new(alloc);
+        Ok(Reader { vertices, recent })
+    }
+
+    // Puts down the point that words tell, and answers its number.
+    fn put(&mut self, words: Words, p: &ExactPoint, at: usize) -> Result<u32, StlFail>
+        requires told { AreWordsOf words p.now }
+        requires numbered { AreNumbered self.old.vertices.points.items self.old.vertices.numbers }
+        requires few { length self.old.vertices.points.items ≤ MOST_VERTICES }
+        requires known { AreKnown self.old.vertices.points.items self.old.recent.slots.items }
+        ensures ok { IfOk result
+            (λ v. corner_of at self.old.vertices.points.items p.now
+            ≡ Ok (record { vertex = v; points = self.new.vertices.points.items })) }
+        ensures numbered { OnOk result
+            (AreNumbered self.new.vertices.points.items self.new.vertices.numbers) }
+        ensures few { OnOk result (length self.new.vertices.points.items ≤ MOST_VERTICES) }
+        ensures known { OnOk result
+            (AreKnown self.new.vertices.points.items self.new.recent.slots.items) }
+        ensures err { IfErr result
+            (Explains (corner_of at self.old.vertices.points.items p.now)) }
+    {
+        match self.vertices.corner(p, at) {
+            Ok(vertex) => {
+                self.recent.note(words, vertex);
+                Ok(vertex)
+            }
+            Err(fail) => Err(fail),
+        }
+    }
+}
+
 // Puts down the point of a corner that begins at a place, and answers its number.
 #[tactic(auto, unfolding(crate::specs::Binary::corner_at))]
-fn corner_at(vertices: &mut Vertices, bytes: &[u8], at: usize) -> Result<u32, StlFail>
+fn corner_at(reader: &mut Reader, bytes: &[u8], at: usize) -> Result<u32, StlFail>
     requires within { at + 12 ≤ length bytes.now }
-    requires numbered { AreNumbered vertices.old.points.items vertices.old.numbers }
-    requires few { length vertices.old.points.items ≤ MOST_VERTICES }
+    requires numbered { AreNumbered reader.old.vertices.points.items reader.old.vertices.numbers }
+    requires few { length reader.old.vertices.points.items ≤ MOST_VERTICES }
+    requires known { AreKnown reader.old.vertices.points.items reader.old.recent.slots.items }
     ensures ok { IfOk result
-        (λ v. corner_at bytes.now at vertices.old.points.items
-        ≡ Ok (record { vertex = v; points = vertices.new.points.items })) }
-    ensures numbered { OnOk result (AreNumbered vertices.new.points.items vertices.new.numbers) }
-    ensures few { OnOk result (length vertices.new.points.items ≤ MOST_VERTICES) }
-    ensures err { IfErr result (Explains (corner_at bytes.now at vertices.old.points.items)) }
+        (λ v. corner_at bytes.now at reader.old.vertices.points.items
+        ≡ Ok (record { vertex = v; points = reader.new.vertices.points.items })) }
+    ensures numbered { OnOk result
+        (AreNumbered reader.new.vertices.points.items reader.new.vertices.numbers) }
+    ensures few { OnOk result (length reader.new.vertices.points.items ≤ MOST_VERTICES) }
+    ensures known { OnOk result
+        (AreKnown reader.new.vertices.points.items reader.new.recent.slots.items) }
+    ensures err { IfErr result
+        (Explains (corner_at bytes.now at reader.old.vertices.points.items)) }
 {
+    let words = words_at(bytes, at);
+    if let Some(vertex) = reader.recent.vertex_of(words) {
+        return Ok(vertex);
+    }
     match point_at(bytes, at) {
-        Ok(p) => vertices.corner(&p, at),
+        Ok(p) => reader.put(words, &p, at),
         Err(why) => Err(StlFail::Fault(why)),
     }
 }
 
 // The vertices of the facet that begins at a place.
 #[tactic(auto, unfolding(crate::specs::Binary::facet_at))]
-fn facet_at(vertices: &mut Vertices, bytes: &[u8], at: usize) -> Result<Corners, StlFail>
+fn facet_at(reader: &mut Reader, bytes: &[u8], at: usize) -> Result<Corners, StlFail>
     requires within { at + 50 ≤ length bytes.now }
-    requires numbered { AreNumbered vertices.old.points.items vertices.old.numbers }
-    requires few { length vertices.old.points.items ≤ MOST_VERTICES }
+    requires numbered { AreNumbered reader.old.vertices.points.items reader.old.vertices.numbers }
+    requires few { length reader.old.vertices.points.items ≤ MOST_VERTICES }
+    requires known { AreKnown reader.old.vertices.points.items reader.old.recent.slots.items }
     ensures ok { IfOk result
-        (λ f. facet_at bytes.now at vertices.old.points.items
-        ≡ Ok (record { corners = f; points = vertices.new.points.items })) }
-    ensures numbered { OnOk result (AreNumbered vertices.new.points.items vertices.new.numbers) }
-    ensures few { OnOk result (length vertices.new.points.items ≤ MOST_VERTICES) }
-    ensures err { IfErr result (Explains (facet_at bytes.now at vertices.old.points.items)) }
+        (λ f. facet_at bytes.now at reader.old.vertices.points.items
+        ≡ Ok (record { corners = f; points = reader.new.vertices.points.items })) }
+    ensures numbered { OnOk result
+        (AreNumbered reader.new.vertices.points.items reader.new.vertices.numbers) }
+    ensures few { OnOk result (length reader.new.vertices.points.items ≤ MOST_VERTICES) }
+    ensures known { OnOk result
+        (AreKnown reader.new.vertices.points.items reader.new.recent.slots.items) }
+    ensures err { IfErr result
+        (Explains (facet_at bytes.now at reader.old.vertices.points.items)) }
 {
-    let a = corner_at(vertices, bytes, at + 12)?;
-    let b = corner_at(vertices, bytes, at + 24)?;
-    let c = corner_at(vertices, bytes, at + 36)?;
+    let a = corner_at(reader, bytes, at + 12)?;
+    let b = corner_at(reader, bytes, at + 24)?;
+    let c = corner_at(reader, bytes, at + 36)?;
     Ok(Corners { a, b, c })
 }
 
@@ -194,12 +277,15 @@ fn read_facets(alloc: Global, bytes: &[u8], count: u32) -> Result<StlTriangles, 
         (λ t. with_facets bytes.now no_triangles 84 count ≡ Ok (triangles_of t)) }
     ensures err { IfErr result (Explains (with_facets bytes.now no_triangles 84 count)) }
 {
-    let mut vertices = Vertices::new(alloc);
+    let mut reader = match Reader::new(alloc, MOST_SLOTS.min(count as usize + 1)) {
+        Ok(reader) => reader,
+        Err(_) => return Err(StlFail::OutOfMemory),
+    };
     let mut faces = Vec::new(alloc);
     let mut attributes = 0;
     for i in 0..count as usize {
         let at = BEFORE_FACETS + FACET_BYTES * i;
-        match facet_at(&mut vertices, bytes, at) {
+        match facet_at(&mut reader, bytes, at) {
             Err(fail) => return Err(fail),
             Ok(facet) => {
                 if faces.push(facet).is_err() {
@@ -209,6 +295,7 @@ fn read_facets(alloc: Global, bytes: &[u8], count: u32) -> Result<StlTriangles, 
         }
         attributes = marked_after(attributes, bytes, at);
     }
+    let vertices = reader.vertices;
     Ok(StlTriangles {
         points: vertices.points,
         faces,

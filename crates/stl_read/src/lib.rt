@@ -6,6 +6,7 @@ mod binary;
 mod fault;
 mod lines;
 mod read;
+mod recent;
 mod stage;
 mod tests;
 mod vertices;

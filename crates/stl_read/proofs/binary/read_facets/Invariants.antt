@@ -2,18 +2,20 @@ use Rattle.std.proofs.Common.{◌≡◌, ◌+◌, ◌-◌, ◌*◌, ◌≤◌, l
 use Rattle.pm_base.specs.declared.limits.TheConstants.{MOST_VERTICES}
 use Rattle.stl_read.specs.Binary.{with_facets}
 use Rattle.stl_read.specs.Numbering.{AreNumbered}
+use Rattle.stl_read.specs.Recent.{AreKnown}
 use Rattle.stl_read.specs.Vertices.{no_triangles}
 use Rattle.stl_read.proofs.binary.read_facets.Given as goal
 
 abbrev pub invariant-loop-i : goal.invariant-loop-i
 invariant-loop-i l = record {
-  numbered : AreNumbered l.vertices.points.items l.vertices.numbers;
-  few : length l.vertices.points.items ≤ MOST_VERTICES;
+  numbered : AreNumbered l.reader.vertices.points.items l.reader.vertices.numbers;
+  few : length l.reader.vertices.points.items ≤ MOST_VERTICES;
+  known : AreKnown l.reader.vertices.points.items l.reader.recent.slots.items;
   marked : l.attributes ≤ l.i;
   rest :
       with_facets l.bytes
       (record {
-        points = l.vertices.points.items;
+        points = l.reader.vertices.points.items;
         faces = l.faces.items;
         attributes = l.attributes;
       })
