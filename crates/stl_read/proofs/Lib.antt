@@ -1,4 +1,5 @@
 pub mod VertexLaws
+pub mod NumberLaws
 pub mod RecentLaws
 pub mod FacetLaws
 pub mod LineLaws

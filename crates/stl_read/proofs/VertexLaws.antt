@@ -1,23 +1,21 @@
 -- Laws of points and their numbers.
-use Rattle.std.proofs.Common.{◌≡◌, ◌≢◌, ℕ, ◌+◌, ◌<◌, ◌≤◌, true, false, inl, inr, refl, sym, ap}
+use Rattle.std.proofs.Common.{◌≡◌, ◌≢◌, ℕ, ◌+◌, ◌<◌, ◌≤◌, true, inl, inr, refl, sym, ap}
 use Rattle.std.proofs.Common.{◌∙◌, ◌&&◌, Some, None, List, [], ◌∷◌, ◌++◌, length, nat_lt}
 use Rattle.std.proofs.Common.{Ok, arith}
 use Rattle.std.proofs.lemmas.Bool.{cases_Bool, cases_lt, cond-true, cond-false, cond_both}
 use Rattle.std.proofs.lemmas.Bool.{and_parts}
 use Rattle.std.proofs.lemmas.Bool.{lt-ltb, le-ltb, ne_eqb, eq-eqb, true≢false}
 use Rattle.std.proofs.lemmas.Bool.Decides.{Decides-int_eq}
-use Rattle.std.proofs.lemmas.List.{length_push}
 use Rattle.std.specs.Option.{is_some}
 use Rattle.std.specs.Ordering.{int_eq}
-use Rattle.std.specs.HashMap.{HashMap, get, Updates}
 use Rattle.pm_base.specs.declared.limits.TheConstants.{MOST_VERTICES}
 use Rattle.pm_base.specs.Place.{Place}
 use Rattle.stl_read.specs.declared.fault.StlFault.TheVariants as faults
 use Rattle.stl_read.specs.Refusals.{refused}
 use Rattle.stl_read.specs.Vertices.{is_same, number_of, corner_of}
-use Rattle.stl_read.specs.Numbering.{Key, key_of, same_key, number_if, AreNumbered}
+use Rattle.stl_read.specs.Numbering.{number_if}
 
-is_same_is : (p q : Place) → is_same p q ≡ true → p ≡ q
+pub is_same_is : (p q : Place) → is_same p q ≡ true → p ≡ q
 is_same_is p q e =
     let (front, z) = and_parts (int_eq p.x q.x && int_eq p.y q.y) (int_eq p.z q.z) e in
     let (x, y) = and_parts (int_eq p.x q.x) (int_eq p.y q.y) front in
@@ -80,21 +78,17 @@ pub number_there : (points : List Place) (p : Place) → number_of points p < le
     → number_if points p ≡ Some (number_of points p)
 number_there points p l = cond-true _ _ _ (lt-ltb _ _ l)
 
-number_gone : (points : List Place) (p : Place) → length points ≤ number_of points p
+pub number_gone : (points : List Place) (p : Place) → length points ≤ number_of points p
     → number_if points p ≡ None
 number_gone points p l = cond-false _ _ _ (le-ltb _ _ l)
 
-some_not_none : (v : ℕ) → Some v ≢ None
+pub some_not_none : (v : ℕ) → Some v ≢ None
 some_not_none v e = true≢false (ap is_some e)
 
 some_is : (v w : ℕ) → Some v ≡ Some w → v ≡ w
 some_is v w e = cc
 
-pub no_numbers : {S : Type 0} (numbers : HashMap Key ℕ S) → numbers.entries ≡ []
-    → AreNumbered [] numbers
-no_numbers numbers is p = rw is refl
-
--- A point that the map has.
+-- A point that is there.
 pub old_number : (points : List Place) (p : Place) (v : ℕ) → number_if points p ≡ Some v
     → (number_of points p ≡ v) × (v < length points)
 old_number points p v e =
@@ -106,7 +100,7 @@ old_number points p v e =
       | inr l ↦ absurd (some_not_none v (sym e ∙ number_gone points p l))
     ]
 
--- A point that it doesn't have.
+-- A point that isn't.
 pub new_number : (points : List Place) (p : Place) → number_if points p ≡ None
     → number_of points p ≡ length points
 new_number points p e =
@@ -115,52 +109,7 @@ new_number points p e =
       | inr l ↦ omega (arith, number_within points p, l)
     ]
 
-pub numbered_more : {S : Type 0} (points : List Place) (p : Place) (n : ℕ)
-    (numbers more : HashMap Key ℕ S) → AreNumbered points numbers
-    → number_of points p ≡ length points → n ≡ length points
-    → Updates same_key numbers more (key_of p) (Some n) → AreNumbered (points ++ p ∷ []) more
-numbered_more points p n numbers more old new is updates q =
-    elim (cases_Bool (is_same p q)) [
-      | inl same ↦
-          let one : p ≡ q = is_same_is p q same in
-          let none : number_of points q ≡ length points =
-          ap (number_of points) (sym one) ∙ new in
-          let last : number_of (p ∷ []) q ≡ 0 = cond-true (is_same p q) 0 (1 + 0) same in
-          let at : number_of (points ++ p ∷ []) q ≡ n =
-          omega (arith, more_new points p q none, last, is) in
-          updates.0 (key_of q)
-          ∙ cond-true (is_same p q) (Some n) (get same_key numbers (key_of q)) same
-          ∙ sym (number_there (points ++ p ∷ []) q (omega (arith, at, is, length_push points p))
-          ∙ ap (λ (k : ℕ). Some k) at)
-      | inr apart ↦
-          let kept : get same_key more (key_of q) ≡ number_if points q =
-          updates.0 (key_of q)
-          ∙ cond-false (is_same p q) (Some n) (get same_key numbers (key_of q)) apart
-          ∙ old q in
-          kept ∙ still apart
-    ]
-  where
-    still : is_same p q ≡ false → number_if points q ≡ number_if (points ++ p ∷ []) q
-    still apart =
-        elim (cases_lt (number_of points q) (length points)) [
-          | inl l ↦
-              let at = more_old points p q l in
-              number_there points q l
-              ∙ sym (number_there (points ++ p ∷ []) q
-              (omega (arith, at, l, length_push points p))
-              ∙ ap (λ (k : ℕ). Some k) at)
-          | inr l ↦
-              let none : number_of points q ≡ length points =
-              omega (arith, number_within points q, l) in
-              let last : number_of (p ∷ []) q ≡ 1 + 0 =
-              cond-false (is_same p q) 0 (1 + 0) apart in
-              let at = more_new points p q none in
-              number_gone points q l
-              ∙ sym (number_gone (points ++ p ∷ []) q
-              (omega (arith, at, last, length_push points p)))
-        ]
-
--- What a corner gives, by the map's answer.
+-- What a corner gives, by the number if there is one.
 pub corner_old : (place : ℕ) (points : List Place) (p : Place) (v : ℕ)
     → length points ≤ MOST_VERTICES → number_if points p ≡ Some v
     → corner_of place points p ≡ Ok (record { vertex = v; points = points })

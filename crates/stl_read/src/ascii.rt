@@ -1,6 +1,6 @@
 //! Texts.
 ghost use Rattle.std.specs.Prelude.{◌≡◌, ◌≤◌, ◌^◌, ◌∷◌, [], IfOk, OnOk, IfErr, MatchOption, None};
-ghost use Rattle.std.specs.Prelude.{Some, Ok, length, unsigned_abs};
+ghost use Rattle.std.specs.Prelude.{◌<◌, Some, Ok, length, unsigned_abs};
 ghost use Rattle.obj_read.specs.Fields.{fields};
 ghost use Rattle.obj_prepare.specs.Numbers.{decimal_coordinate};
 ghost use Rattle.pm_base.specs.declared.limits.TheConstants.{MOST_VERTICES};
@@ -9,6 +9,7 @@ ghost use Rattle.stl_read.specs.Ascii.{after_text, text_meaning, at_start, with_
 ghost use Rattle.stl_read.specs.Meaning.{Explains, triangles_of, so_far_of};
 ghost use Rattle.stl_read.specs.Numbering.{AreNumbered};
 
+use crate::OutOfMemory;
 use crate::fault::{Refused, StlFail, StlFault};
 use crate::lines::{next_line, without_cr};
 use crate::stage::{Stage, is_alone, is_word};
@@ -17,6 +18,9 @@ use obj_prepare::{ExactPoint, decimal_coordinate};
 use obj_read::{ObjFault, next_field};
 use pm_base::{Corners, MOST_FACES};
 use std::alloc::Global;
+
+// A facet has some 250 bytes, and a point of a surface two facets: about four slots for each.
+const BYTES_FOR_SLOT: usize = 128;
 
 /// What the lines so far gave.
 #[derive(Drop)]
@@ -84,26 +88,27 @@ fn unexpected(line: usize) -> StlFail
 }
 
 impl TextReader {
-    fn new(alloc: Global) -> TextReader
-        ensures value { so_far_of result ≡ at_start }
-        ensures numbered { AreNumbered result.vertices.points.items result.vertices.numbers }
+    // With so many slots for points.
+    fn new(alloc: Global, slots: usize) -> Result<TextReader, OutOfMemory>
+        requires { 0 < slots }
+        ensures value { IfOk result (λ r. so_far_of r ≡ at_start) }
+        ensures numbered { IfOk result (λ r. AreNumbered r.vertices) }
     {
-        TextReader {
+        Ok(TextReader {
             stage: Stage::Outside,
-            vertices: Vertices::new(alloc),
+            vertices: Vertices::new(alloc, slots)?,
             faces: Vec::new(alloc),
-        }
+        })
     }
 
     // Takes a corner.
     #[tactic(auto, unfolding(crate::specs::Ascii::with_point_at), using(crate::proofs::LineLaws::explains_then))]
     fn take_corner(&mut self, p: &ExactPoint, line: usize) -> Result<(), StlFail>
-        requires numbered { AreNumbered self.old.vertices.points.items self.old.vertices.numbers }
+        requires numbered { AreNumbered self.old.vertices }
         requires few { length self.old.vertices.points.items ≤ MOST_VERTICES }
         ensures ok { OnOk result
             (with_point_at line (so_far_of self.old) p.now ≡ Ok (so_far_of self.new)) }
-        ensures numbered { OnOk result
-            (AreNumbered self.new.vertices.points.items self.new.vertices.numbers) }
+        ensures numbered { OnOk result (AreNumbered self.new.vertices) }
         ensures few { OnOk result (length self.new.vertices.points.items ≤ MOST_VERTICES) }
         ensures err { IfErr result (Explains (with_point_at line (so_far_of self.old) p.now)) }
     {
@@ -123,13 +128,12 @@ impl TextReader {
     // Takes a line of a vertex.
     #[tactic(auto, unfolding(crate::specs::Ascii::vertex_line))]
     fn take_vertex(&mut self, word: &[u8], rest: &[u8], line: usize) -> Result<(), StlFail>
-        requires numbered { AreNumbered self.old.vertices.points.items self.old.vertices.numbers }
+        requires numbered { AreNumbered self.old.vertices }
         requires few { length self.old.vertices.points.items ≤ MOST_VERTICES }
         ensures ok { OnOk result
             (vertex_line line (so_far_of self.old) word.now (fields rest.now)
             ≡ Ok (so_far_of self.new)) }
-        ensures numbered { OnOk result
-            (AreNumbered self.new.vertices.points.items self.new.vertices.numbers) }
+        ensures numbered { OnOk result (AreNumbered self.new.vertices) }
         ensures few { OnOk result (length self.new.vertices.points.items ≤ MOST_VERTICES) }
         ensures err { IfErr result
             (Explains (vertex_line line (so_far_of self.old) word.now (fields rest.now))) }
@@ -176,12 +180,11 @@ impl TextReader {
     // Takes a line.
     #[tactic(auto, unfolding(crate::specs::Ascii::after_text))]
     fn take(&mut self, text: &[u8], line: usize) -> Result<(), StlFail>
-        requires numbered { AreNumbered self.old.vertices.points.items self.old.vertices.numbers }
+        requires numbered { AreNumbered self.old.vertices }
         requires few { length self.old.vertices.points.items ≤ MOST_VERTICES }
         ensures ok { OnOk result
             (after_text line (so_far_of self.old) text.now ≡ Ok (so_far_of self.new)) }
-        ensures numbered { OnOk result
-            (AreNumbered self.new.vertices.points.items self.new.vertices.numbers) }
+        ensures numbered { OnOk result (AreNumbered self.new.vertices) }
         ensures few { OnOk result (length self.new.vertices.points.items ≤ MOST_VERTICES) }
         ensures err { IfErr result (Explains (after_text line (so_far_of self.old) text.now)) }
     {
@@ -233,7 +236,10 @@ pub(crate) fn read_text(alloc: Global, bytes: &[u8]) -> Result<StlTriangles, Stl
     ensures ok { IfOk result (λ t. text_meaning bytes.now ≡ Ok (triangles_of t)) }
     ensures err { IfErr result (Explains (text_meaning bytes.now)) }
 {
-    let mut reader = TextReader::new(alloc);
+    let mut reader = match TextReader::new(alloc, bytes.len() / BYTES_FOR_SLOT + 1) {
+        Ok(reader) => reader,
+        Err(_) => return Err(StlFail::OutOfMemory),
+    };
     let (mut rest, mut line) = (bytes, 1);
     while let Some((text, after)) = next_line(rest) {
         match reader.take(text, line) {

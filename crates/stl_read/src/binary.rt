@@ -107,30 +107,29 @@ fn words_at(bytes: &[u8], at: usize) -> Words
 }
 
 impl Reader {
-    fn new(alloc: Global, slots: usize) -> Result<Reader, OutOfMemory>
-        requires { 0 < slots }
+    // Two slots for each facet are about four for each point of a surface.
+    fn new(alloc: Global, facets: usize) -> Result<Reader, OutOfMemory>
+        requires { facets ≤ MOST_FACES }
         ensures points { IfOk result (λ r. r.vertices.points.items ≡ []) }
-        ensures numbered { IfOk result
-            (λ r. AreNumbered r.vertices.points.items r.vertices.numbers) }
+        ensures numbered { IfOk result (λ r. AreNumbered r.vertices) }
         ensures known { IfOk result
             (λ r. AreKnown r.vertices.points.items r.recent.slots.items) }
     {
-        let recent = Recent::new(alloc, slots)?;
-        let vertices = Vertices::new(alloc);
+        let recent = Recent::new(alloc, MOST_SLOTS.min(facets + 1))?;
+        let vertices = Vertices::new(alloc, 2 * facets + 1)?;
         Ok(Reader { vertices, recent })
     }
 
     // Puts down the point that words tell, and answers its number.
     fn put(&mut self, words: Words, p: &ExactPoint, at: usize) -> Result<u32, StlFail>
         requires told { AreWordsOf words p.now }
-        requires numbered { AreNumbered self.old.vertices.points.items self.old.vertices.numbers }
+        requires numbered { AreNumbered self.old.vertices }
         requires few { length self.old.vertices.points.items ≤ MOST_VERTICES }
         requires known { AreKnown self.old.vertices.points.items self.old.recent.slots.items }
         ensures ok { IfOk result
             (λ v. corner_of at self.old.vertices.points.items p.now
             ≡ Ok (record { vertex = v; points = self.new.vertices.points.items })) }
-        ensures numbered { OnOk result
-            (AreNumbered self.new.vertices.points.items self.new.vertices.numbers) }
+        ensures numbered { OnOk result (AreNumbered self.new.vertices) }
         ensures few { OnOk result (length self.new.vertices.points.items ≤ MOST_VERTICES) }
         ensures known { OnOk result
             (AreKnown self.new.vertices.points.items self.new.recent.slots.items) }
@@ -151,14 +150,13 @@ impl Reader {
 #[tactic(auto, unfolding(crate::specs::Binary::corner_at))]
 fn corner_at(reader: &mut Reader, bytes: &[u8], at: usize) -> Result<u32, StlFail>
     requires within { at + 12 ≤ length bytes.now }
-    requires numbered { AreNumbered reader.old.vertices.points.items reader.old.vertices.numbers }
+    requires numbered { AreNumbered reader.old.vertices }
     requires few { length reader.old.vertices.points.items ≤ MOST_VERTICES }
     requires known { AreKnown reader.old.vertices.points.items reader.old.recent.slots.items }
     ensures ok { IfOk result
         (λ v. corner_at bytes.now at reader.old.vertices.points.items
         ≡ Ok (record { vertex = v; points = reader.new.vertices.points.items })) }
-    ensures numbered { OnOk result
-        (AreNumbered reader.new.vertices.points.items reader.new.vertices.numbers) }
+    ensures numbered { OnOk result (AreNumbered reader.new.vertices) }
     ensures few { OnOk result (length reader.new.vertices.points.items ≤ MOST_VERTICES) }
     ensures known { OnOk result
         (AreKnown reader.new.vertices.points.items reader.new.recent.slots.items) }
@@ -179,14 +177,13 @@ fn corner_at(reader: &mut Reader, bytes: &[u8], at: usize) -> Result<u32, StlFai
 #[tactic(auto, unfolding(crate::specs::Binary::facet_at))]
 fn facet_at(reader: &mut Reader, bytes: &[u8], at: usize) -> Result<Corners, StlFail>
     requires within { at + 50 ≤ length bytes.now }
-    requires numbered { AreNumbered reader.old.vertices.points.items reader.old.vertices.numbers }
+    requires numbered { AreNumbered reader.old.vertices }
     requires few { length reader.old.vertices.points.items ≤ MOST_VERTICES }
     requires known { AreKnown reader.old.vertices.points.items reader.old.recent.slots.items }
     ensures ok { IfOk result
         (λ f. facet_at bytes.now at reader.old.vertices.points.items
         ≡ Ok (record { corners = f; points = reader.new.vertices.points.items })) }
-    ensures numbered { OnOk result
-        (AreNumbered reader.new.vertices.points.items reader.new.vertices.numbers) }
+    ensures numbered { OnOk result (AreNumbered reader.new.vertices) }
     ensures few { OnOk result (length reader.new.vertices.points.items ≤ MOST_VERTICES) }
     ensures known { OnOk result
         (AreKnown reader.new.vertices.points.items reader.new.recent.slots.items) }
@@ -277,7 +274,7 @@ fn read_facets(alloc: Global, bytes: &[u8], count: u32) -> Result<StlTriangles, 
         (λ t. with_facets bytes.now no_triangles 84 count ≡ Ok (triangles_of t)) }
     ensures err { IfErr result (Explains (with_facets bytes.now no_triangles 84 count)) }
 {
-    let mut reader = match Reader::new(alloc, MOST_SLOTS.min(count as usize + 1)) {
+    let mut reader = match Reader::new(alloc, count as usize) {
         Ok(reader) => reader,
         Err(_) => return Err(StlFail::OutOfMemory),
     };

@@ -7,7 +7,7 @@ use Rattle.stl_read.proofs.ascii.read_text.Given as goal
 
 abbrev pub invariant-loop-text : goal.invariant-loop-text
 invariant-loop-text l = record {
-  numbered : AreNumbered l.reader.vertices.points.items l.reader.vertices.numbers;
+  numbered : AreNumbered l.reader.vertices;
   few : length l.reader.vertices.points.items ≤ MOST_VERTICES;
   line : l.line + length (texts l.rest) ≡ 1 + length (texts l.bytes);
   rest :

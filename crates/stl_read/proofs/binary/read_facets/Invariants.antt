@@ -8,7 +8,7 @@ use Rattle.stl_read.proofs.binary.read_facets.Given as goal
 
 abbrev pub invariant-loop-i : goal.invariant-loop-i
 invariant-loop-i l = record {
-  numbered : AreNumbered l.reader.vertices.points.items l.reader.vertices.numbers;
+  numbered : AreNumbered l.reader.vertices;
   few : length l.reader.vertices.points.items ≤ MOST_VERTICES;
   known : AreKnown l.reader.vertices.points.items l.reader.recent.slots.items;
   marked : l.attributes ≤ l.i;
