@@ -38,9 +38,8 @@ no_numbers count others some is = record {
     none : (p : Place) → get same_key others (key_of p) ≡ None
     none p = rw is refl
 
-    at : (p : Place)
-        → slice_index_or (replicate count nowhere) (slot_of (length (replicate count nowhere)) p) None
-        ≡ nowhere
+    at : (p : Place) → slice_index_or (replicate count nowhere)
+        (slot_of (length (replicate count nowhere)) p) None ≡ nowhere
     at p =
         rw (length-replicate count nowhere)
         (get_or-replicate count (slot_of count p) nowhere nowhere (slot_within count p some))

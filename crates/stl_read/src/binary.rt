@@ -1,21 +1,21 @@
 //! Binary files.
 ghost use Rattle.std.specs.Prelude.{◌≡◌, ◌+◌, ◌*◌, ◌≤◌, ◌<◌, ◌^◌, IfOk, OnOk, IfErr, length, Ok};
-ghost use Rattle.std.specs.Prelude.{unsigned_abs, []};
+ghost use Rattle.std.specs.Prelude.{unsigned_abs};
 ghost use Rattle.pm_base.specs.declared.limits.TheConstants.{MOST_VERTICES, MOST_FACES};
 ghost use Rattle.stl_read.specs.Binary.{word_at, coordinate_at, point_at, corner_at, facet_at};
 ghost use Rattle.stl_read.specs.Binary.{has_its_length, facet_count, with_facets, binary_meaning};
 ghost use Rattle.stl_read.specs.Binary.{count_of, has_attributes};
-ghost use Rattle.stl_read.specs.Vertices.{corner_of, marked_after, no_triangles};
+ghost use Rattle.stl_read.specs.Vertices.{marked_after, no_triangles};
 ghost use Rattle.stl_read.specs.Meaning.{Explains, triangles_of};
 ghost use Rattle.stl_read.specs.Numbering.{AreNumbered};
 ghost use Rattle.stl_read.specs.Refusals.{of_number};
 ghost use Rattle.stl_read.specs.Recent.{AreKnown, AreWordsOf, words_at};
 ghost use Rattle.float_read.specs.Floats.{float_coordinate, binary32};
 
-use crate::OutOfMemory;
 use crate::fault::{Refused, StlFail, StlFault};
-use crate::recent::{Recent, Words};
-use crate::vertices::{StlTriangles, Vertices};
+use crate::reader::Reader;
+use crate::recent::Words;
+use crate::vertices::StlTriangles;
 use float_read::{FloatFault, single_coordinate};
 use obj_prepare::ExactPoint;
 use pm_base::{Corners, MOST_FACES};
@@ -30,17 +30,6 @@ const BEFORE_FACETS: usize = 84;
 const FACET_BYTES: usize = 50;
 
 const BEFORE_ATTRIBUTES: usize = 48;
-
-// The most slots for the last corners: those of some rows of a large grid, in memory that stays
-// near the processor.
-const MOST_SLOTS: usize = 65_536;
-
-/// The vertices so far, and the last corners.
-#[derive(Drop)]
-struct Reader {
-    vertices: Vertices,
-    recent: Recent,
-}
 
 fn of_number(fault: FloatFault) -> StlFault
     ensures { result ≡ of_number fault }
@@ -103,46 +92,6 @@ fn words_at(bytes: &[u8], at: usize) -> Words
         x: word_at(bytes, at),
         y: word_at(bytes, at + 4),
         z: word_at(bytes, at + 8),
-    }
-}
-
-impl Reader {
-    // Two slots for each facet are about four for each point of a surface.
-    fn new(alloc: Global, facets: usize) -> Result<Reader, OutOfMemory>
-        requires { facets ≤ MOST_FACES }
-        ensures points { IfOk result (λ r. r.vertices.points.items ≡ []) }
-        ensures numbered { IfOk result (λ r. AreNumbered r.vertices) }
-        ensures known { IfOk result
-            (λ r. AreKnown r.vertices.points.items r.recent.slots.items) }
-    {
-        let recent = Recent::new(alloc, MOST_SLOTS.min(facets + 1))?;
-        let vertices = Vertices::new(alloc, 2 * facets + 1)?;
-        Ok(Reader { vertices, recent })
-    }
-
-    // Puts down the point that words tell, and answers its number.
-    fn put(&mut self, words: Words, p: &ExactPoint, at: usize) -> Result<u32, StlFail>
-        requires told { AreWordsOf words p.now }
-        requires numbered { AreNumbered self.old.vertices }
-        requires few { length self.old.vertices.points.items ≤ MOST_VERTICES }
-        requires known { AreKnown self.old.vertices.points.items self.old.recent.slots.items }
-        ensures ok { IfOk result
-            (λ v. corner_of at self.old.vertices.points.items p.now
-            ≡ Ok (record { vertex = v; points = self.new.vertices.points.items })) }
-        ensures numbered { OnOk result (AreNumbered self.new.vertices) }
-        ensures few { OnOk result (length self.new.vertices.points.items ≤ MOST_VERTICES) }
-        ensures known { OnOk result
-            (AreKnown self.new.vertices.points.items self.new.recent.slots.items) }
-        ensures err { IfErr result
-            (Explains (corner_of at self.old.vertices.points.items p.now)) }
-    {
-        match self.vertices.corner(p, at) {
-            Ok(vertex) => {
-                self.recent.note(words, vertex);
-                Ok(vertex)
-            }
-            Err(fail) => Err(fail),
-        }
     }
 }
 

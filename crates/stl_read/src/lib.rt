@@ -6,6 +6,7 @@ mod binary;
 mod fault;
 mod lines;
 mod read;
+mod reader;
 mod recent;
 mod stage;
 mod tests;

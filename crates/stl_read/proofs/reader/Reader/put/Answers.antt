@@ -1,5 +1,5 @@
 use Rattle.stl_read.proofs.RecentLaws.{corner_known, still_known}
-use Rattle.stl_read.proofs.binary.Reader.put.Goals as goal
+use Rattle.stl_read.proofs.reader.Reader.put.Goals as goal
 
 pub returns-in-Ok-clause-known : goal.returns-in-Ok-clause-known
 returns-in-Ok-clause-known c =
