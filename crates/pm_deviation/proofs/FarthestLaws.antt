@@ -9,7 +9,7 @@ use Rattle.std.proofs.lemmas.Grind.{common_steps}
 use Rattle.std.proofs.lemmas.Bool.{cases_Bool, cases_lt, cases_eq, leb-true, cond-true, cond-false}
 use Rattle.std.proofs.Math.ListN.{length-set}
 use Rattle.std.proofs.lemmas.List.{get_or-set_same, get_or-set_other, get_or-replicate}
-use Rattle.std.proofs.lemmas.List.{length-replicate}
+use Rattle.std.proofs.lemmas.List.{length-replicate, length-append, get_or_default}
 use Rattle.std.specs.Option.{option_and_then}
 use Rattle.std.specs.List.{filter, range_with_len}
 use Rattle.pm_base.specs.Sides.{face_of}
@@ -27,10 +27,12 @@ use Rattle.pm_forest.proofs.ShapeLaws.{shape_of_nodes}
 use Rattle.pm_bounds.specs.Bounds.{greatest}
 use Rattle.pm_bounds.specs.Tables.{AreAtMost}
 use Rattle.pm_bounds.proofs.TableLaws.{kept}
+use Rattle.pm_deviation.specs.declared.farthest.Rung.{Rung}
 use Rattle.pm_deviation.specs.declared.unit_box.UnitBox.{UnitBox}
 use Rattle.pm_deviation.specs.Farthest.{leaves_under, has_few_leaves, few_above, AreRaised}
 use Rattle.pm_deviation.specs.Farthest.{face_box, plane_through, plane_distance, farthest_of}
-use Rattle.pm_deviation.specs.Farthest.{AreFarthestOf}
+use Rattle.pm_deviation.specs.Farthest.{AreFarthestOf, no_rung, IsRung, AreRungs}
+use Rattle.pm_deviation.proofs.NodeTables.{pushed}
 use Rattle.pm_deviation.proofs.ChainLaws.{one_root, parent_holds, highest, below_parent, narrower}
 
 -- The number past that of the node at which a walk stands; 0 at its end.
@@ -201,6 +203,24 @@ few_above-lower h shape n l = elim (option_cases (maker_of h n)) [
         | inr many ↦ (rw (is, many) (omega arith))
       ]
 ]
+
+-- The rungs while nodes are gone through, and one of them.
+pub rungs_none : (h : Hierarchy) (rs : List Rung) → rs ≡ [] → AreRungs h 0 rs
+rungs_none h rs is = record { len = ap length is; each = λ v l. absurd (omega arith) }
+
+pub rungs_more : (h : Hierarchy) (n : ℕ) (old new : List Rung) (r : Rung) → AreRungs h n old
+    → new ≡ old ++ r ∷ [] → IsRung h n r → AreRungs h (n + 1) new
+rungs_more h n old new r was is one = record {
+  len = ap length is ∙ length-append old (r ∷ []) ∙ ap (λ m. m + 1) was.len;
+  each = subst (λ (rs : List Rung). (v : ℕ) → v < n + 1 → IsRung h v (get_or rs v no_rung))
+      (sym is) (pushed no_rung (λ v x. IsRung h v x) n old r was.len was.each one);
+}
+
+pub rung_of : (h : Hierarchy) (rs : List Rung) → AreRungs h (node_count h) rs → (v : ℕ)
+    → v < node_count h → (d : Rung) → IsRung h v (get_or rs v d)
+rung_of h rs are v l d =
+    (let len = are.len in
+    subst (IsRung h v) (get_or_default rs v no_rung d (omega arith)) (are.each v l))
 
 -- The greatest of the numbers of which a test holds, where one more number comes.
 greatest_more : (g : ℕ → ℕ) (p : ℕ → Bool) (ns : List ℕ) (n : ℕ)

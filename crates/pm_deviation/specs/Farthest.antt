@@ -1,9 +1,10 @@
 -- Nodes with few leaves under them: which of the planes of the faces under such a node is the
 -- farthest from its place.
 use Rattle.std.specs.Prelude.{◌≡◌, ℕ, ◌-◌, ◌*◌, ◌<◌, nat_le, Bool, true, min, max, map, List}
-use Rattle.std.specs.Prelude.{length, slice_index_or, if◌then◌else◌, Option, None, Some}
+use Rattle.std.specs.Prelude.{pos, length, slice_index_or, if◌then◌else◌, Option, None, Some}
 use Rattle.std.specs.List.{filter, range_with_len}
-use Rattle.std.specs.Option.{unwrap_or, option_and_then}
+use Rattle.std.specs.Option.{unwrap_or, option_and_then, option_map}
+use Rattle.pm_base.specs.declared.ids.NodeId.{NodeId}
 use Rattle.pm_base.specs.Place.{Place}
 use Rattle.pm_base.specs.Rounded.{distance_of}
 use Rattle.pm_base.specs.Sides.{face_of}
@@ -15,6 +16,7 @@ use Rattle.pm_forest.specs.Places.{place_of_node}
 use Rattle.pm_bounds.specs.Bounds.{normal_of, greatest}
 use Rattle.pm_bounds.specs.Tables.{AreAtMost}
 use Rattle.pm_deviation.specs.declared.farthest.TheConstants.{FEW_LEAVES}
+use Rattle.pm_deviation.specs.declared.farthest.Rung.{Rung}
 use Rattle.pm_deviation.specs.declared.unit_box.UnitBox.{UnitBox}
 use Rattle.pm_deviation.specs.Spreads.{no_spread, most_along}
 use Rattle.pm_deviation.specs.Normals.{unit_box}
@@ -63,6 +65,19 @@ farthest_of h v n = greatest (map (plane_distance h v) (corners_under h v n))
 -- How far the place of node v may be from the planes of the faces under it.
 abbrev pub farthest_plane : Hierarchy → ℕ → ℕ
 farthest_plane h v = farthest_of h v (3 * face_count h)
+
+-- A rung has the place of node v, and the node above it, where that has few leaves.
+pub record IsRung (h : Hierarchy) (v : ℕ) (r : Rung) : Type 0 where
+  pub place : r.place ≡ place_of_node h v
+  pub above : option_map (λ (n : NodeId). n.0) r.above ≡ few_above h v
+
+abbrev pub no_rung : Rung
+no_rung = record { place = record { x = pos 0; y = pos 0; z = pos 0 }; above = None }
+
+-- The rungs of the first n nodes.
+pub record AreRungs (h : Hierarchy) (n : ℕ) (rs : List Rung) : Type 0 where
+  pub len : length rs ≡ n
+  pub each : (v : ℕ) → v < n → IsRung h v (slice_index_or rs v no_rung)
 
 -- Of the nodes with few leaves those above leaf x have numbers of their own or greater ones, and no
 -- other has another number than before.

@@ -7,7 +7,7 @@ ghost use Rattle.pm_base.specs.Sides.{face_of};
 ghost use Rattle.pm_forest.specs.Forest.{node_count, leaf_count};
 ghost use Rattle.pm_forest.specs.Faces.{face_count, from_leaf};
 ghost use Rattle.pm_deviation.specs.Farthest.{has_few_leaves, few_above, face_box};
-ghost use Rattle.pm_deviation.specs.Farthest.{plane_through, AreRaised};
+ghost use Rattle.pm_deviation.specs.Farthest.{plane_through, IsRung, AreRungs, AreRaised};
 ghost use Rattle.pm_deviation.specs.Farthest.{AreFarthestPlanes};
 ghost use Rattle.pm_bounds.specs.Tables.{AreAtMost};
 ghost use Rattle.pm_deviation.specs.Tables.{IsUnitBox, AreHeadings, AreOfFaces};
@@ -18,7 +18,7 @@ use crate::nodes::nodes_of;
 use crate::spread::Spread;
 use crate::steps::way_along;
 use crate::unit_box::UnitBox;
-use pm_base::{FaceId, NodeId, Side};
+use pm_base::{FaceId, NodeId, Point, Side};
 use pm_forest::Hierarchy;
 use std::alloc::Global;
 
@@ -53,9 +53,40 @@ fn few_above(h: &Hierarchy, node: NodeId) -> Option<NodeId>
     }
 }
 
+/// What a way up from a leaf reads at each node: its place, and the node above it, where that has
+/// few leaves. The hierarchy has the two far apart in memory.
+#[derive(Clone, Copy)]
+pub struct Rung {
+    pub place: Point,
+    pub above: Option<NodeId>,
+}
+
+// The rung of a node.
+fn rung_at(h: &Hierarchy, node: NodeId) -> Rung
+    requires { node.0 < node_count h.now }
+    ensures { IsRung h.now node.0 result }
+{
+    Rung {
+        place: h.place(node),
+        above: few_above(h, node),
+    }
+}
+
+// The rungs of all nodes, 16 bytes a node.
+fn rungs(alloc: Global, h: &Hierarchy) -> Result<Vec<Rung>, OutOfMemory>
+    ensures { IfOk result (λ rungs. AreRungs h.now (node_count h.now) rungs.items) }
+{
+    let mut rungs = Vec::with_capacity(alloc, h.nodes() as usize)?;
+    for node in 0..h.nodes() {
+        rungs.push(rung_at(h, NodeId(node)))?;
+    }
+    Ok(rungs)
+}
+
 // Lets the number of each node with few leaves above a leaf be at least how far its place may be
 // from a plane through the leaf.
-fn raise_above(h: &Hierarchy, table: &mut Vec<u32>, leaf: u32, parts: UnitBox)
+fn raise_above(h: &Hierarchy, rungs: &[Rung], table: &mut Vec<u32>, leaf: u32, parts: UnitBox)
+    requires rungs { AreRungs h.now (node_count h.now) rungs.now }
     requires leaf { leaf < leaf_count h.now }
     requires parts { IsUnitBox parts }
     requires len { length table.old.items ≡ node_count h.now }
@@ -67,12 +98,13 @@ fn raise_above(h: &Hierarchy, table: &mut Vec<u32>, leaf: u32, parts: UnitBox)
 {
     h.invariant();
     let lowest = h.leaf_node(leaf);
-    let place = h.place(lowest);
+    let place = rungs[lowest.0 as usize].place;
     let mut above = Some(lowest);
     while let Some(node) = above {
         let at = node.0 as usize;
-        table[at] = table[at].max(way_along(&parts, h.place(node), place));
-        above = few_above(h, node);
+        let rung = &rungs[at];
+        table[at] = table[at].max(way_along(&parts, rung.place, place));
+        above = rung.above;
     }
 }
 
@@ -110,16 +142,17 @@ fn face_box(h: &Hierarchy, faces: &[Heading], f: FaceId) -> UnitBox
 }
 
 // Looks at each corner from the nodes above it.
-fn look_at_corners(h: &Hierarchy, faces: &[Heading], table: &mut Vec<u32>)
+fn look_at_corners(h: &Hierarchy, faces: &[Heading], rungs: &[Rung], table: &mut Vec<u32>)
     requires are { AreHeadings h.now faces.now }
     requires faces { AreOfFaces h.now (face_count h.now) faces.now }
+    requires rungs { AreRungs h.now (node_count h.now) rungs.now }
     requires zeros { table.old.items ≡ replicate (node_count h.now) 0 }
     ensures { AreFarthestPlanes h.now table.new.items }
 {
     for number in 0..3 * h.faces() {
         let corner = Side(number);
         let parts = face_box(h, faces, corner.face());
-        raise_above(h, table, leaf_at(h, faces, corner), parts);
+        raise_above(h, rungs, table, leaf_at(h, faces, corner), parts);
     }
 }
 
@@ -131,7 +164,7 @@ fn zeros(alloc: Global, nodes: usize) -> Result<Vec<u32>, OutOfMemory>
 }
 
 /// How far the place of each node with few leaves may be from the planes of the faces under it: 4
-/// bytes a node. The numbers of other nodes mean nothing.
+/// bytes a node, and 16 more while they are found. The numbers of other nodes mean nothing.
 pub(crate) fn farthest_planes(
     alloc: Global,
     h: &Hierarchy,
@@ -141,7 +174,8 @@ pub(crate) fn farthest_planes(
     requires faces { AreOfFaces h.now (face_count h.now) faces.now }
     ensures { IfOk result (λ table. AreFarthestPlanes h.now table.items) }
 {
+    let rungs = rungs(alloc, h)?;
     let mut table = zeros(alloc, h.nodes() as usize)?;
-    look_at_corners(h, faces, &mut table);
+    look_at_corners(h, faces, &rungs, &mut table);
     Ok(table)
 }
