@@ -1,7 +1,7 @@
 -- The table of cosines while axes are gone through.
 use Rattle.std.proofs.Common.{◌≡◌, ℕ, ◌+◌, ◌<◌, ◌≤◌, max, List, [], ◌∷◌, ◌++◌, length, map, take}
 use Rattle.std.proofs.Common.{get_or, set, Option, None, length-set, inl, inr, sym, ap, ◌∙◌, subst}
-use Rattle.std.proofs.Common.{arith}
+use Rattle.std.proofs.Common.{arith, true, IfSome}
 use Rattle.std.proofs.lemmas.Grind.{common_steps}
 use Rattle.std.proofs.lemmas.Bool.{cases_eq}
 use Rattle.std.proofs.lemmas.List.{map-append, take_more, get_or-set_same, get_or-set_other}
@@ -11,7 +11,9 @@ use Rattle.pm_deviation.specs.declared.axes.Axis.{Axis}
 use Rattle.pm_deviation.specs.declared.axes.TheConstants.{AXES}
 use Rattle.pm_deviation.specs.declared.spread.Spread.{Spread}
 use Rattle.pm_deviation.specs.Normals.{cosine_by, greatest_cosine}
-use Rattle.pm_deviation.specs.Tables.{AreOfNodes}
+use Rattle.pm_deviation.specs.declared.heading.Heading.{Heading}
+use Rattle.pm_deviation.specs.Tables.{AreOfNodes, IsSum, AreHeadings, is_axis, spread_among}
+use Rattle.pm_deviation.proofs.AxisLaws.{among_small}
 use Rattle.pm_bounds.proofs.LeafLaws.{greatest-more}
 
 module _ (spread : Axis → ℕ → Option Spread) where
@@ -60,6 +62,28 @@ module _ (h : Hierarchy) (spread : Axis → ℕ → Option Spread) where
     nodes = was.len;
     each = λ v l. was.each v l ∙ ap (λ m. cosine_in spread m v) all;
   }
+
+  -- The same by a borrowed table.
+  pub raised_along : (n : ℕ) (u w : Axis) (old new : List ℕ) (s t : List (Option Spread)) → n < 13
+      → u ≡ get_or AXES n u → u ≡ w → t ≡ s → AreRaised h spread n old
+      → AreOfNodes h None (spread w) s → length new ≡ node_count h →
+      ((v : ℕ) → v < node_count h → get_or new v 0
+      ≡ max (get_or old v 0) (cosine_by u (get_or t v None)))
+      → AreRaised h spread (n + 1) new
+  raised_along n u w old new s t l is axis table was are len raised =
+      raised_more n u old new s l is was
+      (subst (λ (a : Axis). AreOfNodes h None (spread a) s) (sym axis) are) len
+      (subst (λ (ts : List (Option Spread)). (v : ℕ) → v < node_count h → get_or new v 0
+      ≡ max (get_or old v 0) (cosine_by u (get_or ts v None))) table raised)
+
+-- No spread of such a table is too great.
+pub along_small : (h : Hierarchy) (ds : List Heading) (u : Axis) (s t : List (Option Spread))
+    → AreHeadings h ds → is_axis u ≡ true → t ≡ s → AreOfNodes h None (spread_among h ds u) s
+    → (v : ℕ) → v < node_count h → IfSome (get_or t v None) IsSum
+along_small h ds u s t headings axis table are v l =
+    subst (λ (o : Option Spread). IfSome o IsSum)
+    (sym (ap (λ (ts : List (Option Spread)). get_or ts v None) table ∙ are.each v l))
+    (among_small h ds u v headings axis)
 
 -- One node's cosine raised.
 pub record AreRaisedTo (h : Hierarchy) (u : Axis) (spreads : List (Option Spread))

@@ -7,11 +7,13 @@ ghost use Rattle.pm_deviation.specs.declared.spread.Spread.{Spread};
 ghost use Rattle.pm_deviation.specs.Normals.{above_zero, length_of, least_cosine, cosine_by};
 ghost use Rattle.pm_deviation.specs.Normals.{greatest_cosine};
 ghost use Rattle.pm_deviation.specs.Tables.{IsSum, is_axis, AreHeadings, HaveSpreads, AreOfNodes};
+ghost use Rattle.pm_deviation.specs.Tables.{AreSpaceSpreads};
 
 use crate::OutOfMemory;
 use crate::axes::{AXES, Axis, axis_at};
 use crate::axis_spreads::axis_spreads;
 use crate::heading::Heading;
+use crate::space_spreads::SpaceSpreads;
 use crate::spread::Spread;
 use pm_forest::Hierarchy;
 use std::alloc::Global;
@@ -86,19 +88,26 @@ fn zeros(alloc: Global, nodes: usize) -> Result<Vec<u32>, OutOfMemory>
 }
 
 /// For each node the least cosine, in 16,384ths, of the axis that the headings under it go along
-/// most alike with them: 4 bytes a node, and 12 more while an axis is gone through.
+/// most alike with them: 4 bytes a node, and 12 more while an axis is gone through. The spreads
+/// along the axes of space, which are the first three, are there already.
 pub(crate) fn cosines(
     alloc: Global,
     h: &Hierarchy,
     headings: &[Heading],
+    space: &SpaceSpreads,
 ) -> Result<Vec<u32>, OutOfMemory>
-    requires { AreHeadings h.now headings.now }
+    requires are { AreHeadings h.now headings.now }
+    requires space { (spread : Axis → ℕ → Option Spread) → HaveSpreads h.now spread headings.now
+        → AreSpaceSpreads h.now spread space.now.x.items space.now.y.items space.now.z.items }
     ensures { IfOk result (λ table. (spread : Axis → ℕ → Option Spread)
         → HaveSpreads h.now spread headings.now
         → AreOfNodes h.now 0 (λ v. greatest_cosine (λ u. spread u v)) table.items) }
 {
     let mut cosines = zeros(alloc, h.nodes() as usize)?;
-    for i in 0..AXES.len() {
+    raise(h, &mut cosines, &space.x, axis_at(0));
+    raise(h, &mut cosines, &space.y, axis_at(1));
+    raise(h, &mut cosines, &space.z, axis_at(2));
+    for i in 3..AXES.len() {
         let axis = axis_at(i);
         let spreads = axis_spreads(alloc, h, headings, axis)?;
         raise(h, &mut cosines, &spreads, axis);

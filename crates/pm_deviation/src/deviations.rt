@@ -19,6 +19,7 @@ use crate::face_headings::face_headings;
 use crate::heading::Heading;
 use crate::lines::line_deviations;
 use crate::planes::plane_deviations;
+use crate::space_spreads::SpaceSpreads;
 use pm_base::NodeId;
 use pm_bounds::Bounds;
 use pm_forest::Hierarchy;
@@ -88,8 +89,9 @@ fn from_planes(alloc: Global, h: &Hierarchy) -> Result<Tilts, OutOfMemory>
     ensures cosines { IfOk result (λ t. AreOfNodes h.now 0 (cosine_of h.now) t.cosines.items) }
 {
     let headings = face_headings(alloc, h)?;
-    let cosines = cosines(alloc, h, &headings)?;
-    let distances = plane_deviations(alloc, h, &headings)?;
+    let spreads = SpaceSpreads::of(alloc, h, &headings)?;
+    let cosines = cosines(alloc, h, &headings, &spreads)?;
+    let distances = plane_deviations(alloc, h, &headings, &spreads)?;
     Ok(Tilts { distances, cosines })
 }
 
@@ -101,8 +103,9 @@ fn from_lines(alloc: Global, h: &Hierarchy, border: &[Heading]) -> Result<Tilts,
     ensures cosines { IfOk result (λ t. AreOfNodes h.now 0 (line_cosine_of h.now)
         t.cosines.items) }
 {
-    let cosines = cosines(alloc, h, border)?;
-    let distances = line_deviations(alloc, h, border)?;
+    let spreads = SpaceSpreads::of(alloc, h, border)?;
+    let cosines = cosines(alloc, h, border, &spreads)?;
+    let distances = line_deviations(alloc, h, &spreads)?;
     Ok(Tilts { distances, cosines })
 }
 

@@ -4,11 +4,10 @@ ghost use Rattle.std.specs.Prelude.{slice_index_or};
 ghost use Rattle.pm_forest.specs.Forest.{node_count, record_count};
 ghost use Rattle.pm_deviation.specs.Lines.{line_spread_of};
 ghost use Rattle.pm_deviation.specs.Deviations.{over_steps, line_step};
-ghost use Rattle.pm_deviation.specs.Tables.{AreHeadings, HaveSpreads, AreSpaceSpreads};
+ghost use Rattle.pm_deviation.specs.Tables.{AreSpaceSpreads};
 ghost use Rattle.pm_deviation.specs.Tables.{AreLineDeviations};
 
 use crate::OutOfMemory;
-use crate::heading::Heading;
 use crate::nodes::nodes_of;
 use crate::space_spreads::SpaceSpreads;
 use crate::steps::line_step;
@@ -51,18 +50,17 @@ fn grow(h: &Hierarchy, spreads: &SpaceSpreads, table: &mut Vec<u64>)
 }
 
 /// How far the place of each node may be from the lines of the border sides under it: 8 bytes a
-/// node, and 36 more while they are found.
+/// node.
 pub(crate) fn line_deviations(
     alloc: Global,
     h: &Hierarchy,
-    headings: &[Heading],
+    spreads: &SpaceSpreads,
 ) -> Result<Vec<u64>, OutOfMemory>
-    requires are { AreHeadings h.now headings.now }
-    requires spreads { HaveSpreads h.now (line_spread_of h.now) headings.now }
+    requires { AreSpaceSpreads h.now (line_spread_of h.now) spreads.now.x.items
+        spreads.now.y.items spreads.now.z.items }
     ensures { IfOk result (λ table. AreLineDeviations h.now table.items) }
 {
-    let spreads = SpaceSpreads::of(alloc, h, headings)?;
     let mut table = zeros(alloc, h.nodes() as usize)?;
-    grow(h, &spreads, &mut table);
+    grow(h, spreads, &mut table);
     Ok(table)
 }

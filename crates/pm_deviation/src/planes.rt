@@ -6,7 +6,7 @@ ghost use Rattle.pm_forest.specs.Faces.{face_count};
 ghost use Rattle.pm_deviation.specs.Normals.{spread_of};
 ghost use Rattle.pm_deviation.specs.Farthest.{AreFarthestPlanes};
 ghost use Rattle.pm_deviation.specs.Deviations.{over_planes};
-ghost use Rattle.pm_deviation.specs.Tables.{AreHeadings, HaveSpreads, AreSpaceSpreads};
+ghost use Rattle.pm_deviation.specs.Tables.{AreHeadings, AreSpaceSpreads};
 ghost use Rattle.pm_deviation.specs.Tables.{AreOfFaces, ArePlaneDeviations};
 
 use crate::OutOfMemory;
@@ -76,20 +76,21 @@ fn grow(h: &Hierarchy, spreads: &SpaceSpreads, farthest: &[u32], table: &mut Vec
 }
 
 /// How far the place of each node may be from the planes of the faces under it: 8 bytes a node,
-/// and 40 more while they are found.
+/// and 20 more while they are found.
 pub(crate) fn plane_deviations(
     alloc: Global,
     h: &Hierarchy,
     headings: &[Heading],
+    spreads: &SpaceSpreads,
 ) -> Result<Vec<u64>, OutOfMemory>
     requires are { AreHeadings h.now headings.now }
-    requires spreads { HaveSpreads h.now (spread_of h.now) headings.now }
+    requires spreads { AreSpaceSpreads h.now (spread_of h.now) spreads.now.x.items
+        spreads.now.y.items spreads.now.z.items }
     requires faces { AreOfFaces h.now (face_count h.now) headings.now }
     ensures { IfOk result (λ table. ArePlaneDeviations h.now table.items) }
 {
     let farthest = farthest_planes(alloc, h, headings)?;
-    let spreads = SpaceSpreads::of(alloc, h, headings)?;
     let mut table = zeros(alloc, h.nodes() as usize)?;
-    grow(h, &spreads, &farthest, &mut table);
+    grow(h, spreads, &farthest, &mut table);
     Ok(table)
 }

@@ -19,9 +19,9 @@ use std::alloc::Global;
 /// The spreads of all nodes along each axis, 36 bytes a node.
 #[derive(Drop)]
 pub struct SpaceSpreads {
-    x: Vec<Option<Spread>>,
-    y: Vec<Option<Spread>>,
-    z: Vec<Option<Spread>>,
+    pub(crate) x: Vec<Option<Spread>>,
+    pub(crate) y: Vec<Option<Spread>>,
+    pub(crate) z: Vec<Option<Spread>>,
 }
 
 impl SpaceSpreads {
