@@ -150,6 +150,10 @@ pub(crate) fn axis_spreads(
 {
     h.invariant();
     let mut table = missing(alloc, h.nodes() as usize)?;
+    // A closed surface has no border, and none of its nodes has a spread.
+    if headings.is_empty() {
+        return Ok(table);
+    }
     see(h, headings, axis, &mut table);
     grow(h, &mut table);
     Ok(table)
