@@ -13,6 +13,7 @@ class Node(NamedTuple):
     z: int = 0
     first: int = 0
     width: int = 0
+    input: int = 0
 
     def end(self) -> int:
         return min(self.first + self.width, GREATEST)

@@ -9,6 +9,7 @@ from .past import Seen, next_side
 
 SLOTS = 1 << 20
 NODE_BITS = 50
+OFF_GRID = 1024
 # By field of a coordinate its axis, and 0 for t and 1 for u.
 PLACES = {18: (0, 0), 19: (1, 0), 20: (2, 0), 22: (0, 1), 23: (1, 1), 24: (2, 1)}
 
@@ -26,7 +27,7 @@ class Words(Seen):
 
     def bit(self, set_: int, place: int, wanted: bool) -> bool:
         h = 0
-        if set_ == NODE_BITS and place > 511:
+        if (set_ == NODE_BITS or self.context >= OFF_GRID) and place > 511:
             below = place.bit_length() - 6
             place = (place >> below) + 64 * (below + 4)
         for n in (set_, self.context, place):
@@ -91,12 +92,13 @@ class Words(Seen):
 
     def place_kind(self) -> int:
         axis, child = PLACES[self.field]
-        if self.children()[child].width == 1 and self.grid.axes[axis].step:
+        is_grid = self.grid.axes[axis].step > 0
+        if is_grid and self.children()[child].width == 1:
             return 1
         s, r = self.last[16], self.last[4]
         other = self.node(s if s < r else s + 1 if (s - r) % 2 == 0 else s - 1)
         far = sum(abs(n) for n in way(self.split(), other))
-        return 16 + far.bit_length()
+        return (16 if is_grid else OFF_GRID) + far.bit_length()
 
     def corner_kind(self) -> int:
         own, other = self.own_and_other()
@@ -168,7 +170,13 @@ class Words(Seen):
             return 0
         if self.grid.known():
             return self.grid.input_of(child)
-        return min((w[21] if f == 21 or w[17] == 1 else w[25]) + 1, GREATEST)
+        before = w[21] if f == 25 and w[17] == 1 else self.beside(w[f])
+        return min(before + 1, GREATEST)
+
+    def beside(self, other: int) -> int:
+        """The input word of the first leaf round the split node, or another one."""
+        round_it = (self.node(spoke.node) for spoke in self.ring)
+        return next((node.input for node in round_it if node.width == 1), other)
 
     def face_guess(self, f: int) -> int:
         if f == 27:

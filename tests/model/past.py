@@ -59,8 +59,8 @@ class Seen:
 
     def children(self) -> Tuple[Node, Node]:
         w, s = self.last, self.split()
-        t = Node(w[18], w[19], w[20], s.first, w[17])
-        return t, Node(w[22], w[23], w[24], t.end(), max(s.width - w[17], 0))
+        t = Node(w[18], w[19], w[20], s.first, w[17], w[21])
+        return t, Node(w[22], w[23], w[24], t.end(), max(s.width - w[17], 0), w[25])
 
     def is_left(self) -> bool:
         return self.last[26] != 2 and self.inner == 0
@@ -141,7 +141,7 @@ class Seen:
 
     def end_root(self) -> None:
         w, before = self.last, self.node(len(self.nodes) - 1)
-        self.nodes.append(Node(w[7], w[8], w[9], before.end(), w[10]))
+        self.nodes.append(Node(w[7], w[8], w[9], before.end(), w[10], w[11]))
         self.starts.append(0)
 
     def end_base(self) -> None:

@@ -2,7 +2,7 @@
 use Rattle.std.proofs.Common.{◌≡◌, ◌≢◌, ◌⊎◌, ℕ, zero, suc, ◌+◌, ◌-◌, ◌<◌, ◌≤◌, List, [], ◌∷◌, ◌++◌}
 use Rattle.std.proofs.Common.{length}
 use Rattle.std.proofs.Common.{inl, inr, drop, get_or, refl, sym, ◌∙◌, ap, arith, append_assoc}
-use Rattle.std.proofs.Common.{true, false, if◌then◌else◌}
+use Rattle.std.proofs.Common.{true, false, if◌then◌else◌, ◌==◌}
 use Rattle.std.proofs.lemmas.Bool.Decides.{eqb_tells}
 use Rattle.std.proofs.lemmas.List.{append-nil}
 use Rattle.std.proofs.Math.ListN.{drop_of_length-le}
@@ -10,7 +10,8 @@ use Rattle.pm_pack.specs.declared.ring.Spoke.{Spoke}
 use Rattle.pm_pack.specs.declared.past.Node.{Node}
 use Rattle.pm_pack.specs.declared.plane.Way.{Way}
 use Rattle.pm_pack.specs.Pasts.{is_parting, edge_in}
-use Rattle.pm_pack.specs.Planes.{both, cross, way_along, normal_from}
+use Rattle.pm_pack.specs.Planes.{both, cross, way_along, normal_from, node_at}
+use Rattle.pm_pack.specs.Hints.{input_beside}
 use Rattle.pm_pack.specs.Rings.{Faces, spoke_at, turned, ring_from, owned, owner, shared}
 use Rattle.pm_pack.specs.Rings.{side_before, back_from}
 
@@ -200,3 +201,36 @@ pub normal-all : (nodes : List Node) (s : Node) (sum before all : Way) (ring : L
     (i : ℕ) → length ring ≤ i → normal_from nodes s sum before (drop i ring) ≡ all → sum ≡ all
 unfolding normal_from
 normal-all nodes s sum before all ring i done e = rw (drop_of_length-le ring done) at e
+
+-- One more side of a ring that leads to no leaf.
+pub beside-one : (nodes : List Node) (other : ℕ) (ring : List Spoke) (i : ℕ) (d : Spoke)
+    → i < length ring → input_beside nodes (drop i ring) other
+    ≡ (if (node_at nodes (get_or ring i d).node).width == 1
+    then (node_at nodes (get_or ring i d).node).input
+    else input_beside nodes (drop (suc i) ring) other)
+unfolding input_beside
+beside-one nodes other [] i d l = absurd (omega (arith, l))
+beside-one nodes other (s ∷ ring) zero d l = refl
+beside-one nodes other (s ∷ ring) (suc i) d l =
+    let less : i < length ring = omega (arith, l) in beside-one nodes other ring i d less
+
+pub beside-here : (nodes : List Node) (other all : ℕ) (ring : List Spoke) (i : ℕ) (d : Spoke)
+    (n : Node) → i < length ring → n ≡ node_at nodes (get_or ring i d).node
+    → n.width == 1 ≡ true → input_beside nodes (drop i ring) other ≡ all → n.input ≡ all
+beside-here nodes other all ring i d n l is yes' e =
+    let leaf : (node_at nodes (get_or ring i d).node).width == 1 ≡ true = rw (sym is) yes' in
+    let one = beside-one nodes other ring i d l in rw is (sym (rw leaf at one) ∙ e)
+
+pub beside-more : (nodes : List Node) (other all : ℕ) (ring : List Spoke) (i : ℕ) (d : Spoke)
+    (n : Node) → i < length ring → n ≡ node_at nodes (get_or ring i d).node
+    → n.width == 1 ≡ false → input_beside nodes (drop i ring) other ≡ all
+    → input_beside nodes (drop (i + 1) ring) other ≡ all
+beside-more nodes other all ring i d n l is no' e =
+    let wide : (node_at nodes (get_or ring i d).node).width == 1 ≡ false = rw (sym is) no' in
+    let next : i + 1 ≡ suc i = omega arith in
+    let one = beside-one nodes other ring i d l in rw next (sym (rw wide at one) ∙ e)
+
+pub beside-none : (nodes : List Node) (other all : ℕ) (ring : List Spoke) (i : ℕ)
+    → length ring ≤ i → input_beside nodes (drop i ring) other ≡ all → other ≡ all
+unfolding input_beside
+beside-none nodes other all ring i done e = rw (drop_of_length-le ring done) at e

@@ -1,6 +1,7 @@
 -- The table of slots, one for all questions that have one hash.
 use Rattle.std.specs.Prelude.{ℕ, ◌+◌, ◌*◌, ◌/◌, ◌%◌, Bool, List, [], ◌∷◌, length, replicate}
-use Rattle.std.specs.Prelude.{get_or, slice_set, ◌-◌, ◌^◌, ◌==◌, ◌&&◌, nat_lt, if◌then◌else◌}
+use Rattle.std.specs.Prelude.{get_or, slice_set, ◌-◌, ◌^◌, ◌==◌, ◌&&◌, ◌||◌, nat_lt, nat_le}
+use Rattle.std.specs.Prelude.{if◌then◌else◌}
 use Rattle.std.specs.Int.Count.{count_leading_zeros}
 use Rattle.pm_coder.specs.Questions.{Question}
 use Rattle.pm_coder.specs.Slots.{slot_share, slot_learned}
@@ -21,14 +22,18 @@ rough place =
     (place / 2 ^ (26 - count_leading_zeros 32 place)
     + 64 * (26 - count_leading_zeros 32 place + 4)) % 4294967296
 
--- Bits of the number of a split node are alike after the first three of them.
-unfoldable pub hashed_place : ℕ → ℕ → ℕ
-hashed_place set place = if set == 50 && nat_lt 511 place then rough place else place
+-- Bits of the number of a split node, and of a coordinate off a grid, whose kinds are 1,024 and
+-- above, are alike after the first three of them.
+unfoldable pub hashed_place : ℕ → ℕ → ℕ → ℕ
+hashed_place set context place =
+    if (set == 50 || nat_le 1024 context) && nat_lt 511 place then rough place else place
 
 -- The slot of a question in a table of so many.
 unfoldable pub slot_of : ℕ → Question → ℕ
 slot_of size q =
-    mixed (mixed (mixed 0 q.set) (first_context q.contexts)) (hashed_place q.set q.place) % size
+    mixed (mixed (mixed 0 q.set) (first_context q.contexts))
+    (hashed_place q.set (first_context q.contexts) q.place)
+    % size
 
 -- A table whose slots have learnt nothing.
 unfoldable pub fresh_slots : ℕ → List ℕ

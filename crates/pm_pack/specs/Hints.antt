@@ -2,17 +2,30 @@
 use Rattle.std.specs.Prelude.{ℕ, ◌+◌, ◌-◌, ◌*◌, ◌==◌, not, nat_lt, min}
 use Rattle.std.specs.Prelude.{if◌then◌else◌, List, [], ◌∷◌, length}
 use Rattle.pm_pack.specs.declared.past.Node.{Node}
+use Rattle.pm_pack.specs.declared.ring.Spoke.{Spoke}
 use Rattle.pm_pack.specs.declared.word.Guess.{Guess}
 use Rattle.pm_pack.specs.Guesses.{ahead, moved_ahead}
 use Rattle.pm_pack.specs.Grids.{capped, near, input_by, is_grid}
-use Rattle.pm_pack.specs.Planes.{node, way_to, normal, level}
+use Rattle.pm_pack.specs.Planes.{node, node_at, way_to, normal, level}
 use Rattle.pm_pack.specs.Rings.{next_side, input_at}
 use Rattle.pm_pack.specs.Pasts.{Seen, word_at, split_node, has_leaf, first_child, second_child}
 use Rattle.pm_pack.specs.Pasts.{own_child, other_child, beyond, corner_at, edge}
 use Rattle.pm_pack.specs.Kinds.{context_of}
 
+-- The input word of the first leaf to which the sides of a ring lead, and another word where none
+-- does.
+unfoldable pub input_beside : List Node → List Spoke → ℕ → ℕ
+input_beside nodes [] other = other
+input_beside nodes (s ∷ ring) other =
+    if (node_at nodes s.node).width == 1 then (node_at nodes s.node).input
+    else input_beside nodes ring other
+
+-- That of a leaf beside the split node, and the last word of a field where none is.
+abbrev pub beside : Seen → ℕ → ℕ
+beside seen field = input_beside seen.nodes seen.ring (word_at seen field)
+
 -- An input word: 0 for a node of more than one leaf, else by the grid, and where there is none the
--- one after the last of its kind.
+-- one after that of a leaf beside it.
 unfoldable pub input_guess : Seen → Node → ℕ → ℕ
 input_guess seen n last =
     if not (n.width == 1) then 0 else
@@ -27,7 +40,7 @@ mirrored over from = moved_ahead over (ahead from over)
 unfoldable pub leveled : Seen → ℕ → ℕ → ℕ → ℕ
 leveled seen x y other =
     level (normal seen.nodes (split_node seen) seen.ring) (split_node seen)
-    (way_to (split_node seen) (node x y 0 0 0)) other
+    (way_to (split_node seen) (node x y 0 0 0 0)) other
 
 -- The words that are guessed last: of a root, of the head of a record, and of a new face.
 unfoldable pub root_guess : Seen → ℕ → ℕ
@@ -44,11 +57,11 @@ first_guess seen field =
     if field == 20
     then near seen.grid.z (word_at seen 17)
     (leveled seen (word_at seen 18) (word_at seen 19) (split_node seen).z)
-    else input_guess seen (first_child seen) (word_at seen 21)
+    else input_guess seen (first_child seen) (beside seen 21)
 
 -- The input word that u's follows: that of t where t has one leaf.
 abbrev pub last_input : Seen → ℕ
-last_input seen = if word_at seen 17 == 1 then word_at seen 21 else word_at seen 25
+last_input seen = if word_at seen 17 == 1 then word_at seen 21 else beside seen 25
 
 -- The mirrored coordinates of t.
 abbrev pub mirrored_x : Seen → ℕ

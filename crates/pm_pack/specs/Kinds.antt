@@ -36,9 +36,11 @@ reach seen =
     32 - count_leading_zeros 32
     (distance (split_node seen) (node_at seen.nodes (sibling seen (word_at seen 16))))
 
--- The kind of a coordinate: on the grid, or by how far nodes are from each other here.
+-- The kind of a coordinate: a leaf's on a grid, or by how far nodes are from each other here, which
+-- is above 1,023 off a grid.
 unfoldable pub place_kind : Seen → Axis → ℕ → ℕ
-place_kind seen a width = if width == 1 && not (a.step == 0) then 1 else 16 + reach seen
+place_kind seen a width =
+    if a.step == 0 then 1024 + reach seen else if width == 1 then 1 else 16 + reach seen
 
 unfoldable pub coordinate_kind : Seen → ℕ → ℕ
 coordinate_kind seen field =

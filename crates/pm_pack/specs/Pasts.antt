@@ -38,17 +38,17 @@ end_of n = capped (n.first + n.width)
 abbrev pub root_made : Seen → Node
 root_made seen =
     node (word_at seen 7) (word_at seen 8) (word_at seen 9)
-    (end_of (node_at seen.nodes (length seen.nodes - 1))) (word_at seen 10)
+    (end_of (node_at seen.nodes (length seen.nodes - 1))) (word_at seen 10) (word_at seen 11)
 
 abbrev pub first_child : Seen → Node
 first_child seen =
     node (word_at seen 18) (word_at seen 19) (word_at seen 20) (split_node seen).first
-    (word_at seen 17)
+    (word_at seen 17) (word_at seen 21)
 
 abbrev pub second_child : Seen → Node
 second_child seen =
     node (word_at seen 22) (word_at seen 23) (word_at seen 24) (end_of (first_child seen))
-    ((split_node seen).width - word_at seen 17)
+    ((split_node seen).width - word_at seen 17) (word_at seen 25)
 
 -- A node has this leaf.
 abbrev pub has_leaf : Node → ℕ → Bool

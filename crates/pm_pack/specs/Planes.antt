@@ -36,12 +36,13 @@ cross a b =
     way (minus (times a.y b.z) (times a.z b.y)) (minus (times a.z b.x) (times a.x b.z))
     (minus (times a.x b.y) (times a.y b.x))
 
--- A node at a place, with its first leaf and how many it has.
-abbrev pub node : ℕ → ℕ → ℕ → ℕ → ℕ → Node
-node x y z first width = record { x = x; y = y; z = z; first = first; width = width }
+-- A node at a place, with its first leaf, how many it has, and the input word of a leaf.
+abbrev pub node : ℕ → ℕ → ℕ → ℕ → ℕ → ℕ → Node
+node x y z first width input =
+    record { x = x; y = y; z = z; first = first; width = width; input = input }
 
 abbrev pub node_at : List Node → ℕ → Node
-node_at nodes i = get_or nodes i (node 0 0 0 0 0)
+node_at nodes i = get_or nodes i (node 0 0 0 0 0 0)
 
 -- The way from a node to that to which a side of its ring leads.
 abbrev pub way_along : List Node → Node → Spoke → Way

@@ -24,7 +24,7 @@ use std::marker::Model;
 // How many fields there are.
 const FIELDS: usize = 33;
 
-/// The place of a node as words, its first leaf, and how many it has.
+/// The place of a node as words, its first leaf, how many it has, and the input word of a leaf.
 #[derive(Clone, Copy)]
 pub(crate) struct Node {
     pub(crate) x: u32,
@@ -32,6 +32,7 @@ pub(crate) struct Node {
     pub(crate) z: u32,
     pub(crate) first: u32,
     pub(crate) width: u32,
+    pub(crate) input: u32,
 }
 
 const NO_NODE: Node = Node {
@@ -40,6 +41,7 @@ const NO_NODE: Node = Node {
     z: 0,
     first: 0,
     width: 0,
+    input: 0,
 };
 
 impl Node {
@@ -167,6 +169,7 @@ impl Past {
             z: self.word(9),
             first: last.end(),
             width: self.word(10),
+            input: self.word(11),
         }
     }
 
@@ -179,6 +182,7 @@ impl Past {
             z: self.word(20),
             first: self.split_node().first,
             width: self.word(17),
+            input: self.word(21),
         }
     }
 
@@ -191,6 +195,7 @@ impl Past {
             z: self.word(24),
             first: self.first_child().end(),
             width: self.second_width(),
+            input: self.word(25),
         }
     }
 

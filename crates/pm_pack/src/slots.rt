@@ -9,8 +9,10 @@ use pm_coder::{NEW_SLOT, Predictor, slot_learned, slot_share};
 use std::alloc::Global;
 use std::marker::Model;
 
-// The set of the bits of a split node's number.
+// The set of the bits of a split node's number, and the first kind of coordinates off a grid.
 const NODE_BITS: u32 = 50;
+
+const OFF_GRID: u32 = 1024;
 
 /// Two questions may have one slot; that costs bits and nothing else.
 #[derive(Drop)]
@@ -66,9 +68,10 @@ fn slot_of(size: usize, set: u32, contexts: &[u32], place: u32) -> usize
     ensures slot { result ≡ slot_of size (question set contexts.now place) }
     ensures within { result < size }
 {
+    let context = first_context(contexts);
     let hash = mixed(
-        mixed(mixed(0, set), first_context(contexts)),
-        hashed_place(set, place),
+        mixed(mixed(0, set), context),
+        hashed_place(set, context, place),
     );
     hash as usize % size
 }
@@ -82,12 +85,13 @@ fn rough(place: u32) -> u32
     (place >> below).wrapping_add(64 * (below + 4))
 }
 
-// Bits of the number of a split node are alike after the first three of them.
+// Bits of the number of a split node, and of a coordinate off a grid, are alike after the first
+// three of them.
 #[tactic(auto, unfolding(crate::specs::Hashes::hashed_place))]
-fn hashed_place(set: u32, place: u32) -> u32
-    ensures { result ≡ hashed_place set place }
+fn hashed_place(set: u32, context: u32, place: u32) -> u32
+    ensures { result ≡ hashed_place set context place }
 {
-    if set == NODE_BITS && place > 511 {
+    if (set == NODE_BITS || context >= OFF_GRID) && place > 511 {
         rough(place)
     } else {
         place

@@ -130,7 +130,7 @@ fn with_head(alloc: Global, code: &[u8]) -> Result<Vec<u8>, OutOfMemory>
 
 /// The packed text of a stream text. `OutOfMemory` apart, it refuses exactly the bytes that are
 /// none, with their first fault. It makes at most 67 choices a word. Beside the packed text it
-/// takes 4 MB, 24 bytes for each node and 40 for each face.
+/// takes 4 MB, 28 bytes for each node and 40 for each face.
 pub fn pack(alloc: Global, text: &[u8]) -> Result<Vec<u8>, PackFail>
     ensures ok { IfOk result (λ packed. IsPacked packed.items text.now) }
     ensures fail { IfErr result (λ e. IsPackFail text.now e) }

@@ -3,10 +3,12 @@ ghost use Rattle.std.specs.Prelude.{◌≡◌};
 ghost use Rattle.pm_pack.specs.Hints.{input_guess, mirrored, leveled, root_guess, first_guess};
 ghost use Rattle.pm_pack.specs.Hints.{last_input, second_guess, corner_guess, face_guess};
 ghost use Rattle.pm_pack.specs.Hints.{word_guess, mirrored_x, mirrored_y, mirrored_z};
+ghost use Rattle.pm_pack.specs.Hints.{input_beside, beside};
 ghost use Rattle.pm_pack.specs.Planes.{node};
 
-use super::{Node, Past};
+use super::{Node, Past, node_at};
 use crate::plane::{normal, way_to};
+use crate::ring::Spoke;
 use crate::word::{ahead, moved_ahead};
 
 impl Past {
@@ -56,7 +58,7 @@ impl Past {
             let level = self.leveled(self.word(18), self.word(19), split.z);
             self.grid.z.near(self.word(17), level)
         } else {
-            self.input_guess(self.first_child(), self.word(21))
+            self.input_guess(self.first_child(), self.beside(21))
         }
     }
 
@@ -148,12 +150,19 @@ impl Past {
         if self.word(17) == 1 {
             self.word(21)
         } else {
-            self.word(25)
+            self.beside(25)
         }
     }
 
+    // The input word of a leaf beside the split node, and the last word of a field where none is.
+    fn beside(&self, field: u32) -> u32
+        ensures { result ≡ beside self.now field }
+    {
+        input_beside(&self.nodes, self.ring.as_slice(), self.word(field))
+    }
+
     // An input word: 0 for a node of more than one leaf, else by the grid, and where there is none
-    // the one after the last of its kind.
+    // the one after that of a leaf beside it.
     #[tactic(auto, unfolding(crate::specs::Hints::input_guess))]
     fn input_guess(&self, node: Node, last: u32) -> u32
         ensures { result ≡ input_guess self.now node last }
@@ -170,7 +179,7 @@ impl Past {
 
 // A node at these coordinates.
 fn at_place(x: u32, y: u32) -> Node
-    ensures { result ≡ node x y 0 0 0 }
+    ensures { result ≡ node x y 0 0 0 0 }
 {
     Node {
         x,
@@ -178,6 +187,7 @@ fn at_place(x: u32, y: u32) -> Node
         z: 0,
         first: 0,
         width: 0,
+        input: 0,
     }
 }
 
@@ -185,4 +195,18 @@ fn mirrored(over: u32, from: u32) -> u32
     ensures { result ≡ mirrored over from }
 {
     moved_ahead(over, ahead(from, over))
+}
+
+// The input word of the first leaf to which the sides of a ring lead, and another word where none
+// does.
+fn input_beside(nodes: &[Node], ring: &[Spoke], other: u32) -> u32
+    ensures { result ≡ input_beside nodes.now ring.now other }
+{
+    for spoke in ring {
+        let node = node_at(nodes, spoke.node as usize);
+        if node.is_leaf() {
+            return node.input;
+        }
+    }
+    other
 }

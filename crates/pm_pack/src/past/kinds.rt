@@ -48,12 +48,14 @@ impl Past {
         }
     }
 
-    // On the grid, or by how far nodes are from each other here.
+    // A leaf's on a grid, or by how far nodes are from each other here: off a grid above 1,023.
     #[tactic(auto, unfolding(crate::specs::Kinds::place_kind))]
     fn place_kind(&self, axis: Axis, width: u32) -> u32
         ensures { result ≡ place_kind self.now axis width }
     {
-        if width == 1 && axis.is_grid() {
+        if !axis.is_grid() {
+            1024 + self.reach()
+        } else if width == 1 {
             1
         } else {
             16 + self.reach()
