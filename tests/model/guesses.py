@@ -88,17 +88,14 @@ class Words(Seen):
             return self.place_kind()
         if 26 < f < 31:
             return self.corner_kind() if f < 30 else self.face_kind()
-        return 0 if f < 17 else 16 * width_class(self.split().width) + width_class(self.last[17])
+        width = width_class(self.split().width)
+        return 0 if f < 17 else width if f == 17 else 16 * width + width_class(self.last[17])
 
     def place_kind(self) -> int:
         axis, child = PLACES[self.field]
-        is_grid = self.grid.axes[axis].step > 0
-        if is_grid and self.children()[child].width == 1:
-            return 1
-        s, r = self.last[16], self.last[4]
-        other = self.node(s if s < r else s + 1 if (s - r) % 2 == 0 else s - 1)
-        far = sum(abs(n) for n in way(self.split(), other))
-        return (16 if is_grid else OFF_GRID) + far.bit_length()
+        if not self.grid.axes[axis].step:
+            return OFF_GRID
+        return 1 if self.children()[child].width == 1 else 2
 
     def corner_kind(self) -> int:
         own, other = self.own_and_other()

@@ -1,11 +1,7 @@
 -- Of what kind the next word is, by the words before it.
-use Rattle.std.specs.Prelude.{ℕ, ◌+◌, ◌-◌, ◌*◌, ◌%◌, ◌==◌, ◌&&◌, ◌||◌, not, nat_lt, min, max}
+use Rattle.std.specs.Prelude.{ℕ, ◌+◌, ◌*◌, ◌%◌, ◌==◌, ◌&&◌, ◌||◌, not, nat_lt, min, max}
 use Rattle.std.specs.Prelude.{Bool, if◌then◌else◌}
-use Rattle.std.specs.Int.Count.{count_leading_zeros}
 use Rattle.pm_pack.specs.declared.grid.Axis.{Axis}
-use Rattle.pm_pack.specs.declared.past.Node.{Node}
-use Rattle.pm_pack.specs.Grids.{capped, apart, place_of}
-use Rattle.pm_pack.specs.Planes.{node_at}
 use Rattle.pm_pack.specs.Rings.{input_at}
 use Rattle.pm_pack.specs.Pasts.{Seen, word_at, split_node, has_leaf, first_child, second_child}
 use Rattle.pm_pack.specs.Pasts.{own_child, other_child, beyond, edge}
@@ -18,38 +14,18 @@ width_class width =
     if nat_lt width 256 then 9 else
     if nat_lt width 4096 then 10 else 11
 
--- The node that the same record made, a root itself.
-unfoldable pub sibling : Seen → ℕ → ℕ
-sibling seen n =
-    if nat_lt n (word_at seen 4) then n else
-    if (n - word_at seen 4) % 2 == 0 then capped (n + 1) else n - 1
-
--- How far two nodes are from each other along the axes.
-unfoldable pub distance : Node → Node → ℕ
-distance a b =
-    apart (place_of a.x) (place_of b.x) + apart (place_of a.y) (place_of b.y)
-    + apart (place_of a.z) (place_of b.z)
-
--- How many bits the number of that has for the split node and its sibling.
-unfoldable pub reach : Seen → ℕ
-reach seen =
-    32 - count_leading_zeros 32
-    (distance (split_node seen) (node_at seen.nodes (sibling seen (word_at seen 16))))
-
--- The kind of a coordinate: a leaf's on a grid, or by how far nodes are from each other here, which
--- is above 1,023 off a grid.
-unfoldable pub place_kind : Seen → Axis → ℕ → ℕ
-place_kind seen a width =
-    if a.step == 0 then 1024 + reach seen else if width == 1 then 1 else 16 + reach seen
+-- The kind of a coordinate: of a leaf on a grid, of another node there, and off a grid.
+abbrev pub place_kind : Axis → ℕ → ℕ
+place_kind a width = if a.step == 0 then 1024 else if width == 1 then 1 else 2
 
 unfoldable pub coordinate_kind : Seen → ℕ → ℕ
 coordinate_kind seen field =
-    if field == 18 then place_kind seen seen.grid.x (word_at seen 17) else
-    if field == 19 then place_kind seen seen.grid.y (word_at seen 17) else
-    if field == 20 then place_kind seen seen.grid.z (word_at seen 17) else
-    if field == 22 then place_kind seen seen.grid.x (second_child seen).width else
-    if field == 23 then place_kind seen seen.grid.y (second_child seen).width else
-    place_kind seen seen.grid.z (second_child seen).width
+    if field == 18 then place_kind seen.grid.x (word_at seen 17) else
+    if field == 19 then place_kind seen.grid.y (word_at seen 17) else
+    if field == 20 then place_kind seen.grid.z (word_at seen 17) else
+    if field == 22 then place_kind seen.grid.x (second_child seen).width else
+    if field == 23 then place_kind seen.grid.y (second_child seen).width else
+    place_kind seen.grid.z (second_child seen).width
 
 -- The kind of a corner: how many leaves the children have, and how the faces on the edge are
 -- turned.
@@ -81,11 +57,12 @@ face_kind seen =
     4 * (36 * outer_place seen + 6 * turn seen (edge seen) + turn seen (beyond seen (edge seen)))
     + min (most_leaves seen) 3
 
--- The kind of the next word: how many leaves the split node has, and its first child, roughly, but
--- for coordinates, corners and input words of faces.
+-- The kind of the next word: how many leaves the split node has, roughly, and its first child where
+-- that is known, but for coordinates, corners and input words of faces.
 unfoldable pub context_of : Seen → ℕ
 context_of seen =
     if nat_lt seen.spot.field 17 then 0 else
+    if seen.spot.field == 17 then width_class (split_node seen).width else
     if nat_lt 17 seen.spot.field && nat_lt seen.spot.field 21
     then coordinate_kind seen seen.spot.field else
     if nat_lt 21 seen.spot.field && nat_lt seen.spot.field 25

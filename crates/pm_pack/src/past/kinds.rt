@@ -1,12 +1,11 @@
 //! Of what kind the next word is.
-ghost use Rattle.std.specs.Prelude.{◌≡◌, ◌≤◌, ◌-◌};
-ghost use Rattle.std.specs.Int.Count.{count_leading_zeros};
-ghost use Rattle.pm_pack.specs.Kinds.{width_class, sibling, distance, reach, place_kind};
+ghost use Rattle.std.specs.Prelude.{◌≡◌, ◌≤◌};
+ghost use Rattle.pm_pack.specs.Kinds.{width_class, place_kind};
 ghost use Rattle.pm_pack.specs.Kinds.{coordinate_kind, corner_kind, is_outer, outer_place, turn};
 ghost use Rattle.pm_pack.specs.Kinds.{most_leaves, face_kind, context_of};
 
-use super::{Node, Past, node_at};
-use crate::grid::{Axis, place_of};
+use super::Past;
+use crate::grid::Axis;
 
 impl Past {
     /// The kind of the next word.
@@ -17,6 +16,8 @@ impl Past {
         let field = self.spot.field;
         if field < 17 {
             0
+        } else if field == 17 {
+            width_class(self.split_node().width)
         } else if field > 17 && field < 21 || field > 21 && field < 25 {
             self.coordinate_kind(field)
         } else if field > 26 && field < 30 {
@@ -34,56 +35,17 @@ impl Past {
     {
         let (first, second) = (self.word(17), self.second_child().width);
         if field == 18 {
-            self.place_kind(self.grid.x, first)
+            place_kind(self.grid.x, first)
         } else if field == 19 {
-            self.place_kind(self.grid.y, first)
+            place_kind(self.grid.y, first)
         } else if field == 20 {
-            self.place_kind(self.grid.z, first)
+            place_kind(self.grid.z, first)
         } else if field == 22 {
-            self.place_kind(self.grid.x, second)
+            place_kind(self.grid.x, second)
         } else if field == 23 {
-            self.place_kind(self.grid.y, second)
+            place_kind(self.grid.y, second)
         } else {
-            self.place_kind(self.grid.z, second)
-        }
-    }
-
-    // A leaf's on a grid, or by how far nodes are from each other here: off a grid above 1,023.
-    #[tactic(auto, unfolding(crate::specs::Kinds::place_kind))]
-    fn place_kind(&self, axis: Axis, width: u32) -> u32
-        ensures { result ≡ place_kind self.now axis width }
-    {
-        if !axis.is_grid() {
-            1024 + self.reach()
-        } else if width == 1 {
-            1
-        } else {
-            16 + self.reach()
-        }
-    }
-
-    // How many bits the distance of the split node and its sibling has.
-    #[tactic(auto, unfolding(crate::specs::Kinds::reach))]
-    fn reach(&self) -> u32
-        ensures value { result ≡ reach self.now }
-        ensures most { result ≤ 32 }
-    {
-        let sibling = node_at(&self.nodes, self.sibling(self.word(16)) as usize);
-        bits(distance(self.split_node(), sibling))
-    }
-
-    // The node that the same record made, a root itself.
-    #[tactic(auto, unfolding(crate::specs::Kinds::sibling))]
-    fn sibling(&self, n: u32) -> u32
-        ensures { result ≡ sibling self.now n }
-    {
-        let roots = self.word(4);
-        if n < roots {
-            n
-        } else if (n - roots) % 2 == 0 {
-            n.saturating_add(1)
-        } else {
-            n.saturating_sub(1)
+            place_kind(self.grid.z, second)
         }
     }
 
@@ -146,22 +108,17 @@ impl Past {
     }
 }
 
-// How far two nodes are from each other along the axes.
-#[tactic(auto, unfolding(crate::specs::Kinds::distance))]
-fn distance(a: Node, b: Node) -> u32
-    ensures { result ≡ distance a b }
+// Of a leaf on a grid, of another node there, and off a grid.
+fn place_kind(axis: Axis, width: u32) -> u32
+    ensures { result ≡ place_kind axis width }
 {
-    let along_x = place_of(a.x).abs_diff(place_of(b.x));
-    let along_y = place_of(a.y).abs_diff(place_of(b.y));
-    let along_z = place_of(a.z).abs_diff(place_of(b.z));
-    along_x + along_y + along_z
-}
-
-fn bits(n: u32) -> u32
-    ensures value { result ≡ 32 - count_leading_zeros 32 n }
-    ensures most { result ≤ 32 }
-{
-    u32::BITS - n.leading_zeros()
+    if !axis.is_grid() {
+        1024
+    } else if width == 1 {
+        1
+    } else {
+        2
+    }
 }
 
 // How many leaves, roughly.
