@@ -1,0 +1,4 @@
+pub mod Buffers
+pub mod Changes
+pub mod Tables
+pub mod Laws
