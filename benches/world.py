@@ -141,8 +141,8 @@ def shown(vdpm: Path, world: World, children: List[Child], tolerance: int) -> Tu
 
 
 def compare(vdpm: Path, whole: World, tiles: World) -> None:
-    one = [read_child(whole, tile.name) for tile in whole.level(0)]
-    many = [read_child(tiles, tile.name) for tile in tiles.level(0)]
+    one = [read_child(vdpm, whole, tile.name) for tile in whole.level(0)]
+    many = [read_child(vdpm, tiles, tile.name) for tile in tiles.level(0)]
     print("| tolerance | one mesh: faces / rms / bare | tiles: faces / rms / bare | tiles to one |")
     print("|---|---|---|---|")
     for tolerance in TOLERANCES:

@@ -12,8 +12,8 @@ from pathlib import Path
 
 TOOLS = Path(__file__).resolve().parent
 SUBJECTS = (
-    "reading", "cutting", "whole", "memory", "building", "tiles", "others", "meeting", "hostile",
-    "commands",
+    "reading", "cutting", "whole", "memory", "building", "packing", "tiles", "others", "meeting",
+    "hostile", "commands",
 )  # fmt: skip
 
 

@@ -2,7 +2,7 @@
 """Cuts a large mesh into tiles that meet without a crack (docs/WORLDS.md).
 
     world.py cut INPUT WORLD [--faces N] [--unit U] [--spacing S] [--rise H]
-    world.py build WORLD [--faces N] [--jobs J] [--program PATH]
+    world.py build WORLD [--faces N] [--jobs J] [--packed | --plain] [--program PATH]
     world.py list WORLD LEVEL            prints the paths of a level's tiles, without ending
     world.py parent WORLD NAME [--faces N] [--program PATH]
     world.py check WORLD [--jobs J] [--program PATH]
@@ -10,13 +10,15 @@
 
 INPUT is a height field (an ESRI ASCII grid `.asc`, a binary PGM `.pgm`; a GeoTIFF, an .hgt and the
 like where GDAL is installed) or a mesh (OBJ, PLY, STL); WORLD is a folder, or its world.json.
-`build` makes the streams by `./simplify --keep-border`, and the parents. Both go on where they were
-stopped. Needs nothing but Python 3.8.
+`build` makes the streams by `./simplify --keep-border`, and the parents; with --packed `./pack`
+packs each, until --plain is asked for. Cutting and building go on where they were stopped. Needs
+nothing but Python 3.8.
 
 Ends with status 1 where an input has a fault or the tiles don't meet, and says which.
 """
 import argparse
 import sys
+from dataclasses import replace
 from math import inf
 from pathlib import Path
 from typing import List, Optional
@@ -24,7 +26,7 @@ from typing import List, Optional
 from viewer.main import programs_of
 from worlds.building import Build, build_world
 from worlds.checking import check_world
-from worlds.form import World, WorldFault, read_world
+from worlds.form import World, WorldFault, read_world, write_world
 from worlds.making import Asked, make_world
 from worlds.parents import make_parent
 from worlds.progress import Work
@@ -63,6 +65,9 @@ def arguments(words: Optional[List[str]] = None) -> argparse.Namespace:
     cut.add_argument("--rise", type=positive, default=1.0, help="of a step of grey of a .pgm")
     build = verbs.add_parser("build", help="make the streams of all tiles and parents")
     build.add_argument("world", type=Path)
+    form = build.add_mutually_exclusive_group()
+    form.add_argument("--packed", action="store_true", default=None, help="pack the streams")
+    form.add_argument("--plain", action="store_false", dest="packed", help="unpack them again")
     listed = verbs.add_parser("list", help="print the paths of a level's tiles")
     listed.add_argument("world", type=Path)
     listed.add_argument("level", type=int)
@@ -99,6 +104,9 @@ def told(world: World) -> str:
 
 def built(asked: argparse.Namespace, world: World) -> int:
     programs = programs_of(asked.program)
+    if asked.packed is not None and asked.packed != world.packed:
+        world = replace(world, packed=asked.packed)
+        write_world(world)
     with Work(say) as work:
         jobs = Build(world, programs.simplify, programs.vdpm, asked.faces, asked.jobs, work)
         return build_world(jobs)

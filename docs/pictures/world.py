@@ -68,7 +68,7 @@ def main() -> None:
         world = built(Path(room), simplify)
         frames = []
         for tile in world.level(0):
-            front = read_child(world, tile.name).front(TOLERANCES[tile.name])
+            front = read_child(Path(vdpm), world, tile.name).front(TOLERANCES[tile.name])
             script = "".join(f"s {record}\n" for record in sorted(front)) + "w\n"
             frames.append(frame_of(Path(vdpm), world, tile, script))
             print(f"{tile.name}: {len(frames[-1].faces)} faces of {tile.faces}")

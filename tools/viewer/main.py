@@ -33,7 +33,7 @@ from .film import BadFlight, film_page
 from .library import NOT_BUILT, TO_BUILD, built_library
 from .model import Model, Programs, is_built, model_of, tell, with_packed_stream
 from .module import NoModule, module_of
-from .program import ALL_MOVES, ProgramEnded
+from .program import ALL_MOVES, ProgramEnded, beside
 from .server import Server, is_budget
 from .seat import Seat
 from .showing import Showing
@@ -80,11 +80,8 @@ def arguments(words: Optional[List[str]] = None) -> argparse.Namespace:
 def programs_of(vdpm: Path) -> Programs:
     """vdpm, and the other programs beside it or else at the top of the repository."""
 
-    def found(name: str) -> Path:
-        beside = vdpm.resolve().parent / name
-        return beside if beside.is_file() else TOP / name
-
-    return Programs(vdpm.resolve(), found("prepare"), found("simplify"), found("pack"))
+    others = [beside(vdpm, name) for name in ("prepare", "simplify", "pack")]
+    return Programs(vdpm.resolve(), *others)
 
 
 def found(asked: argparse.Namespace) -> Model:

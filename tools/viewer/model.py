@@ -169,18 +169,23 @@ def is_built(text: bytes) -> bool:
     return text.startswith((MAGIC, PACKED))
 
 
+def unpacked(text: bytes, pack: Path) -> Done:
+    """The stream text of a stream, packed or not."""
+    if not text.startswith(PACKED):
+        return Done(0, text, [], True)
+    return needed(run(pack, ["--unpack"], text, "unpacking"), manual.PACK)
+
+
 def model_of(path: Path, programs: Programs) -> Model:
     """The model of a file; ProgramEnded where it can't be had, and OSError where it can't be
     read."""
     text = path.read_bytes()
     if not is_built(text):
         return _built(path.name, text_at(path), text, programs)
-    unpacked = Done(0, text, [], True)
-    if text.startswith(PACKED):
-        unpacked = needed(run(programs.pack, ["--unpack"], text, "unpacking"), manual.PACK)
-    checked = needed(run(programs.vdpm, ["check"], unpacked.out, "checking"), manual.STREAM)
+    stream = unpacked(text, programs.pack)
+    checked = needed(run(programs.vdpm, ["check"], stream.out, "checking"), manual.STREAM)
     counts = checked.out.decode("ascii").strip()
-    return Model(path.name, unpacked.out, counts, unpacked.proved and checked.proved)
+    return Model(path.name, stream.out, counts, stream.proved and checked.proved)
 
 
 def with_packed_stream(model: Model, programs: Programs) -> Model:

@@ -26,6 +26,7 @@ try:
 except ImportError:  # not on every system; pipes keep their size there
     fcntl = None  # type: ignore[assignment]
 
+TOP = Path(__file__).resolve().parent.parent.parent
 ALL_MOVES = (1 << 32) - 1
 # What notices say: that a program was built without its proof, and those that come while it is.
 UNPROVED = ": not proved on this machine"
@@ -151,6 +152,13 @@ def feed(end: IO[bytes], text: bytes) -> None:
             end.write(text)
     except BrokenPipeError:  # it ended before it had read all, and says why
         pass
+
+
+def beside(vdpm: Path, name: str) -> Path:
+    """Another program of this project: the one beside vdpm, or else at the top of the
+    repository."""
+    other = vdpm.resolve().parent / name
+    return other if other.is_file() else TOP / name
 
 
 class _Awaited:

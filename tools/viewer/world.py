@@ -13,9 +13,9 @@ from worlds.parents import error_of, told_path
 from . import manual
 from .address import Address
 from .drape import Drape
-from .model import needed, run, tell
+from .model import Done, needed, run, tell, unpacked
 from .page_files import FILES, PAGE
-from .program import ALL_MOVES, Answer, BadScript, Program, ProgramEnded, replies_to
+from .program import ALL_MOVES, Answer, BadScript, Program, ProgramEnded, beside, replies_to
 from .server import BYTES, JSON, TEXT, Content, drape_content
 from .server import Page as ServedPage
 
@@ -24,6 +24,7 @@ OWN_FILES = ("finest.js", "tiles.js", "tiling.js", "world_bar.js", "world_worker
 # Measured: `vdpm view` takes 57 MB for a stream of 199,712 faces, and 272 for one of 980,000.
 # `vdpm live` takes 8 bytes more for each node, and there are about as many nodes as faces.
 MEMORY_A_FACE = 300
+MOST_TEXTS = 8
 _HEAD = "tile "
 NAMED = 5  # of the streams that are missing
 
@@ -38,12 +39,13 @@ class WorldShowing:
         self.proved = self._is_proved()
         self._lock = threading.Lock()
         self._open: "OrderedDict[str, Program]" = OrderedDict()  # the last one asked is last
+        self._texts: "OrderedDict[str, bytes]" = OrderedDict()  # unpacked, and not yet opened
 
     def _is_proved(self) -> bool:
         """Looks at one tile, which lets the program be built."""
-        tile = next(iter(self.tiles.values()))
-        stream = self.world.stream(tile).read_bytes()
-        return needed(run(self.path, ["check"], stream, "checking"), manual.STREAM).proved
+        stream = self._read(next(iter(self.tiles.values())))
+        checked = needed(run(self.path, ["check"], stream.out, "checking"), manual.STREAM)
+        return stream.proved and checked.proved
 
     def about(self) -> Dict[str, object]:
         """What the page tells of the world, and chooses tiles by."""
@@ -69,12 +71,26 @@ class WorldShowing:
     def _memory(self, tile: Tile) -> int:
         return MEMORY_A_FACE * faces_of(self.world, tile)
 
+    def _read(self, tile: Tile) -> Done:
+        """A tile's stream text, which is unpacked where it is packed."""
+        try:
+            return unpacked(self.world.stream(tile).read_bytes(), beside(self.path, "pack"))
+        except ProgramEnded as fault:
+            raise ProgramEnded(f"{tile.name}: {fault.reason}", fault.cure) from None
+
     def stream(self, tile: Tile) -> bytes:
-        return self.world.stream(tile).read_bytes()
+        """For the page, which then asks the tile's program. What was unpacked for one is there for
+        the other."""
+        text = self._read(tile).out
+        if self.world.packed:
+            self._texts[tile.name] = text
+            while len(self._texts) > MOST_TEXTS:
+                self._texts.popitem(last=False)
+        return text
 
     def base(self, tile: Tile) -> bytes:
         """The frame of a closed tile, by a program that ends at once."""
-        return replies_to(self.path, self.stream(tile), b"w\n")
+        return replies_to(self.path, self._read(tile).out, b"w\n")
 
     def ask(self, name: str, script: str) -> Answer:
         tile = self.tiles.get(name)
@@ -88,7 +104,8 @@ class WorldShowing:
         are ended before, until all fit into the memory."""
         if tile.name not in self._open:
             self._make_room(self._memory(tile))
-            self._open[tile.name] = Program(self.path, self.stream(tile), ALL_MOVES)
+            text = self._texts.pop(tile.name, None) or self._read(tile).out
+            self._open[tile.name] = Program(self.path, text, ALL_MOVES)
         self._open.move_to_end(tile.name)
         return self._open[tile.name]
 

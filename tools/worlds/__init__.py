@@ -15,7 +15,7 @@ tools/world.py is the command; docs/WORLDS.md tells what a world is and how one 
     progress    how far long work is
     building    makes the streams of a world
     streams     reads of a stream what a world asks of it
-    fronts      plays scripts on a stream, and tells the border sides of what is shown
+    fronts      reads streams, plays scripts on them, and tells the border sides of what is shown
     checking    whether the tiles of a world meet
     union       whether tiles are pieces of one manifold
     tiles3d     writes a world as OGC 3D Tiles

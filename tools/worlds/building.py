@@ -1,15 +1,19 @@
 """Makes the streams of a world: of each tile by `simplify --keep-border`, and level by level of the
 parents, of which the meshes are made first. What is newer than what it was made of stays, so a
 build that was stopped goes on, and after a change of one tile that tile and its parents are made.
+Streams that were built before the world became packed, or plain again, are packed or unpacked, and
+keep their times, so that nothing is made anew.
 """
+import os
 import subprocess
 import sys
 from concurrent.futures import FIRST_EXCEPTION, Future, ThreadPoolExecutor, wait
+from dataclasses import replace
 from pathlib import Path
-from typing import List, NamedTuple
+from typing import Callable, List, NamedTuple
 
 from viewer import manual
-from viewer.program import UNPROVED, end_of, is_notice
+from viewer.program import UNPROVED, beside, end_of, is_notice
 
 from .form import Tile, World, WorldFault
 from .parents import make_parent, told_path
@@ -61,17 +65,12 @@ def _make_parent(build: Build, tile: Tile) -> None:
         raise WorldFault(f"{tile.name}: {said}")
 
 
-def build_tile(build: Build, tile: Tile) -> None:
-    """Makes a tile's stream, which has its name once it is whole."""
-    if tile.level:
-        _make_parent(build, tile)
-    path = build.world.stream(tile)
-    part = path.with_suffix(".vdpm.part")
-    words = [str(build.simplify), "--keep-border"]
+def _make(tile: Tile, words: List[str], source: Path, part: Path, heading: str) -> None:
+    """Writes what a program makes of a file; nothing where it fails."""
     try:
-        with build.world.mesh(tile).open("rb") as mesh, part.open("wb") as out:
+        with source.open("rb") as given, part.open("wb") as out:
             done = subprocess.run(
-                words, stdin=mesh, stdout=out, stderr=subprocess.PIPE, check=False
+                words, stdin=given, stdout=out, stderr=subprocess.PIPE, check=False
             )
     except OSError as fault:
         raise WorldFault(f"{tile.name}: {fault.filename}: {fault.strerror}") from fault
@@ -81,25 +80,72 @@ def build_tile(build: Build, tile: Tile) -> None:
             print(line, file=sys.stderr, flush=True)
     if done.returncode != 0:
         part.unlink()
-        raise _ended(tile, done.stderr, done.returncode, manual.OBJ)
-    part.replace(path)
+        raise _ended(tile, done.stderr, done.returncode, heading)
 
 
 _told: List[str] = []  # notices, which each run of a program gives again
 
 
-def _build_level(build: Build, tiles: List[Tile], before: int) -> None:
-    """Builds some tiles side by side; no more are begun once one has a fault."""
-    whole = len(build.world.tiles)
-    with ThreadPoolExecutor(build.jobs) as pool:
-        def one(tile: Tile) -> None:
-            build_tile(build, tile)
-            build.work.done += 1
-            done = before + len([task for task in tasks if task.done()]) + 1
-            build.work.doing = f"built {done} of {whole} tiles and parents"
+def build_tile(build: Build, tile: Tile) -> None:
+    """Makes a tile's stream, which has its name once it is whole."""
+    if tile.level:
+        _make_parent(build, tile)
+    path = build.world.stream(tile)
+    part = path.with_suffix(".vdpm.part")
+    words = [str(build.simplify), "--keep-border"]
+    _make(tile, words, build.world.mesh(tile), part, manual.OBJ)
+    if build.world.packed:
+        plain, part = part, path.with_suffix(".vdpz.part")
+        try:
+            _make(tile, [str(beside(build.vdpm, "pack"))], plain, part, manual.STREAM)
+        finally:
+            plain.unlink()
+    part.replace(path)
 
-        tasks: List["Future[None]"] = []
-        tasks += [pool.submit(one, tile) for tile in tiles]
+
+def _convert(build: Build, tile: Tile, before: Path) -> None:
+    """Packs a stream that stands plain in a packed world, or unpacks one in a plain world, where it
+    is the latest."""
+    world, path = build.world, build.world.stream(tile)
+    told = before.stat()
+    if not path.is_file() or path.stat().st_mtime_ns < told.st_mtime_ns:
+        part = path.with_suffix(f"{path.suffix}.part")
+        words = [str(beside(build.vdpm, "pack"))] + ([] if world.packed else ["--unpack"])
+        _make(tile, words, before, part, manual.STREAM if world.packed else manual.PACK)
+        os.utime(part, ns=(told.st_atime_ns, told.st_mtime_ns))
+        part.replace(path)
+    before.unlink()
+
+
+def _convert_all(build: Build) -> None:
+    """Packs or unpacks what was built before the world became packed, or plain again."""
+    world = build.world
+    other = replace(world, packed=not world.packed)
+    tiles = [tile for tile in world.tiles.values() if other.stream(tile).is_file()]
+    build.work.begin(f"{'packs' if world.packed else 'unpacks'} {len(tiles)} streams", len(tiles))
+
+    def one(tile: Tile) -> None:
+        _convert(build, tile, other.stream(tile))
+        build.work.done += 1
+
+    _side_by_side(build, tiles, one)
+
+
+def _build_level(build: Build, tiles: List[Tile]) -> None:
+    whole, work = len(build.world.tiles), build.work
+
+    def one(tile: Tile) -> None:
+        build_tile(build, tile)
+        work.done += 1
+        work.doing = f"built {round(work.done)} of {whole} tiles and parents"
+
+    _side_by_side(build, tiles, one)
+
+
+def _side_by_side(build: Build, tiles: List[Tile], one: Callable[[Tile], None]) -> None:
+    """Does something with each tile; no more are begun once one has a fault."""
+    with ThreadPoolExecutor(build.jobs) as pool:
+        tasks: List["Future[None]"] = [pool.submit(one, tile) for tile in tiles]
         done, waiting = wait(tasks, return_when=FIRST_EXCEPTION)
         for task in waiting:
             task.cancel()
@@ -111,6 +157,7 @@ def _build_level(build: Build, tiles: List[Tile], before: int) -> None:
 def build_world(build: Build) -> int:
     """Makes all streams that aren't fresh, and answers how many these were."""
     world, made = build.world, 0
+    _convert_all(build)
     build.work.begin(f"builds {len(world.tiles)} tiles and parents", len(world.tiles))
     for level in range(world.levels):
         tiles = world.level(level)
@@ -118,6 +165,6 @@ def build_world(build: Build) -> int:
         # Large tiles first, so that no long one is left at the end.
         stale.sort(key=lambda tile: -tile.faces)
         build.work.done += len(tiles) - len(stale)
-        _build_level(build, stale, round(build.work.done))
+        _build_level(build, stale)
         made += len(stale)
     return made

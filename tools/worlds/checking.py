@@ -14,7 +14,7 @@ from mesh_files.reading import read_soup
 from mesh_files.soup import MeshFault
 
 from .form import OUTLINE, Place, Side, Tile, World, WorldFault, moved, sides_of
-from .fronts import needed, run
+from .fronts import run, stream_of
 from .mending import border_sides, first_broken
 from .progress import Say, Work
 from .streams import Border, border_of, read_stream
@@ -71,8 +71,8 @@ def _judge_border(world: World, tile: Tile, border: Border) -> None:
 def check_tile(vdpm: Path, world: World, tile: Tile) -> Checked:
     """The border of a tile; WorldFault where its stream isn't valid, isn't a manifold, or hasn't
     the tile's border for ever."""
-    data = needed(world.stream(tile))
     try:
+        data = stream_of(vdpm, world, tile)
         counts = run([str(vdpm), "check"], data).decode("ascii").strip()
     except WorldFault as fault:
         raise WorldFault(f"{tile.name}: {fault}: build it anew") from None

@@ -16,6 +16,8 @@ GREATEST_COORDINATE = 32_767
 LONGEST_SPAN = 2 * GREATEST_COORDINATE
 MOST_FACES = 1_048_576
 FORM = "cushionwren world 1"
+# Who knows the first form alone refuses a world whose streams are packed.
+PACKED_FORM = "cushionwren world 2"
 
 
 class WorldFault(Exception):
@@ -42,13 +44,15 @@ class Tile:
 @dataclass(frozen=True)
 class World:
     """`unit` is how long a unit is in the input's own measure, and `origin` where the world's zero
-    stands there. `outline` counts the border sides beside which no other tile stands."""
+    stands there. `outline` counts the border sides beside which no other tile stands. Where it is
+    packed, each stream stands as `pack` packs it."""
 
     folder: Path
     unit: float
     origin: Tuple[float, float, float]
     outline: int
     tiles: Dict[str, Tile] = field(default_factory=dict)
+    packed: bool = False
 
     def level(self, level: int) -> List[Tile]:
         return [tile for tile in self.tiles.values() if tile.level == level]
@@ -69,7 +73,7 @@ class World:
         return self.path(tile, "obj")
 
     def stream(self, tile: Tile) -> Path:
-        return self.path(tile, "vdpm")
+        return self.path(tile, "vdpz" if self.packed else "vdpm")
 
 
 def moved(place: Place, by: Place) -> Place:
@@ -97,10 +101,11 @@ def middle(low: Place, high: Place) -> Place:
 
 def write_world(world: World) -> None:
     """Writes world.json last of all files, so that a world which has one was cut whole."""
-    told: Dict[str, Any] = {
-        "form": FORM, "unit": world.unit, "origin": world.origin, "outline": world.outline,
-        "tiles": [asdict(tile) for tile in world.tiles.values()],
-    }
+    told: Dict[str, Any] = {"form": FORM}
+    if world.packed:
+        told = {"form": PACKED_FORM, "packed": True}
+    told.update(unit=world.unit, origin=world.origin, outline=world.outline)
+    told["tiles"] = [asdict(tile) for tile in world.tiles.values()]
     part = world.folder / "world.json.part"
     part.write_text(json.dumps(told, indent=1) + "\n", encoding="ascii")
     part.replace(world.folder / "world.json")
@@ -132,16 +137,28 @@ def read_world(path: Path) -> World:
     file = path / "world.json" if path.is_dir() else path
     try:
         told = json.loads(file.read_text(encoding="ascii"))
-        if told["form"] != FORM:
-            raise WorldFault(f"{file} has another form than `{FORM}`: cut it again")
+        if told["form"] not in (FORM, PACKED_FORM):
+            known = f"`{FORM}` and `{PACKED_FORM}`"
+            raise WorldFault(f"{file} has another form than {known}: cut it again")
         tiles = [tile_of(words) for words in told["tiles"]]
         x, y, z = told["origin"]
-        world = World(file.parent, told["unit"], (x, y, z), told["outline"])
+        packed = told["packed"] if told["form"] == PACKED_FORM else False
+        if not isinstance(packed, bool):
+            raise TypeError(f"packed is {packed}")
+        world = World(file.parent, told["unit"], (x, y, z), told["outline"], packed=packed)
     except OSError as fault:
         raise WorldFault(f"{file} can't be read: {fault.strerror}") from fault
     except (ValueError, KeyError, TypeError) as fault:
         raise WorldFault(f"{file} is no world.json: {fault}") from fault
     return replace(world, tiles={tile.name: tile for tile in tiles})
+
+
+def is_packed(folder: Path) -> bool:
+    """Whether a world with packed streams stands in a folder."""
+    try:
+        return read_world(folder).packed
+    except WorldFault:
+        return False
 
 
 def tile_of(words: Dict[str, Any]) -> Tile:

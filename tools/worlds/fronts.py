@@ -1,10 +1,11 @@
-"""Plays scripts on a tile's stream by `vdpm view`, and tells what is shown in places of the
-world."""
+"""Reads the streams of tiles, plays scripts on them by `vdpm view`, and tells what is shown in
+places of the world."""
 import subprocess
 from pathlib import Path
 from typing import Iterable, List
 
 from frames import Frame, read_frames
+from viewer.program import beside
 
 from .form import Place, Side, Tile, World, WorldFault, moved
 from .mending import border_sides
@@ -31,6 +32,12 @@ def run(words: List[str], given: bytes) -> bytes:
     return done.stdout
 
 
+def stream_of(vdpm: Path, world: World, tile: Tile) -> bytes:
+    """A tile's stream text, unpacked by the `pack` beside vdpm where the world is packed."""
+    data = needed(world.stream(tile))
+    return run([str(beside(vdpm, "pack")), "--unpack"], data) if world.packed else data
+
+
 def frames_of(vdpm: Path, stream: bytes, script: str) -> List[Frame]:
     """The frames of a script on a stream."""
     text = run([str(vdpm), "view", ALL_MOVES], stream + script.encode("ascii")).decode("ascii")
@@ -39,7 +46,7 @@ def frames_of(vdpm: Path, stream: bytes, script: str) -> List[Frame]:
 
 def frame_of(vdpm: Path, world: World, tile: Tile, script: str) -> Frame:
     """The last frame of a script on a tile, which has to have one."""
-    return frames_of(vdpm, needed(world.stream(tile)), script)[-1]
+    return frames_of(vdpm, stream_of(vdpm, world, tile), script)[-1]
 
 
 def splits(records: Iterable[int]) -> str:

@@ -12,8 +12,8 @@ from typing import Dict, Iterable, List, Set
 
 from .cutting import Half, parts_for
 from .form import (
-    FORM, MOST_FACES, OPENED, OUTLINE, Place, Side, Tile, World, WorldFault, box_of, fits, middle,
-    write_sides, write_world,
+    FORM, MOST_FACES, OPENED, OUTLINE, Place, Side, Tile, World, WorldFault, box_of, fits,
+    is_packed, middle, write_sides, write_world,
 )
 from .inputs import RASTER, Asked, Cut, cut_of
 from .journal import Journal, Recorded
@@ -183,7 +183,7 @@ def make_world(asked: Asked, say: Say) -> World:
         raise WorldFault(f"a tile has from 2 to {MOST_FACES:,} faces")
     with Work(say) as work:
         cut = cut_of(asked, say, work)
-        world = World(asked.folder, cut.unit, cut.origin, 0)
+        world = World(asked.folder, cut.unit, cut.origin, 0, packed=is_packed(asked.folder))
         leaves = _cut_leaves(cut, world, asked, work)
     leaves.tell(say)
     return _finished(world, leaves)
@@ -198,7 +198,7 @@ def _finished(world: World, leaves: _Leaves) -> World:
         replace(tile, neighbours=tuple(sorted(beside[tile.name]))) for tile in tiles.values()
     ]
     everything = {tile.name: tile for tile in known + parents_of(leaves.ways, tiles)}
-    done = World(world.folder, world.unit, world.origin, seams.outline, everything)
+    done = replace(world, outline=seams.outline, tiles=everything)
     write_sides(done, OUTLINE, (side for side, names in seams.alone.items() for _ in names))
     write_sides(done, OPENED, sorted(leaves.opened))
     write_world(done)

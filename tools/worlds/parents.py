@@ -11,7 +11,7 @@ from typing import Dict, Iterable, List, NamedTuple, Set, Tuple
 from .form import (
     GREATEST_COORDINATE, OPENED, Corners, Place, Side, Tile, World, WorldFault, sides_of,
 )
-from .fronts import frame_of, needed, places_in_world, splits
+from .fronts import frames_of, places_in_world, splits, stream_of
 from .making import write_mesh
 from .mending import Mended, Mesh, border_sides, cut_open
 from .streams import Stream, closed, distance_up, errors_of, face_count, read_stream
@@ -19,6 +19,7 @@ from .streams import Stream, closed, distance_up, errors_of, face_count, read_st
 
 class Child(NamedTuple):
     tile: Tile
+    text: bytes
     stream: Stream
     errors: List[int]
 
@@ -38,10 +39,11 @@ class Made(NamedTuple):
     error: int
 
 
-def read_child(world: World, name: str) -> Child:
+def read_child(vdpm: Path, world: World, name: str) -> Child:
     tile = world.tiles[name]
-    stream = read_stream(needed(world.stream(tile)))
-    return Child(tile, stream, errors_of(stream))
+    text = stream_of(vdpm, world, tile)
+    stream = read_stream(text)
+    return Child(tile, text, stream, errors_of(stream))
 
 
 def faces_at(children: List[Child], tolerance: int) -> int:
@@ -113,12 +115,10 @@ def error_of(world: World, tile: Tile) -> int:
         raise WorldFault(f"{told_path(world, tile)} isn't there: make the parent anew") from fault
 
 
-def _shown(
-    vdpm: Path, world: World, child: Child, tolerance: int
-) -> Tuple[List[Place], List[Corners]]:
+def _shown(vdpm: Path, child: Child, tolerance: int) -> Tuple[List[Place], List[Corners]]:
     """What a child shows at a tolerance, in places of the world."""
     front = child.front(tolerance)
-    frame = frame_of(vdpm, world, child.tile, splits(front))
+    frame = frames_of(vdpm, child.text, splits(front))[-1]
     if len(frame.faces) != face_count(child.stream, front):
         raise WorldFault(f"{child.tile.name}: a split of its front was refused: check the world")
     return places_in_world(frame, child.tile.offset), frame.faces
@@ -128,13 +128,14 @@ def make_parent(vdpm: Path, world: World, tile: Tile, most: int) -> Made:
     """Writes the parent's OBJ file, and its counts and error beside it."""
     if tile.level == 0:
         raise WorldFault(f"{tile.name} was cut from the input and has no children")
-    children = [read_child(world, name) for name in tile.children]
+    children = [read_child(vdpm, world, name) for name in tile.children]
     tolerance = least_tolerance(children, most)
-    shown = [_shown(vdpm, world, child, tolerance) for child in children]
+    shown = [_shown(vdpm, child, tolerance) for child in children]
     mesh = together(shown, sides_of(world, OPENED)).mesh
     mesh, beyond = within_reach(mesh, tile.offset)
     error = tolerance + beyond + max(error_of(world, child.tile) for child in children)
     made = Made(len(mesh.places), len(mesh.faces), error)
     write_mesh(world.mesh(tile), mesh, tile.offset)
+    world.mesh(tile).touch()  # one that says the same is as new as what it was made of
     told_path(world, tile).write_text(json.dumps(made._asdict()) + "\n", encoding="ascii")
     return made

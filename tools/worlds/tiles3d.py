@@ -19,7 +19,7 @@ from lods.written import glb
 
 from .earth import on_earth, sagitta
 from .form import Tile, World, WorldFault, moved
-from .fronts import needed
+from .fronts import stream_of
 from .parents import error_of
 from .progress import Work
 
@@ -124,7 +124,7 @@ def _records_of(stream: bytes, most: int, above: float) -> Tuple[List[int], List
 def _write_tile(export: Export, tile: Tile, above: float) -> List[Written]:
     """The files of a tile, the coarsest first."""
     world = export.world
-    stream, own = needed(world.stream(tile)), error_of(world, tile)
+    stream, own = stream_of(export.vdpm, world, tile), error_of(world, tile)
     records, errors = _records_of(stream, export.levels, above / world.unit - own)
     shown = levels_shown(export.vdpm, stream, Grid(world.unit, (0.0, 0.0, 0.0)), records)
     found = []

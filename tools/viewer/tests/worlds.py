@@ -15,6 +15,7 @@ from worlds.form import World
 from worlds.tests.common import (
     VDPM, WithWorld, build, grid_text, needs_simplify, random_field,
 )
+from worlds.tests.packing import as_packed, built, needs_pack
 
 from .pages import browser
 
@@ -80,6 +81,24 @@ class Serving(WithWindow):
         self.assertTrue(self.asked(server, "base/t000").read().startswith(b"frame "))
         for path in ("stream/nobody", "stream/", "start/t000", "index.html", "main.py"):
             self.assertEqual(self.asked(server, path).status, 404, path)
+
+    @needs_pack
+    def test_a_packed_world_is_served_as_a_plain_one(self) -> None:
+        paths = [f"{what}/{name}" for what in ("stream", "base") for name in self.world.tiles]
+        plain = self.served()
+        wanted = [self.asked(plain, path).read() for path in paths]
+        about, front = plain.showing.about(), plain.showing.ask("t000", "m\nw\n").text
+        self.world = as_packed(self.world)
+        self.assertEqual(built(self.world, self.said), 0)
+        server = self.served()
+        self.assertEqual([self.asked(server, path).read() for path in paths], wanted)
+        self.assertEqual(server.showing.about(), about)
+        self.assertEqual(server.showing.ask("t000", "m\nw\n").text, front)
+        path = self.world.stream(self.world.tiles["t000"])
+        path.write_bytes(path.read_bytes()[:-9])
+        told = self.asked(server, "stream/t000")
+        self.assertEqual(told.status, 502)
+        self.assertIn(b"t000: the program ended with status 1: pack: fault 35", told.read())
 
     def test_programs_are_ended_where_memory_is_short(self) -> None:
         names = [tile.name for tile in self.world.level(0)]
