@@ -16,7 +16,7 @@ TOOLS = Path(__file__).resolve().parent
 SUBJECTS = (
     "programs", "models", "serving", "films", "looking", "controls", "settings", "following",
     "gliding", "judging", "keeping", "playing", "arrays", "libraries", "worlds", "draping",
-    "terrain", "exaggerating", "hollows", "upright", "sizes", "returning", "alone",
+    "textured", "terrain", "exaggerating", "hollows", "upright", "sizes", "returning", "alone",
 )
 NO_BROWSER = "no Chromium"
 

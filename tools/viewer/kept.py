@@ -3,24 +3,27 @@
 They stand in `vdpm` in the folder that XDG_CACHE_HOME names, or in ~/.cache/vdpm, each under a sum
 of the file's bytes and of the programs that built it. All together take at most so many bytes:
 those that were looked at longest ago go. A file here has the length of its head as four bytes,
-least first; the head as JSON; the stream; and three bytes for each vertex where it has colours.
+least first; the head as JSON; the stream; three bytes for each vertex where it has colours; and
+what nodes and faces have of a texture, where there is one.
 """
 import hashlib
 import json
 import os
 import struct
 from pathlib import Path
-from typing import Any, Optional
+from typing import Any, Dict, Optional
 
 from quick_start.record import is_current
 from quick_start.sources import PROGRAMS, Program, sum_of_file
 from quick_start.stopped import Stopped
 
-from .model import Model, Programs, Scale
+from dressing.coat import Painted
+
+from .model import Dress, Model, Programs, Scale
 
 MOST_BYTES = 1_000_000_000
 TOP = Path(__file__).resolve().parent.parent.parent
-_FORM = b"kept 1\n"
+_FORM = b"kept 2\n"
 
 
 def folder() -> Path:
@@ -40,7 +43,7 @@ def _sum_of_program(path: Path) -> Optional[str]:
 
 def name_for(text: bytes, programs: Programs) -> Optional[str]:
     """The name of what these programs build of a text; None where they can't be known yet."""
-    builders = (programs.vdpm, programs.prepare, programs.simplify)
+    builders = (programs.vdpm, programs.prepare, programs.simplify, programs.paint)
     try:
         sums = [_sum_of_program(path) for path in builders]
     except (OSError, Stopped):
@@ -61,8 +64,27 @@ def packed(model: Model) -> bytes:
         "name": model.name, "counts": model.counts, "proved": model.proved,
         "prepared": model.prepared, "scale": scale, "notes": model.notes,
         "length": len(model.stream), "coloured": model.colours is not None,
+        "dress": _dress_told(model.dress),
     }).encode("ascii")
-    return struct.pack("<I", len(head)) + head + model.stream + (model.colours or b"")
+    worn = b"".join(model.dress.painted) if model.dress else b""
+    return struct.pack("<I", len(head)) + head + model.stream + (model.colours or b"") + worn
+
+
+def _dress_told(dress: Optional[Dress]) -> Optional[Dict[str, Any]]:
+    if dress is None:
+        return None
+    spots, pages = map(len, dress.painted)
+    return {"pages": dress.pages, "libraries": dress.libraries, "lengths": [spots, pages]}
+
+
+def _dress_of(told: Optional[Dict[str, Any]], data: bytes) -> Optional[Dress]:
+    """That at the end of the data, as it was told."""
+    if told is None:
+        return None
+    spots, pages = told["lengths"]
+    worn = data[len(data) - spots - pages :]
+    found = Painted(worn[:spots], worn[spots:])
+    return Dress(found, tuple(told["pages"]), tuple(told["libraries"]))
 
 
 def scale_told(told: Any) -> Optional[Scale]:
@@ -76,10 +98,12 @@ def unpacked(name: str, data: bytes) -> Model:
     (size,) = struct.unpack_from("<I", data)
     head, rest = json.loads(data[4:4 + size]), data[4 + size:]
     stream, colours = rest[:head["length"]], rest[head["length"]:]
-    scale = scale_told(head["scale"])
+    scale, dress = scale_told(head["scale"]), _dress_of(head["dress"], rest)
+    if dress is not None:
+        colours = colours[: len(colours) - sum(map(len, dress.painted))]
     coloured = colours if head["coloured"] else None
     known = (head["counts"], head["proved"], head["prepared"])
-    return Model(name, stream, *known, scale, coloured, tuple(head["notes"]))
+    return Model(name, stream, *known, scale, coloured, tuple(head["notes"]), dress)
 
 
 def found(key: str, name: str) -> Optional[Model]:

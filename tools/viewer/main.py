@@ -26,12 +26,14 @@ from pathlib import Path
 from types import FrameType
 from typing import List, Optional, Union
 
+from dressing.materials import Picture, pictures_for
+
 from . import kept, progress, seat
 from .alone import page_of
 from .drape import BadDrape, Drape, drape_of
 from .film import BadFlight, film_page
 from .library import NOT_BUILT, TO_BUILD, built_library
-from .model import Model, Programs, is_built, model_of, tell, with_packed_stream
+from .model import Dress, Model, Programs, is_built, model_of, tell, with_packed_stream
 from .module import NoModule, module_of
 from .program import ALL_MOVES, ProgramEnded, beside
 from .server import Server, is_budget
@@ -80,7 +82,7 @@ def arguments(words: Optional[List[str]] = None) -> argparse.Namespace:
 def programs_of(vdpm: Path) -> Programs:
     """vdpm, and the other programs beside it or else at the top of the repository."""
 
-    others = [beside(vdpm, name) for name in ("prepare", "simplify", "pack")]
+    others = [beside(vdpm, name) for name in ("prepare", "simplify", "pack", "paint")]
     return Programs(vdpm.resolve(), *others)
 
 
@@ -160,7 +162,17 @@ def showing_for(asked: argparse.Namespace) -> Union[Showing, WorldShowing]:
         raise ProgramEnded(NOT_BUILT, TO_BUILD)
     model = found(asked)
     progress.current.begins("opening")
-    return Showing(program, model, asked.budget, library)
+    showing = Showing(program, model, asked.budget, library)
+    showing.pictures = pictures_of(asked.model, model.dress)
+    return showing
+
+
+def pictures_of(path: Path, dress: Optional[Dress]) -> List[Picture]:
+    """What the pages of a texture are drawn with; each that is missing is told."""
+    pictures = pictures_for(path, dress.pages, dress.libraries) if dress else []
+    for name in sorted({picture.missing for picture in pictures if picture.missing}):
+        tell(f"{name} isn't beside {path.name}, or is no picture that browsers show")
+    return pictures
 
 
 def seat_for(asked: argparse.Namespace, place: Path) -> Seat:

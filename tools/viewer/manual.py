@@ -11,6 +11,7 @@ STREAM = "The faults of a stream"
 SCRIPT = "`vdpm view B`"
 PREPARE = "`prepare`"
 PACK = "`pack`"
+PAINT = "`paint`"
 STATUSES = "The statuses of all commands"
 _HEADING = re.compile(r"(#+) (.*)")
 _FAULT = re.compile(r"fault (\d+)")

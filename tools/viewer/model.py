@@ -15,6 +15,8 @@ from pathlib import Path
 from subprocess import PIPE
 from typing import IO, List, NamedTuple, Optional, Sequence, Set, Tuple
 
+from dressing.coat import Painted, painted
+from dressing.dressed import Dressed, dressed
 from mesh_files import obj
 from mesh_files.reading import as_obj, without_faces
 from mesh_files.soup import MeshFault
@@ -40,6 +42,7 @@ class Programs(NamedTuple):
     prepare: Path
     simplify: Path
     pack: Path
+    paint: Path
 
 
 class Scale(NamedTuple):
@@ -47,6 +50,14 @@ class Scale(NamedTuple):
 
     unit: float
     middle: Place
+
+
+class Dress(NamedTuple):
+    """What nodes and faces have of a texture, and by what its pictures are found."""
+
+    painted: Painted
+    pages: Tuple[str, ...]
+    libraries: Tuple[str, ...]
 
 
 class Model(NamedTuple):
@@ -60,6 +71,7 @@ class Model(NamedTuple):
     scale: Optional[Scale] = None
     colours: Optional[bytes] = None  # of the built mesh's vertices, three bytes each
     notes: Tuple[str, ...] = ()  # what `prepare` said of it
+    dress: Optional[Dress] = None
 
     @property
     def records(self) -> int:
@@ -189,9 +201,9 @@ def model_of(path: Path, programs: Programs) -> Model:
 
 
 def with_packed_stream(model: Model, programs: Programs) -> Model:
-    """A model as a page has it in it."""
+    """A model as a page has it in it, which shows no textures yet."""
     done = needed(run(programs.pack, [], model.stream, "packing"), manual.STREAM)
-    return model._replace(stream=done.out)
+    return model._replace(stream=done.out, dress=None)
 
 
 def text_at(path: Path) -> bytes:
@@ -212,16 +224,30 @@ def _built(name: str, text: bytes, given: bytes, programs: Programs) -> Model:
     faces = obj.face_count(mesh)
     if faces == 0:
         raise ProgramEnded(str(without_faces(text)))
+    scale = scale_of(mesh) if prepared else None
+    found = _colours(text, mesh, prepared, scale)
+    stands = (scale or Scale(1.0, (0.0, 0.0, 0.0))) if prepared else None
+    cut = dressed(text, mesh, stands)
     tell(f"building a hierarchy of {faces:,} faces")
     begun = time.monotonic()
-    words = ["0", "--digits", str(digits)]
-    stream = needed(run(programs.simplify, words, mesh, "building"), manual.OBJ).out
+    words = ["0", "--digits", str(digits), *(["--keep-border"] if cut else [])]
+    source = cut.text if cut else mesh
+    stream = needed(run(programs.simplify, words, source, "building"), manual.OBJ).out
     checked = needed(run(programs.vdpm, ["check"], stream, "checking"), manual.STREAM)
     tell(f"built in {time.monotonic() - begun:.1f} s")
     counts = checked.out.decode("ascii").strip()
-    scale = scale_of(mesh) if prepared else None
-    found = _colours(text, mesh, prepared, scale)
-    return Model(name, stream, counts, checked.proved, prepared, scale, found, notes)
+    model = Model(name, stream, counts, checked.proved, prepared, scale, found, notes)
+    return _with_dress(model, cut, programs) if cut else model
+
+
+def _with_dress(model: Model, cut: Dressed, programs: Programs) -> Model:
+    """The same with what its nodes and faces have of a texture."""
+    lines = needed(run(programs.paint, [], model.stream + cut.coat, "painting"), manual.PAINT).out
+    found, colours_of = painted(lines), model.colours
+    if colours_of is not None:
+        parts = [colours_of[3 * vertex : 3 * vertex + 3] for vertex in cut.before]
+        model = model._replace(colours=b"".join(parts))
+    return model._replace(dress=Dress(found, tuple(cut.pages), tuple(cut.libraries)))
 
 
 def _fitting(text: bytes, given: bytes, programs: Programs) -> Fitting:

@@ -10,8 +10,9 @@ FILES = (
     "follower.js", "front.js", "glides.js", "ground.js", "hands.js", "heights.js",
     "hierarchy.js", "hollowing.js", "hollows.js", "keeping.js", "late.js", "layout.js",
     "leaving.js", "link.js", "main.js", "matrices.js", "mesh.js", "normals.js", "panel.js",
-    "picking.js", "relief.js", "remembering.js", "renderer.js", "replies.js", "returning.js",
-    "scene.js", "session.js", "shaders.js", "shape.js", "slots.js", "steering.js", "stretch.js",
-    "surface.js", "tasks.js", "terrain.js", "textures.js", "upright.js", "viewer.js",
-    "views.js", "work.js", "worker.js", "working.js", "writers.js",
+    "picking.js", "pictures.js", "relief.js", "remembering.js", "renderer.js", "replies.js",
+    "returning.js", "scene.js", "session.js", "shaders.js", "shape.js", "slots.js", "spots.js",
+    "steering.js", "stretch.js", "surface.js", "tasks.js", "terrain.js", "textures.js",
+    "texturing.js", "upright.js", "viewer.js", "views.js", "work.js", "worker.js", "working.js",
+    "writers.js",
 )

@@ -227,6 +227,21 @@ def drape_content(drape: Optional[Drape]) -> Dict[str, Content]:
     return {"drape": (drape.kind, lambda: drape.data)} if drape else {}
 
 
+def dress_content(showing: Showing) -> Dict[str, Content]:
+    """What nodes and faces have of a texture, and its pictures."""
+    dress = showing.model.dress
+    if dress is None:
+        return {}
+    found: Dict[str, Content] = {
+        "spots": (BYTES, lambda: dress.painted.spots),
+        "pages": (BYTES, lambda: dress.painted.pages),
+    }
+    for number, picture in enumerate(showing.pictures):
+        if picture.data:
+            found[f"picture/{number}"] = picture.kind, lambda data=picture.data: data
+    return found
+
+
 class Server(Address):
     """The window of one model, which may be on its way."""
 
@@ -263,6 +278,7 @@ class Handler(Page):
             "colours": (BYTES, lambda: showing.model.colours or b""),
             "flight": (TEXT, showing.flight),
             **drape_content(showing.drape),
+            **dress_content(showing),
         }
         return contents.get(path)
 

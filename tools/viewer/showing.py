@@ -1,7 +1,9 @@
 """What is looked at, and the program that looks, which may be started anew."""
 import threading
 from pathlib import Path
-from typing import Dict, Optional, Union
+from typing import Dict, List, Optional, Union
+
+from dressing.materials import Picture
 
 from .arrays import parted
 from .drape import Drape, rows_over
@@ -19,6 +21,7 @@ class Showing:
     ) -> None:
         self.path, self.model, self.budget, self.library = path, model, budget, library
         self.drape: Optional[Drape] = None
+        self.pictures: List[Picture] = []
         self._lock = threading.Lock()
         self._program: Optional[Union[Program, LibraryProgram]] = self._started(budget)
         self._flight = bytearray()
@@ -44,8 +47,18 @@ class Showing:
             "notes": model.notes,
             "coloured": model.colours is not None,
             "drape": rows_over(self.drape, model) if self.drape else None,
+            "textures": self._textures(),
             "opening": program.opening if program else None,
         }
+
+    def _textures(self) -> Optional[List[Dict[str, object]]]:
+        """Of each page, whether it has a picture, and else its colour."""
+        if not self.pictures:
+            return None
+        return [
+            {"colour": one.colour, "hasPicture": bool(one.data), "missing": one.missing}
+            for one in self.pictures
+        ]
 
     def program(self) -> Union[Program, LibraryProgram]:
         with self._lock:

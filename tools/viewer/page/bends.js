@@ -11,9 +11,11 @@ const LEVEL = 0x808080; // a byte for each corner that is neither hollow nor rai
 
 export class Bends {
   // `corners` has the nodes at the corners of all drawn faces; a hierarchy may have `normals`,
-  // three numbers for each node, and `hollows`, one for each (hollows.js).
-  constructor(nodes, corners, { normals = null, hollows = null }) {
-    Object.assign(this, { corners, normals, hollows, around: new Lists(nodes, corners.length) });
+  // three numbers for each node, `hollows`, one for each (hollows.js), and `pages`, one for each
+  // face.
+  constructor(nodes, corners, { normals = null, hollows = null, pages = null }) {
+    const around = new Lists(nodes, corners.length);
+    Object.assign(this, { corners, normals, hollows, pages, around });
     this.units = new Float32Array(corners.length);
     this.sizes = new Float32Array(corners.length / 3);
     this.sum = new Float64Array(3);
@@ -42,8 +44,8 @@ export class Bends {
     for (let at = first[node]; at >= 0; at = next[at]) marked.add(slots[(at / 3) | 0]);
   }
 
-  // The normals of the faces that stand in some slots, and how hollow their corners are: four
-  // numbers each.
+  // The normals of the faces that stand in some slots, how hollow their corners are, and their
+  // pages: four numbers each.
   of(faces, slots) {
     const bends = new Uint32Array(4 * slots.length);
     for (let i = 0, to = 0; i < slots.length; i++, to += 4) {
@@ -51,7 +53,7 @@ export class Bends {
       bends[to] = this.packed(from);
       bends[to + 1] = this.packed(from + 1);
       bends[to + 2] = this.packed(from + 2);
-      bends[to + 3] = this.hollowsAt(from);
+      bends[to + 3] = this.hollowsAt(from) | this.pageAt(from / 3);
     }
     return bends;
   }
@@ -62,6 +64,9 @@ export class Bends {
     const byte = (i) => hollows[corners[from + i]];
     return byte(0) | (byte(1) << 8) | (byte(2) << 16);
   }
+
+  // The page of a face, above the three bytes of its corners.
+  pageAt(face) { return this.pages === null ? 0 : this.pages[face] << 24; }
 
   // The normal of a corner, as one number.
   packed(at) {

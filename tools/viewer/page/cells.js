@@ -1,7 +1,8 @@
 // What stands in the cells of a drawn mesh's textures, four numbers each.
 
 // Of nodes, by their numbers and where they stand: the places to which they glide, with their
-// depths; where and when their glides began; and colours, where there are some.
+// depths; where and when their glides began; and colours and where they are in pictures, where
+// there are some.
 export function cellsOf(mesh, numbers, slots) {
   const { goals, starts: from, colours, hierarchy: { places: own, depths } } = mesh;
   const size = 4 * numbers.length;
@@ -15,6 +16,7 @@ export function cellsOf(mesh, numbers, slots) {
   }
   const cells = { slots, places, starts };
   if (colours !== null) cells.colours = coloursOf(colours, numbers);
+  if (mesh.spots !== null) cells.spots = mesh.spots.cells(numbers, goals);
   return cells;
 }
 

@@ -36,6 +36,10 @@ export class Connection {
 
   async colours() { return new Uint8Array(await (await fetched("colours")).arrayBuffer()); }
 
+  async spots() { return new Int32Array(await (await fetched("spots")).arrayBuffer()); }
+
+  async pages() { return new Uint8Array(await (await fetched("pages")).arrayBuffer()); }
+
   async flight() { return (await fetched("flight")).text(); }
 
   async start(budget) { await fetched("start", { method: "POST", body: String(budget) }); }

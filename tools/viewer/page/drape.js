@@ -1,6 +1,6 @@
 // A picture that lies over a terrain. Where a place is in it is a sum of products each way, so it
 // is right at each level of detail, while nodes glide, and in each tile.
-const PLACE = 6; // of its texture, behind those of a mesh
+const PLACE = 7; // of its texture, behind those of a mesh
 
 export class Drape {
   constructor(gl) {

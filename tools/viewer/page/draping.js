@@ -9,14 +9,19 @@ async function pictureFor(gl, url) {
   return createImageBitmap(whole, { resizeWidth, resizeHeight });
 }
 
+// Adds one of the ways to colour faces, chosen.
+export function addColour(value, name, title) {
+  const stone = document.querySelector("input[name=colour][value=stone]").closest("label");
+  const label = stone.cloneNode(true), choice = label.querySelector("input");
+  Object.assign(choice, { id: "", value, checked: true });
+  label.title = title;
+  label.querySelector("span").textContent = name;
+  stone.after(label);
+  choice.dispatchEvent(new Event("input", { bubbles: true }));
+}
+
 // Lays the server's picture over what a renderer draws, and adds it to the colours, chosen.
 export async function layDrape({ gl, drape }, rows) {
   drape.show(await pictureFor(gl, "drape"), rows);
-  const stone = document.querySelector("input[name=colour][value=stone]").closest("label");
-  const label = stone.cloneNode(true), choice = label.querySelector("input");
-  Object.assign(choice, { id: "", value: "drape", checked: true });
-  label.title = "The picture that lies on the terrain";
-  label.querySelector("span").textContent = "Image";
-  stone.after(label);
-  choice.dispatchEvent(new Event("input", { bubbles: true }));
+  addColour("drape", "Image", "The picture that lies on the terrain");
 }

@@ -28,10 +28,10 @@ function eased(part) {
 }
 
 export class KeptMesh {
-  // `colours` has four bytes for each node, or is null.
-  constructor(hierarchy, colours) {
+  // `colours` has four bytes for each node, or is null; `spots` are those of a texture, or null.
+  constructor(hierarchy, colours, spots = null) {
     const count = hierarchy.parents.length, { faces } = hierarchy;
-    Object.assign(this, { hierarchy, front: new Front(hierarchy) });
+    Object.assign(this, { hierarchy, spots, front: new Front(hierarchy) });
     this.colours = colours && new Uint32Array(colours.buffer, colours.byteOffset, count);
     this.corners = new Int32Array(3 * faces);   // the nodes at a drawn face's corners
     this.uses = new Int32Array(count);          // how many drawn faces have a node
@@ -150,6 +150,7 @@ export class KeptMesh {
       const start = starts[from + axis], end = places[3 * goals[seen] + axis];
       starts[at + axis] = start + (end - start) * part;
     }
+    this.spots?.begin(node, seen, goals[seen], part);
     starts[at + 3] = now ?? THERE;
   }
 

@@ -53,16 +53,18 @@ export function saySettings(now) {
   part("budget-said").textContent = now.budget === ALL_MOVES ? "all" : counted(now.budget);
 }
 
-// What of a file isn't shown, by what `prepare` says that it ignored.
+// What of a file isn't shown: what `prepare` says that it ignored, or pictures that aren't there.
 const DROPPED = [[/texture/, "textures"], [/material/, "materials"], [/PLY/, "vertex colours"]];
-function droppedOf(notes) {
+function droppedOf(notes, textures) {
+  if (textures) return [...new Set(textures.map(({ missing }) => missing))].filter(Boolean);
   const said = notes.filter((note) => note.includes("ignored")).join();
   return DROPPED.filter(([looks]) => looks.test(said)).map(([, name]) => name);
 }
 
 // What is known of the model before anything is drawn.
 export function sayModel({ notes = [], ...about }, { upright }) {
-  const { name, proved, prepared, coloured, budget, engine } = about, dropped = droppedOf(notes);
+  const { name, proved, prepared, coloured, budget, engine, textures } = about;
+  const dropped = droppedOf(notes, textures);
   document.querySelector(`input[name=up][value=${upright}]`).checked = true;
   part("name").textContent = name;
   document.title = name;

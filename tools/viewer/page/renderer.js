@@ -3,6 +3,7 @@
 import { Drape } from "./drape.js";
 import { rows } from "./layout.js";
 import { clipMatrix, plus } from "./matrices.js";
+import { Pictures } from "./pictures.js";
 import { bindRelief } from "./relief.js";
 import {
   LINES_FRAGMENT, LINES_VERTEX, MESH_FRAGMENT, MESH_VERTEX, SKY_FRAGMENT, SKY_VERTEX,
@@ -11,7 +12,7 @@ import { Texture } from "./textures.js";
 
 export class NoGraphics extends Error {}
 
-export const COLOURS = { stone: 0, depth: 1, wire: 2, own: 3, drape: 4, height: 5 };
+export const COLOURS = { stone: 0, depth: 1, wire: 2, own: 3, drape: 4, height: 5, texture: 6 };
 export const NO_FACE = 0xffffffff; // no face has this number
 const MARK = [1, 0.71, 0.33], HIT = [1, 0.3, 0.1, 1];
 const EDGES = 0.62; // how dark edges are
@@ -44,6 +45,7 @@ export class Renderer {
     this.lines = linked(gl, LINES_VERTEX, LINES_FRAGMENT);
     this.sky = linked(gl, SKY_VERTEX, SKY_FRAGMENT);
     this.drape = new Drape(gl);
+    this.pictures = new Pictures(gl);
     this.empty = gl.createVertexArray();
     this.line = { array: gl.createVertexArray(), buffer: gl.createBuffer() };
     gl.bindVertexArray(this.line.array);
@@ -110,6 +112,7 @@ export class Renderer {
     gl.useProgram(program);
     mesh.bind(at);
     this.drape.bind(at, offset);
+    this.pictures.bind(at);
     bindRelief(gl, at, { axes: camera.axes(), stretch, offset }, look);
     gl.uniformMatrix4fv(at.toClip, false, toClip);
     gl.uniform3fv(at.eye, plus(camera.eye(), -1, offset));
@@ -191,6 +194,7 @@ class Mesh {
       bends: new Texture(gl, Uint32Array, gl.RGBA32UI, whole, gl.UNSIGNED_INT),
       colours: new Texture(gl, Uint8Array, gl.RGBA8, parts, gl.UNSIGNED_BYTE),
       starts: new Texture(gl, Float32Array, gl.RGBA32F, parts, gl.FLOAT),
+      spots: new Texture(gl, Float32Array, gl.RGBA32F, parts, gl.FLOAT),
     };
   }
 

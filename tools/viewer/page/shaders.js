@@ -8,7 +8,7 @@ export const MESH_VERTEX = `#version 300 es
   precision highp float; precision highp int;
   precision highp sampler2D; precision highp isampler2D; precision highp usampler2D;
   uniform isampler2D places, normals;
-  uniform sampler2D starts, colours;
+  uniform sampler2D starts, colours, spots;
   uniform usampler2D corners, bends;
   uniform bool bent;        // whether corners have normals of their own
   uniform mat4 toClip;
@@ -21,6 +21,8 @@ export const MESH_VERTEX = `#version 300 es
   uniform float lowest, times; // heights above the lowest are drawn so many times as large
   uniform vec4 rises;        // in steps between contours: a unit, the lowest height, .. (below)
   out vec2 spot;            // of the drape
+  out vec2 mapped;          // of the face's picture, v from below
+  flat out int page;        // the number of that
   out vec3 seen;            // the place less the eye
   out vec3 nearness;        // 1 at one corner and 0 at the others
   out vec3 normal;
@@ -43,9 +45,14 @@ export const MESH_VERTEX = `#version 300 es
     ivec2 node = cell(int(which == 0 ? found.x : which == 1 ? found.y : found.z));
     ivec4 stands = texelFetch(places, node, 0);
     vec3 place = vec3(stands.xyz);
+    vec4 spread = texelFetch(spots, node, 0);
+    mapped = spread.xy;
+    page = 0;
     if (now >= 0.0) {
       vec4 start = texelFetch(starts, node, 0);
-      place = mix(start.xyz, place, smoothstep(0.0, ${GLIDE.toFixed(2)}, now - start.w));
+      float part = smoothstep(0.0, ${GLIDE.toFixed(2)}, now - start.w);
+      place = mix(start.xyz, place, part);
+      mapped = mix(spread.zw, mapped, part);
     }
     float tall = dot(up, place) - lowest;
     rise = tall * rises.x + rises.y;
@@ -56,6 +63,7 @@ export const MESH_VERTEX = `#version 300 es
       uvec4 three = texelFetch(bends, cell(face), 0);
       normal = direction(which == 0 ? three.x : which == 1 ? three.y : three.z);
       hollow = float((three.w >> (8 * which)) & 255u) / 127.0 - 128.0 / 127.0;
+      page = int(three.w >> 24);
     } else {
       normal = vec3(texelFetch(normals, node, 0).xyz);
       hollow = 0.0;
@@ -70,8 +78,9 @@ export const MESH_FRAGMENT = `#version 300 es
   precision highp float;
   uniform vec3 light, fill, above, paper, ink;
   uniform float side;       // 1 of a closed mesh, -1 of one inside out, 0 of one that isn't closed
-  uniform int colour;       // 0 stone, 1 by depth, 2 edges alone, 3 the input's, 4 drape, 5 height
+  uniform int colour;       // by COLOURS of renderer.js
   uniform sampler2D drape;
+  uniform highp sampler2DArray pictures; // whose colours come as light
   uniform bool smoothly, hollows;
   uniform float edges;
   uniform vec3 up;
@@ -80,8 +89,9 @@ export const MESH_FRAGMENT = `#version 300 es
   uniform bool contours;
   uniform vec3 heights[${RAMP.length + 1}]; // the colours of heights, and that of water
   in vec3 seen, nearness, normal, own;
-  in vec2 spot;
+  in vec2 spot, mapped;
   in float rise, depth, hollow;
+  flat in int page;
   flat in float isPicked;
   out vec4 shown;
 
@@ -148,7 +158,8 @@ export const MESH_FRAGMENT = `#version 300 es
     vec3 laid = texture(drape, spot).rgb, stone = vec3(.60, .57, .53);
     bool isBare = colour == 0 || colour == 4 && spot != clamp(spot, 0.0, 1.0);
     vec3 told = colour == 1 ? ramp(depth) : colour == 4 ? laid : colour == 5 ? byHeight() : own;
-    vec3 base = isBare ? stone : pow(told, vec3(2.2));
+    vec3 pictured = texture(pictures, vec3(mapped.x, 1.0 - mapped.y, page)).rgb;
+    vec3 base = isBare ? stone : colour == 6 ? pictured : pow(told, vec3(2.2));
     // Less light comes into a hollow, and dust is worn off ridges.
     if (hollows) base *= 1.0 + (hollow < 0.0 ? 0.75 : 0.2) * hollow;
     if (colour == 2) {

@@ -1,7 +1,6 @@
 // The window: asks for the view of the camera, again and again, and draws what came last. It is the
 // same over a server and over an engine in the page: what differs is its worker.
 import { Divider } from "./divider.js";
-import { layDrape } from "./draping.js";
 import { showFault } from "./faults.js";
 import { Keeping } from "./keeping.js";
 import { Glides } from "./glides.js";
@@ -15,6 +14,7 @@ import { NO_FACE, watchTheme } from "./renderer.js";
 import { Session } from "./session.js";
 import { Steering } from "./steering.js";
 import { Terrain } from "./terrain.js";
+import { layPictures } from "./texturing.js";
 import { Views } from "./views.js";
 
 const CIRCLE = 0.25;        // radians a second of the slow circle
@@ -78,7 +78,7 @@ export class Viewer {
     this.camera = this.linked(link) ?? this.camera;
     this.controls = takeHands(this);
     watchTheme((theme) => this.change({ theme }), this.leaving.signal);
-    if (about.drape) await layDrape(this.scene.renderer, about.drape);
+    await layPictures(this.scene.renderer, about);
   }
 
   // The camera that a link tells, whose settings are taken; null where it tells of none.

@@ -4,6 +4,8 @@
 //   about()         what is told of the model
 //   stream()        its bytes, as a buffer
 //   colours()       three bytes for each vertex of the input
+//   spots()         where each node is in the pictures of a texture, u and v in 65,536ths
+//   pages()         which of the pictures each face has, a byte each
 //   packed()        the stream as a packed text, which the engine in a page can tell
 //   ask(script)     the bytes of the replies; arrays beside them, or null; how many bytes both
 //                   have; the milliseconds of each part of the way; and the numbers of the fronts
@@ -19,6 +21,7 @@ import { hollowsOf } from "./hollows.js";
 import { KeptMesh } from "./mesh.js";
 import { readReplies } from "./replies.js";
 import { shapeOf } from "./shape.js";
+import { spotsOf } from "./spots.js";
 import { Surface } from "./surface.js";
 import { clock, startClock } from "./tasks.js";
 import { WRITERS, levelOf } from "./writers.js";
@@ -36,14 +39,21 @@ class Working {
     const hierarchy = readHierarchy(await connection.stream());
     Object.assign(hierarchy, shapeOf(hierarchy));
     const colours = about.coloured ? meanColours(hierarchy, await connection.colours()) : null;
-    const talk = (script) => this.talk(`${ARRAYS}${script}`);
-    const follower = new Follower(new KeptMesh(hierarchy, colours), talk);
-    Object.assign(this, { connection, about, hierarchy, colours, follower });
+    Object.assign(this, { connection, about, hierarchy, colours, words: null });
+    if (about.textures) {
+      this.words = await connection.spots();
+      hierarchy.pages = await connection.pages();
+    }
+    this.follower = new Follower(this.newMesh(), (script) => this.talk(`${ARRAYS}${script}`));
     const { digits, faces, deepest, low, high, side, upright } = hierarchy;
     const box = boxOf(hierarchy), grounds = groundsOf(hierarchy, box), { grid } = this;
     const times = { ...connection.times, read: performance.now() - begun };
     const told = { digits, faces, deepest, low, high, side, upright, box, grounds, grid };
     return { about, times, hierarchy: told };
+  }
+
+  newMesh() {
+    return new KeptMesh(this.hierarchy, this.colours, this.words && spotsOf(this.words));
   }
 
   // How places lead back to the coordinates of the file that was opened.
@@ -91,7 +101,7 @@ class Working {
 
   // The input itself, to be drawn beside the front.
   async input() {
-    const mesh = new KeptMesh(this.hierarchy, this.colours);
+    const mesh = this.newMesh();
     return { patch: mesh.take(mesh.front.changeTo(fullFrame(this.hierarchy)), null) };
   }
 

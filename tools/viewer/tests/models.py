@@ -93,7 +93,7 @@ class Files(Case):
         notice = "vdpm: not proved on this machine yet, run-time checks are on; ./prove proves it"
         text = f"#!/bin/sh\necho '{notice}' >&2\nexec '{program()}' \"$@\"\n"
         fake = self.written("vdpm", text.encode(), runs=True)
-        fakes = Programs(fake, fake, fake, fake)
+        fakes = Programs(fake, fake, fake, fake, fake)
         self.assertFalse(model_of(STREAM, fakes).proved)
         with self.assertRaises(ProgramEnded) as caught:
             model_of(self.written("short", STREAM.read_bytes()[:50]), fakes)
@@ -114,7 +114,7 @@ class Files(Case):
         text = b"#!/bin/sh\necho 'vdpm: not built, so nothing was run' >&2\nexit 1\n"
         fake = self.written("vdpm", text, runs=True)
         with self.assertRaisesRegex(ProgramEnded, "status 1: vdpm: not built, so nothing was run"):
-            model_of(EXAMPLES / "octahedron.obj", Programs(fake, fake, fake, fake))
+            model_of(EXAMPLES / "octahedron.obj", Programs(fake, fake, fake, fake, fake))
 
     def test_the_command_says_what_is_wrong(self) -> None:
         words = [sys.executable, str(TOP / "viewer"), "--program", str(program()), "nowhere.obj"]
