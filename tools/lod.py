@@ -5,10 +5,11 @@
     python3 tools/lod.py MODEL --levels 5 --out FOLDER/NAME
 
 MODEL is an OBJ, PLY or STL file, or a stream. What comes out has the coordinates of the file, of a
-stream those that were built. `prepare` makes a mesh fit where it has to be, `simplify` finds the
-levels, and `vdpm` shows them; what these say goes to standard error. One line for each file goes to
-standard output: its name, how many triangles it has, how far a vertex is from those of the model
-that it stands for at most, and how far from the planes of their faces.
+stream those that were built; colours of OBJ vertices too, and as GLB textures with their pictures.
+`prepare` makes a mesh fit where it has to be, `simplify` finds the levels, and `vdpm` shows them;
+what these say goes to standard error. One line for each file goes to standard output: its name, how
+many triangles it has, how far a vertex is from those of the model that it stands for at most, and
+how far from the planes of their faces.
 
 NAME-0 is the finest of several levels, and each has half of the triangles of the one before. Ends
 with status 1 where a file can't be read or written or the model is refused, and says why.
@@ -22,10 +23,10 @@ TOP = Path(__file__).resolve().parent.parent
 sys.path.insert(0, str(TOP / "tools"))
 
 from lods.levels import Levels, levels_of  # noqa: E402
-from lods.shown import Level, grid_of, levels_shown  # noqa: E402
+from lods.shown import Level, Looks, grid_of, levels_shown  # noqa: E402
 from lods.written import FORMATS, WRITERS  # noqa: E402
 from viewer import model as making  # noqa: E402
-from viewer.main import programs_of  # noqa: E402
+from viewer.main import pictures_of, programs_of  # noqa: E402
 from viewer.program import ProgramEnded  # noqa: E402
 
 
@@ -76,13 +77,15 @@ def row(path: Path, level: Level) -> str:
 
 
 def write(asked: argparse.Namespace) -> None:
-    model = making.model_of(asked.model, programs_of(asked.program))
+    model = making.model_of(asked.model, programs_of(asked.program), asked.format == "glb")
+    looks = Looks(model, pictures_of(asked.model, model.dress))
     levels = levels_of(model.stream)
     grid = grid_of(levels.digits, model.scale)
     records = asked_records(asked, levels, grid.unit)
     if asked.faces is not None and levels.faces[records[0]] > asked.faces:
         making.tell(f"no pair of vertices may be collapsed below {levels.faces[0]:,} triangles")
-    shown = levels_shown(asked.program.resolve(), model.stream, grid, records[::-1])[::-1]
+    vdpm = asked.program.resolve()
+    shown = levels_shown(vdpm, model.stream, grid, records[::-1], looks)[::-1]
     name = asked.out or Path(asked.model.stem)
     for number, level in enumerate(shown):
         end = f"-{number}.{asked.format}" if asked.levels is not None else f".{asked.format}"

@@ -7,15 +7,17 @@ import sys
 import tempfile
 import unittest
 from pathlib import Path
-from typing import Dict, List, Tuple
+from typing import Any, Dict, List, Tuple
 
 TOOLS = Path(__file__).resolve().parent
 TOP = TOOLS.parent
 sys.path.insert(0, str(TOOLS))
 
 from lods.levels import distance_up, levels_of  # noqa: E402
-from lods.shown import Grid, Level, script_of  # noqa: E402
-from lods.written import decimals_of, glb, normals, obj, ply, stl  # noqa: E402
+from dressing.materials import PNG, Picture  # noqa: E402
+from lods.gltf import glb, normals  # noqa: E402
+from lods.shown import Grid, Level, Look, script_of  # noqa: E402
+from lods.written import decimals_of, obj, ply, stl  # noqa: E402
 from mesh_files.reading import read_soup  # noqa: E402
 
 OCTAHEDRON = TOP / "examples" / "octahedron.vdpm"
@@ -25,7 +27,7 @@ SQUARE = Level(
 )
 
 
-def parts_of(data: bytes) -> Tuple[Dict[str, object], bytes]:
+def parts_of(data: bytes) -> Tuple[Dict[str, Any], bytes]:
     """The document of a GLB file, and what it holds beside."""
     magic, version, size = struct.unpack_from("<4sII", data)
     assert (magic, version, size) == (b"glTF", 2, len(data))
@@ -83,6 +85,15 @@ class Written(unittest.TestCase):
         self.assertEqual(len(solid), 84 + 50 * 2)
         self.assertEqual(struct.unpack_from("<6f", solid, 84), (0, 0, 1, 100, 0, -1))
 
+    def test_obj_and_ply_have_the_colours_of_vertices(self) -> None:
+        coloured = SQUARE._replace(look=Look([(255, 0, 51)] * 4))
+        last = obj(coloured).splitlines()[3]
+        self.assertEqual(last, b"v 100.000 1.000 -1.000 1.0000 0.0000 0.2000")
+        head, _, data = ply(coloured).partition(b"end_header\n")
+        self.assertIn(b"double z\nproperty uchar red\nproperty uchar green\n", head)
+        self.assertEqual(data[24:27] + data[51:54], bytes([255, 0, 51] * 2))
+        self.assertEqual(len(data), 4 * 27 + 2 * 13)
+
     def test_glb_stands_at_the_middle_of_the_file(self) -> None:
         document, binary = parts_of(glb(SQUARE))
         self.assertEqual(document["nodes"], [{"mesh": 0, "translation": [100.0, 0.0, -1.0]}])
@@ -92,6 +103,25 @@ class Written(unittest.TestCase):
         self.assertEqual(struct.unpack_from("<3f", binary, 12), (1, 0, 0))
         self.assertEqual(struct.unpack_from("<3f", binary, 48), (0, 0, 1))
         self.assertEqual(struct.unpack_from("<6I", binary, 96), (0, 1, 2, 0, 2, 3))
+
+    def test_glb_has_colours_and_pictures(self) -> None:
+        pictures = [Picture((1, 1, 1), "image/png", PNG + b"x"), Picture((1.0, 0.0, 0.0))]
+        spots = [(0.0, 0.0), (1.0, 0.0), (1.0, 1.0), (0.0, 0.25)]
+        look = Look([(255, 0, 188)] * 4, spots, [0, 1], pictures)
+        document, binary = parts_of(glb(SQUARE._replace(look=look)))
+        told = json.dumps(document)
+        self.assertIn('"NORMAL": 1, "COLOR_0": 2, "TEXCOORD_0": 3}', told)
+        self.assertEqual(struct.unpack_from("<4B", binary, 96), (255, 0, 128, 255))
+        self.assertEqual(struct.unpack_from("<8f", binary, 112), (0, 1, 1, 1, 1, 0, 0, 0.75))
+        self.assertEqual(struct.unpack_from("<6I", binary, 144), (0, 1, 2, 0, 2, 3))
+        self.assertEqual(binary[168:177], PNG + b"x")
+        self.assertIn('"images": [{"bufferView": 6, "mimeType": "image/png"}]', told)
+        self.assertIn('"baseColorFactor": [1.0, 0.0, 0.0, 1]', told)
+
+    def test_glb_leaves_out_what_readers_may_not_know(self) -> None:
+        look = Look([], [(0.0, 0.0)] * 4, [0, 0], [Picture((1, 1, 1), "image/webp", b"RIFF")])
+        document, _ = parts_of(glb(SQUARE._replace(look=look)))
+        self.assertNotIn("images", document)
 
     def test_a_vertex_without_area_round_it_looks_up(self) -> None:
         self.assertEqual(list(normals([(0.0, 0.0, 0.0)], [])), [(0.0, 0.0, 1.0)])
@@ -139,6 +169,30 @@ class Program(unittest.TestCase):
                 self.assertEqual(soup.faces, 576)
                 self.assertAlmostEqual(max(soup.points), 0.6, places=4)
                 self.assertAlmostEqual(min(soup.points), -0.6, places=4)
+
+    def test_a_textured_model_keeps_its_pictures(self) -> None:
+        with tempfile.TemporaryDirectory() as room:
+            path = Path(f"{room}/m.obj")
+            steps = [(x, y) for y in range(9) for x in range(9)]
+            lines = [f"v {900 * x} {900 * y} 0\nvt {x / 8} {y / 8}" for x, y in steps]
+            for a in range(1, 72):
+                if a % 9:
+                    lines += [f"f {a}/{a} {a + 1}/{a + 1} {a + 10}/{a + 10}"]
+                    lines += [f"f {a}/{a} {a + 10}/{a + 10} {a + 9}/{a + 9}"]
+            path.write_text("usemtl a\n" + "\n".join(lines) + "\n")
+            path.with_suffix(".mtl").write_text("newmtl a\nmap_Kd p.png\n")
+            Path(f"{room}/p.png").write_bytes(PNG + b"all of it")
+            done = self.lod(str(path), "--faces", "60", "--format", "glb", "--out", f"{room}/g")
+            self.assertEqual(done.returncode, 0, done.stderr.decode())
+            document, binary = parts_of(Path(f"{room}/g.glb").read_bytes())
+            self.assertIn(PNG + b"all of it", binary)
+            self.assertIn('"TEXCOORD_0": 2', json.dumps(document))
+            count = document["accessors"][0]["count"]
+            points = struct.unpack_from(f"<{3 * count}f", binary)
+            spots = struct.unpack_from(f"<{2 * count}f", binary, 24 * count)
+            for i in range(count):
+                self.assertAlmostEqual(points[3 * i] / 7200, spots[2 * i], delta=0.01)
+                self.assertAlmostEqual(1 - points[3 * i + 1] / 7200, spots[2 * i + 1], delta=0.01)
 
     def test_a_faulty_file_is_told_by_line(self) -> None:
         with tempfile.TemporaryDirectory() as room:

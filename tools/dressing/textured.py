@@ -79,9 +79,14 @@ def _name(fields: List[bytes]) -> str:
     return b" ".join(fields[1:]).decode("utf-8", "replace")
 
 
+def has_texture(text: bytes) -> bool:
+    """Whether a file may have texture coordinates."""
+    return _HAS_SOME.search(text) is not None
+
+
 def read(text: bytes) -> Optional[Textured]:
     """None where no corner has a texture coordinate, or a number isn't one."""
-    if not _HAS_SOME.search(text):
+    if not has_texture(text):
         return None
     reader = _Reader()
     try:

@@ -1,5 +1,6 @@
 """The levels as meshes in the file's own coordinates, by `vdpm live`, which shows them."""
 import io
+import struct
 import sys
 from pathlib import Path
 from typing import List, NamedTuple, Optional, Sequence, Tuple
@@ -7,9 +8,13 @@ from typing import List, NamedTuple, Optional, Sequence, Tuple
 sys.path.insert(0, str(Path(__file__).resolve().parent.parent))
 
 from frames import Frame, read_frames  # noqa: E402
+from dressing.coat import WIDTH  # noqa: E402
+from dressing.materials import Picture  # noqa: E402
 from viewer import manual  # noqa: E402
-from viewer.model import Scale, needed, run  # noqa: E402
+from viewer.hierarchy import Colour, mean_colours, nodes_of  # noqa: E402
+from viewer.model import Model, Scale, needed, run  # noqa: E402
 
+_SPOT = struct.Struct("<2i")
 Point = Tuple[float, float, float]
 
 
@@ -24,6 +29,16 @@ class Grid(NamedTuple):
         return x, y, z
 
 
+class Look(NamedTuple):
+    """What a mesh is drawn with, where there is something: colours and texture coordinates by
+    place, v from below; and by face the page, each of which has a picture."""
+
+    colours: List[Colour] = []
+    spots: List[Tuple[float, float]] = []
+    pages: List[int] = []
+    pictures: Sequence[Picture] = ()
+
+
 class Level(NamedTuple):
     """A mesh of the file, coarser than it; lengths are in the file's units."""
 
@@ -32,6 +47,7 @@ class Level(NamedTuple):
     faces: List[Tuple[int, int, int]]  # corners by place, from 0
     error: float  # no vertex is farther from those that it stands for
     deviation: float  # nor from the planes of their faces
+    look: Look = Look()
 
 
 def grid_of(digits: int, scale: Optional[Scale]) -> Grid:
@@ -53,16 +69,36 @@ def script_of(records: Sequence[int]) -> bytes:
     return "".join(line + "\n" for line in lines).encode()
 
 
-def levels_shown(vdpm: Path, stream: bytes, grid: Grid, records: Sequence[int]) -> List[Level]:
+class Looks:
+    """What the nodes and faces of a model are drawn with."""
+
+    def __init__(self, model: Model, pictures: Sequence[Picture]) -> None:
+        self.colours = mean_colours(nodes_of(model.stream), model.colours)
+        self.pictures = pictures
+        self.spots, self.pages = model.dress.painted if model.dress else (b"", b"")
+
+    def of(self, frame: Frame) -> Look:
+        colours = [self.colours[node] for node in frame.nodes] if self.colours else []
+        if not self.spots:
+            return Look(colours)
+        spots = [_SPOT.unpack_from(self.spots, _SPOT.size * node) for node in frame.nodes]
+        whole = [(u / WIDTH, v / WIDTH) for u, v in spots]
+        return Look(colours, whole, [self.pages[face] for face in frame.numbers], self.pictures)
+
+
+def levels_shown(
+    vdpm: Path, stream: bytes, grid: Grid, records: Sequence[int], looks: Optional[Looks] = None
+) -> List[Level]:
     """The front after each of so many records, which go up."""
     done = run(vdpm, ["live", "0"], stream + script_of(records), "showing the levels")
     text = needed(done, manual.SCRIPT).out.decode("ascii")
     told = [line.split(" ") for line in text.splitlines() if line.startswith("level ")]
-    frames = read_frames(io.StringIO(text))
-    return [level_of(frame, line, grid) for frame, line in zip(frames, told)]
+    frames = list(read_frames(io.StringIO(text)))
+    found = [looks.of(frame) if looks else Look() for frame in frames]
+    return [level_of(*each, grid) for each in zip(frames, found, told)]
 
 
-def level_of(frame: Frame, told: Sequence[str], grid: Grid) -> Level:
+def level_of(frame: Frame, look: Look, told: Sequence[str], grid: Grid) -> Level:
     """The frame with what a line `level NODES FACES SPLIT ERROR DEVIATION` tells of it."""
     error, deviation = (grid.unit * int(number) for number in told[4:6])
-    return Level(frame.points, grid, frame.faces, error, deviation)
+    return Level(frame.points, grid, frame.faces, error, deviation, look)

@@ -41,8 +41,9 @@ def _sum_of_program(path: Path) -> Optional[str]:
     return next((sum_of_file(each) for each in built if is_current(program, each)), None)
 
 
-def name_for(text: bytes, programs: Programs) -> Optional[str]:
-    """The name of what these programs build of a text; None where they can't be known yet."""
+def name_for(text: bytes, programs: Programs, dresses: bool = False) -> Optional[str]:
+    """The name of what these programs build of a text, dressed or not; None where they can't be
+    known yet."""
     builders = (programs.vdpm, programs.prepare, programs.simplify, programs.paint)
     try:
         sums = [_sum_of_program(path) for path in builders]
@@ -51,7 +52,7 @@ def name_for(text: bytes, programs: Programs) -> Optional[str]:
     known = [each for each in sums if each is not None]
     if len(known) < len(sums):
         return None
-    total = hashlib.sha256(_FORM)
+    total = hashlib.sha256(_FORM + (b"dressed\n" if dresses else b""))
     for each in (hashlib.sha256(text).hexdigest(), *known):
         total.update(f"{each}\n".encode())
     return total.hexdigest()

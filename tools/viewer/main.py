@@ -27,6 +27,7 @@ from types import FrameType
 from typing import List, Optional, Union
 
 from dressing.materials import Picture, pictures_for
+from dressing.textured import has_texture
 
 from . import kept, progress, seat
 from .alone import page_of
@@ -89,7 +90,8 @@ def programs_of(vdpm: Path) -> Programs:
 def found(asked: argparse.Namespace) -> Model:
     """The model that is asked for; ProgramEnded where it can't be had."""
     try:
-        model = model_kept(asked.model, programs_of(asked.program), asked.fresh)
+        dresses = not asked.page and asked.film is None  # (these show no textures)
+        model = model_kept(asked.model, programs_of(asked.program), asked.fresh, dresses)
     except OSError as fault:
         raise ProgramEnded(f"it can't be read: {fault.strerror}") from fault
     tell(f"{asked.model}: {model.counts}")
@@ -104,17 +106,18 @@ def loaded(asked: argparse.Namespace) -> Model:
         sys.exit(f"viewer: {asked.model}: {fault}")
 
 
-def model_kept(path: Path, programs: Programs, fresh: bool) -> Model:
+def model_kept(path: Path, programs: Programs, fresh: bool, dresses: bool) -> Model:
     """The model of a file. What was built of a text once is taken again, unless it shall be built
     afresh."""
     text = path.read_bytes()
-    key = None if is_built(text) else kept.name_for(text, programs)
+    dresses = dresses and has_texture(text)
+    key = None if is_built(text) else kept.name_for(text, programs, dresses)
     found = None if fresh or key is None else kept.found(key, path.name)
     if found is not None:
         tell(f"it was built before, and kept in {kept.folder()}: --fresh builds it anew")
         return found
-    model = model_of(path, programs)
-    key = None if is_built(text) else kept.name_for(text, programs)
+    model = model_of(path, programs, dresses)
+    key = None if is_built(text) else kept.name_for(text, programs, dresses)
     if key is not None:  # (programs that are built by their first run are known after it)
         kept.keep(key, model)
     return model

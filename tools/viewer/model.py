@@ -188,12 +188,12 @@ def unpacked(text: bytes, pack: Path) -> Done:
     return needed(run(pack, ["--unpack"], text, "unpacking"), manual.PACK)
 
 
-def model_of(path: Path, programs: Programs) -> Model:
+def model_of(path: Path, programs: Programs, dresses: bool = False) -> Model:
     """The model of a file; ProgramEnded where it can't be had, and OSError where it can't be
-    read."""
+    read. Where `dresses` says so it has the dress of a textured file, and is cut open for that."""
     text = path.read_bytes()
     if not is_built(text):
-        return _built(path.name, text_at(path), text, programs)
+        return _built(path.name, text_at(path), text, programs, dresses)
     stream = unpacked(text, programs.pack)
     checked = needed(run(programs.vdpm, ["check"], stream.out, "checking"), manual.STREAM)
     counts = checked.out.decode("ascii").strip()
@@ -201,9 +201,9 @@ def model_of(path: Path, programs: Programs) -> Model:
 
 
 def with_packed_stream(model: Model, programs: Programs) -> Model:
-    """A model as a page has it in it, which shows no textures yet."""
+    """A model as a page has it in it."""
     done = needed(run(programs.pack, [], model.stream, "packing"), manual.STREAM)
-    return model._replace(stream=done.out, dress=None)
+    return model._replace(stream=done.out)
 
 
 def text_at(path: Path) -> bytes:
@@ -217,7 +217,7 @@ def text_at(path: Path) -> bytes:
     return text
 
 
-def _built(name: str, text: bytes, given: bytes, programs: Programs) -> Model:
+def _built(name: str, text: bytes, given: bytes, programs: Programs, dresses: bool) -> Model:
     """The model of a text that was made of what a file has."""
     progress.current.faces = obj.face_count(text)
     mesh, digits, prepared, notes = _fitting(text, given, programs)
@@ -227,7 +227,7 @@ def _built(name: str, text: bytes, given: bytes, programs: Programs) -> Model:
     scale = scale_of(mesh) if prepared else None
     found = _colours(text, mesh, prepared, scale)
     stands = (scale or Scale(1.0, (0.0, 0.0, 0.0))) if prepared else None
-    cut = dressed(text, mesh, stands)
+    cut = dressed(text, mesh, stands) if dresses else None
     tell(f"building a hierarchy of {faces:,} faces")
     begun = time.monotonic()
     words = ["0", "--digits", str(digits), *(["--keep-border"] if cut else [])]

@@ -13,9 +13,9 @@ import math
 from pathlib import Path
 from typing import Any, Dict, List, NamedTuple, Sequence, Tuple
 
+from lods.gltf import glb
 from lods.levels import levels_of
 from lods.shown import Grid, Level, levels_shown
-from lods.written import glb
 
 from .earth import on_earth, sagitta
 from .form import Tile, World, WorldFault, moved

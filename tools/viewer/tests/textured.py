@@ -50,13 +50,13 @@ def place(round_part: float, high: float) -> List[float]:
 
 class Keeping(Case):
     def test_a_dress_is_kept_with_its_model(self) -> None:
-        built = model_of(cylinder(self.folder()), programs_of(program()))
+        built = model_of(cylinder(self.folder()), programs_of(program()), True)
         assert built.dress is not None
         self.assertEqual(built.dress.pages, ("sides", "plain"))
         self.assertEqual(kept.unpacked(built.name, kept.packed(built)), built)
 
     def test_each_face_has_its_page_and_each_node_its_place(self) -> None:
-        built = model_of(cylinder(self.folder()), programs_of(program()))
+        built = model_of(cylinder(self.folder()), programs_of(program()), True)
         assert built.dress is not None
         spots, pages = built.dress.painted
         self.assertEqual((len(pages), sum(pages)), (built.faces, HIGH))
@@ -68,7 +68,7 @@ class Keeping(Case):
 @unittest.skipUnless(found(), "no Chromium")
 class Textured(Case):
     def shown(self, path: Path) -> Server:
-        built: Model = model_of(path, programs_of(program()))
+        built: Model = model_of(path, programs_of(program()), True)
         server = self.served(built)
         server.showing.pictures = pictures_of(path, built.dress)
         self.page = browser()
