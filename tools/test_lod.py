@@ -104,18 +104,22 @@ class Written(unittest.TestCase):
         self.assertEqual(struct.unpack_from("<3f", binary, 48), (0, 0, 1))
         self.assertEqual(struct.unpack_from("<6I", binary, 96), (0, 1, 2, 0, 2, 3))
 
-    def test_glb_has_colours_and_pictures(self) -> None:
+    def test_glb_has_colours(self) -> None:
+        document, binary = parts_of(glb(SQUARE._replace(look=Look([(255, 0, 188)] * 4))))
+        self.assertIn('"NORMAL": 1, "COLOR_0": 2}', json.dumps(document))
+        self.assertEqual(struct.unpack_from("<4B", binary, 96), (255, 0, 128, 255))
+
+    def test_glb_has_pictures(self) -> None:
         pictures = [Picture((1, 1, 1), "image/png", PNG + b"x"), Picture((1.0, 0.0, 0.0))]
         spots = [(0.0, 0.0), (1.0, 0.0), (1.0, 1.0), (0.0, 0.25)]
         look = Look([(255, 0, 188)] * 4, spots, [0, 1], pictures)
         document, binary = parts_of(glb(SQUARE._replace(look=look)))
         told = json.dumps(document)
-        self.assertIn('"NORMAL": 1, "COLOR_0": 2, "TEXCOORD_0": 3}', told)
-        self.assertEqual(struct.unpack_from("<4B", binary, 96), (255, 0, 128, 255))
-        self.assertEqual(struct.unpack_from("<8f", binary, 112), (0, 1, 1, 1, 1, 0, 0, 0.75))
-        self.assertEqual(struct.unpack_from("<6I", binary, 144), (0, 1, 2, 0, 2, 3))
-        self.assertEqual(binary[168:177], PNG + b"x")
-        self.assertIn('"images": [{"bufferView": 6, "mimeType": "image/png"}]', told)
+        self.assertIn('"NORMAL": 1, "TEXCOORD_0": 2}', told)
+        self.assertEqual(struct.unpack_from("<8f", binary, 96), (0, 1, 1, 1, 1, 0, 0, 0.75))
+        self.assertEqual(struct.unpack_from("<6I", binary, 128), (0, 1, 2, 0, 2, 3))
+        self.assertEqual(binary[152:161], PNG + b"x")
+        self.assertIn('"images": [{"bufferView": 5, "mimeType": "image/png"}]', told)
         self.assertIn('"baseColorFactor": [1.0, 0.0, 0.0, 1]', told)
 
     def test_glb_leaves_out_what_readers_may_not_know(self) -> None:

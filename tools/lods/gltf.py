@@ -1,4 +1,5 @@
-"""glTF 2.0 in one file: a mesh with its normals, and with colours and pictures if it has some."""
+"""glTF 2.0 in one file: a mesh with its normals, and with the colours of its vertices or else the
+pictures of its texture."""
 import json
 import math
 import struct
@@ -104,10 +105,10 @@ def _attributes(file: _File, level: Level) -> Json:
     }
     found: Json = {"POSITION": file.vertices(points, **box)}
     found["NORMAL"] = file.vertices(list(normals(points, level.faces)))
-    if look.colours:
-        found["COLOR_0"] = file.colours(look.colours)
-    if look.spots:
+    if look.spots:  # (which colours of vertices would darken)
         found["TEXCOORD_0"] = file.vertices([(u, 1 - v) for u, v in look.spots])
+    elif look.colours:
+        found["COLOR_0"] = file.colours(look.colours)
     return found
 
 

@@ -7,7 +7,7 @@ FILES = (
     "index.html", "bar.css", "style.css", "arrays.js", "awaiting.js", "bar.js", "bends.js",
     "boot.js", "camera.js", "cells.js", "connection.js", "controls.js", "coordinate.js",
     "divider.js", "doing.js", "drape.js", "draping.js", "fault.js", "faults.js", "fitting.js",
-    "follower.js", "front.js", "glides.js", "ground.js", "hands.js", "heights.js",
+    "follower.js", "front.js", "glides.js", "gltf.js", "ground.js", "hands.js", "heights.js",
     "hierarchy.js", "hollowing.js", "hollows.js", "keeping.js", "late.js", "layout.js",
     "leaving.js", "link.js", "main.js", "matrices.js", "mesh.js", "normals.js", "panel.js",
     "picking.js", "pictures.js", "relief.js", "remembering.js", "renderer.js", "replies.js",

@@ -40,6 +40,14 @@ export class Connection {
 
   async pages() { return new Uint8Array(await (await fetched("pages")).arrayBuffer()); }
 
+  // One of the pictures, by what is told of it, as its file has it.
+  async picture({ colour, hasPicture }, number) {
+    if (!hasPicture) return { colour, kind: "", bytes: null };
+    const answer = await fetched(`picture/${number}`);
+    const bytes = new Uint8Array(await answer.arrayBuffer());
+    return { colour, kind: answer.headers.get("Content-Type"), bytes };
+  }
+
   async flight() { return (await fetched("flight")).text(); }
 
   async start(budget) { await fetched("start", { method: "POST", body: String(budget) }); }

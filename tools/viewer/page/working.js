@@ -6,6 +6,7 @@
 //   colours()       three bytes for each vertex of the input
 //   spots()         where each node is in the pictures of a texture, u and v in 65,536ths
 //   pages()         which of the pictures each face has, a byte each
+//   picture(told, i) one of them, { colour, kind, bytes }, by what is told of it
 //   packed()        the stream as a packed text, which the engine in a page can tell
 //   ask(script)     the bytes of the replies; arrays beside them, or null; how many bytes both
 //                   have; the milliseconds of each part of the way; and the numbers of the fronts
@@ -114,8 +115,17 @@ class Working {
 
   // The mesh shown, as a file of another program, in the coordinates of the file that was opened.
   async mesh({ format }) {
-    const level = levelOf(this.follower.mesh.front.frame(), this.colours, this.grid);
+    const dress = format === "glb" ? await this.dress() : null;
+    const level = levelOf(this.follower.mesh.front.frame(), this.colours, this.grid, dress);
     return { bytes: WRITERS[format](level) };
+  }
+
+  // What nodes and faces have of a texture, with its pictures; null where there is none.
+  async dress() {
+    if (this.words === null) return null;
+    const { hierarchy: { pages }, about: { textures }, connection } = this;
+    const pictures = await Promise.all(textures.map((told, i) => connection.picture(told, i)));
+    return { spots: spotsOf(this.words).goals, pages, pictures };
   }
 
   // The model itself, to be put into a page.

@@ -107,8 +107,8 @@ class Keeping(Page):
         size, told = struct.unpack_from("<II", data, 8)
         head = json.loads(data[20:20 + told])
         self.assertEqual((data[:4], size), (b"glTF", len(data)))
-        place, count = head["accessors"][1], len(frame.points)
-        self.assertEqual((place["count"], head["accessors"][0]["count"]), (count, 3 * self.faces()))
+        place, count = head["accessors"][0], len(frame.points)
+        self.assertEqual((place["count"], head["accessors"][2]["count"]), (count, 3 * self.faces()))
         self.assertEqual(head["buffers"][0]["byteLength"], len(data) - 28 - told)
         for high, middle in zip(place["max"], scale.middle):
             self.assertLess(abs(high - middle), 0.61)  # the ring is 1.2 metres wide

@@ -1,5 +1,7 @@
 """The pictures of a textured file in the window."""
+import json
 import math
+import struct
 import unittest
 from pathlib import Path
 from typing import List
@@ -102,6 +104,22 @@ class Textured(Case):
         faces = int(self.page.run("viewer.shown.faceCount"))
         self.assertLess(faces, ROUND * HIGH, faces)
         self.assertEqual([self.seen(part, 0.75) for part in (0.2, 0.7)], ["red", "green"])
+
+    def test_a_saved_mesh_has_its_pictures(self) -> None:
+        path = cylinder(self.folder())
+        self.shown(path)
+        self.page.run("document.getElementById('save-glb').click()")
+        faces = self.page.run("viewer.shown.faceCount")
+        data = self.page.downloaded(f"cylinder-{faces}.glb")
+        told = json.loads(data[20 : 20 + struct.unpack_from("<I", data, 12)[0]])
+        primitives = told["meshes"][0]["primitives"]
+        counts = [told["accessors"][one["indices"]]["count"] for one in primitives]
+        self.assertEqual(sum(counts), 3 * faces)
+        self.assertEqual([one["material"] for one in primitives], [0, 1])
+        self.assertEqual(told["images"][0]["mimeType"], "image/png")
+        self.assertIn((path.parent / "sides.png").read_bytes(), data)
+        spots = told["accessors"][primitives[0]["attributes"]["TEXCOORD_0"]]
+        self.assertEqual((spots["type"], spots["count"]), ("VEC2", told["accessors"][0]["count"]))
 
     def test_a_picture_that_is_missing_is_told(self) -> None:
         path = cylinder(self.folder())
