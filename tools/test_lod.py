@@ -174,6 +174,18 @@ class Program(unittest.TestCase):
                 self.assertAlmostEqual(max(soup.points), 0.6, places=4)
                 self.assertAlmostEqual(min(soup.points), -0.6, places=4)
 
+    def test_colours_of_a_ply_file_stay(self) -> None:
+        with tempfile.TemporaryDirectory() as room:
+            lines = ["v 0 0 0 1 0 0", "v 9 0 0 0 1 0", "v 0 9 0 0 0 1", "f 1 2 3", ""]
+            Path(f"{room}/a.obj").write_text("\n".join(lines))
+            for given, made in (("a.obj", "ply"), ("b.ply", "obj")):
+                words = ("--error", "0", "--format", made, "--out", f"{room}/b")
+                done = self.lod(f"{room}/{given}", *words)
+                self.assertEqual(done.returncode, 0, done.stderr.decode())
+            told = {tuple(map(float, line.split()[1:])) for line in
+                    Path(f"{room}/b.obj").read_text().splitlines()[:3]}
+            self.assertEqual(told, {tuple(map(float, line.split()[1:])) for line in lines[:3]})
+
     def test_a_textured_model_keeps_its_pictures(self) -> None:
         with tempfile.TemporaryDirectory() as room:
             path = Path(f"{room}/m.obj")

@@ -14,7 +14,7 @@ from mesh_files.filed import BLOCK, Filed  # noqa: E402
 from mesh_files import obj  # noqa: E402
 from mesh_files.ears import triangles_of  # noqa: E402
 from mesh_files.reading import as_obj, polygons_of, read_soup  # noqa: E402
-from mesh_files.soup import MeshFault, Soup  # noqa: E402
+from mesh_files.soup import MeshFault, Soup, filed_soup  # noqa: E402
 
 TYPES: Dict[str, str] = {
     "char": "b", "uchar": "B", "short": "h", "ushort": "H", "int": "i", "uint": "I",
@@ -125,6 +125,27 @@ class Ply(WithFolder):
         passed = self.read(ply("ascii", "double", "uchar", "int", between=True)).passed
         wanted = {"vertex colours": 5, "edge elements": 2, "flags properties": 4}
         self.assertEqual(passed, wanted)
+
+    def test_colours_of_vertices(self) -> None:
+        for kind, parts, wanted in (
+            ("uchar", "7 0 255 9", [7, 0, 255]), ("float", "0.5 2 -1 0", [128, 255, 0]),
+            ("ushort", "65535 256 255 0", [255, 1, 0]), ("double", "nan 1 0.2 1", [0, 255, 51]),
+        ):
+            for names in ("red green blue alpha", "diffuse_red diffuse_green diffuse_blue alpha"):
+                head = "".join(f"property {kind} {name}\n" for name in names.split())
+                path = self.room / "c.ply"
+                path.write_text(
+                    "ply\nformat ascii 1.0\nelement vertex 3\nproperty float x\nproperty float y\n"
+                    f"property float z\n{head}element face 1\n"
+                    "property list uchar int vertex_index\n"
+                    f"end_header\n0 0 0 {parts}\n1 0 0 {parts}\n0 1 0 {parts}\n3 0 1 2\n"
+                )
+                soup = read_soup(path)
+                self.assertEqual((list(soup.colours), soup.passed), (3 * wanted, {}))
+                text, notes = as_obj(path)
+                fields = text.split(b"\n")[2].split()[4:]
+                self.assertEqual([round(255 * float(field)) for field in fields], wanted)
+                self.assertEqual((len(read_soup(path, soup=filed_soup()).colours), notes), (0, []))
 
     def test_faults_of_the_head(self) -> None:
         good = ply("ascii", "float32", "uchar", "int")

@@ -19,6 +19,10 @@ _KINDS = {
     "texture coordinates": "s t u v texture_u texture_v texcoord texnumber",
 }
 _KIND_OF = {name: kind for kind, names in _KINDS.items() for name in names.split()}
+_COLOURS = (
+    ("red", "green", "blue"), ("r", "g", "b"), ("diffuse_red", "diffuse_green", "diffuse_blue"),
+)
+_ALPHA = ("alpha", "a")
 _LONGEST_HEAD = 65_536
 Number = Union[int, float]
 
@@ -238,14 +242,32 @@ class _Binary(_Rows):
         return struct.unpack(f"{self.order}{count}{letter}", self.take(size, element, k))
 
 
-def _add_vertices(soup: Soup, rows: Iterator[Tuple[str, Row]], element: Element) -> None:
+def colours_of(element: Element) -> Tuple[str, ...]:
+    """The names of the properties that are the colour of a vertex; none where there is no one."""
+    single = {one.name for one in element.properties if not one.counter}
+    return next((names for names in _COLOURS if single.issuperset(names)), ())
+
+
+def _byte(part: Number, letter: str) -> int:
+    """A part of a colour, which is from 0 to 1 where it has decimals, and else to 255 or 65,535."""
+    if letter in "fd":
+        return round(255 * min(1.0, max(0.0, part))) if part == part else 0
+    return min(255, max(0, int(part) >> (8 if letter == "H" else 0)))
+
+
+def _add_vertices(
+    soup: Soup, rows: Iterator[Tuple[str, Row]], element: Element, colours: Tuple[str, ...]
+) -> None:
     names = [one.name for one in element.properties]
     x, y, z = (names.index(axis) for axis in "xyz")
+    parts = [(names.index(name), element.properties[names.index(name)].letter) for name in colours]
     for place, row in rows:
         try:
             soup.points.extend(finite((row[x], row[y], row[z])))  # type: ignore[arg-type]
         except MeshFault as fault:
             raise MeshFault(f"{place}: {fault}") from None
+        for at, letter in parts:
+            soup.colours.append(_byte(row[at], letter))  # type: ignore[arg-type]
 
 
 def _add_faces(soup: Soup, rows: Iterator[Tuple[str, Row]], element: Element, most: int) -> None:
@@ -279,8 +301,9 @@ def read(file: BinaryIO, size: int, soup: Soup) -> None:
     most = next(element.count for element in head.elements if element.name == "vertex")
     for element in head.elements:
         if element.name == "vertex":
-            _add_vertices(soup, rows.rows(element), element)
-            _pass_over(soup, element, ("x", "y", "z"))
+            colours = () if soup.is_filed else colours_of(element)
+            _add_vertices(soup, rows.rows(element), element, colours)
+            _pass_over(soup, element, ("x", "y", "z", *colours, *(_ALPHA if colours else ())))
         elif element.name == "face":
             _add_faces(soup, rows.rows(element), element, most)
             _pass_over(soup, element, _INDICES)

@@ -122,12 +122,15 @@ def polygons_of(soup: Soup) -> Iterator[List[int]]:
 
 
 def text_of(soup: Soup) -> bytes:
-    """An OBJ text with the same numbers: binary ones with all their decimals."""
+    """An OBJ text with the same numbers: binary ones with all their decimals; and with colours."""
     told = exact if soup.is_binary else repr
     numbers = iter(soup.points)
     lines = [
         f"v {told(x)} {told(y)} {told(z)}" for x, y, z in zip(numbers, numbers, numbers)
     ]
+    parts = iter(soup.colours)
+    for number, colour in enumerate(zip(parts, parts, parts)):
+        lines[number] += "".join(f" {part / 255:.6f}" for part in colour)
     lines += ["f " + " ".join(str(v + 1) for v in corners) for corners in polygons_of(soup)]
     return ("\n".join(lines) + "\n").encode("ascii")
 

@@ -18,14 +18,16 @@ class MeshFault(Exception):
 class Soup:
     """Three numbers a point; three numbers of points, from 0, a triangle. A polygon stands as the
     fan of triangles at its first corner: `polygons` has two numbers of each, the first of them and
-    how many corners it has. `passed` counts what was passed over, by name."""
+    how many corners it has. `colours` has three bytes a point, or none. `passed` counts what was
+    passed over, by name."""
 
     points: Numbers = field(default_factory=lambda: array("d"))
     corners: Numbers = field(default_factory=lambda: array("I"))
     polygons: Numbers = field(default_factory=lambda: array("I"))
+    colours: bytearray = field(default_factory=bytearray)
     passed: Dict[str, int] = field(default_factory=dict)
     is_binary: bool = False  # its coordinates are binary numbers, and not decimals
-    is_filed: bool = False  # it is in files; corners of an STL file aren't joined then
+    is_filed: bool = False  # it is in files, without colours and with an STL file's corners apart
 
     @property
     def faces(self) -> int:
