@@ -6,6 +6,7 @@ import { Fault } from "../page/fault.js";
 import { Fault as TextFault } from "../../wasm/faults.mjs";
 import { colouredVertices, packed, packedByPlace } from "./colours.js";
 import { hasColours, isPacked, isScan, isStream, otherKind } from "./kinds.js";
+import { colouredPly } from "./ply.js";
 
 const MOST_DIGITS = 4, TOO_MANY_DECIMALS = 5, NO_FACE = 12;
 const TOO_MUCH = [9, 15, 25, 26, 52, 53];
@@ -46,7 +47,8 @@ export function built(engine, bytes, { told, words }) {
 
 function ofScan(engine, bytes, told) {
   told({ faces: Math.ceil(bytes.length / A_FACE) });
-  return prepared(engine, bytes, null, told, hasColours(bytes) ? ["colours of PLY ignored"] : []);
+  const vertices = colouredPly(bytes), isLost = vertices === null && hasColours(bytes);
+  return prepared(engine, bytes, vertices, told, isLost ? ["colours of PLY ignored"] : []);
 }
 
 function ofText(engine, bytes, told) {

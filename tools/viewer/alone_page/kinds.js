@@ -26,7 +26,7 @@ function isBinaryStl(bytes) {
 // Whether a file is a PLY or STL file, which `prepare` reads.
 export const isScan = (bytes) => PLY_OR_STL.test(beginning(bytes, 64)) || isBinaryStl(bytes);
 
-// Whether it is a PLY file whose vertices have colours, which `prepare` doesn't read.
+// Whether it is a PLY file with colours, which `prepare` doesn't read.
 export const hasColours = (bytes) => COLOURED.test(beginning(bytes, LOOKED_AT));
 
 // Words for a file that is no text, or one of another kind; null of one that may be an OBJ file.

@@ -1,6 +1,9 @@
 """The page that needs no server, opened from a file: what is dropped on it, what it has in it, and
 what it refuses."""
+import json
 import os
+import shutil
+import struct
 import subprocess
 import sys
 import unittest
@@ -21,6 +24,53 @@ from .pages import browser
 SHOWN = "alone.times && alone.coming === null && globalThis.viewer?.isSettled"
 FAULTY = "!document.getElementById('fault').hidden"
 SQUARE = b"v 0 0 0 1 0 0\nv 9.123456789 0 0 0 1 0\nv 9 9.5 0 0 0 1\nf 1 2 3\n"
+
+
+PLY_JS = Path(__file__).resolve().parent.parent / "alone_page" / "ply.js"
+COLOURED = """import { readFileSync } from "node:fs";
+import { colouredPly } from %s;
+const found = colouredPly(new Uint8Array(readFileSync(0)));
+console.log(JSON.stringify(found && [...found]));"""
+
+
+@unittest.skipUnless(shutil.which("node"), "no node")
+class Ply(unittest.TestCase):
+    """The places and colours of vertices."""
+
+    def found(self, data: bytes) -> Any:
+        words = ["node", "--input-type=module", "-e", COLOURED % json.dumps(str(PLY_JS))]
+        done = subprocess.run(words, input=data, capture_output=True, check=True)
+        return json.loads(done.stdout)
+
+    def head(self, form: str, kind: str, names: str = "red green blue", more: str = "") -> bytes:
+        lines = ["ply", f"format {form} 1.0", "comment of a test", "element vertex 2"]
+        lines += [f"property float {axis}" for axis in "zxy"]
+        lines += [f"property {kind} {name}" for name in names.split()] + ["property char odd"]
+        lines += [more] if more else []
+        lines += ["element face 1", "property list uchar int vertex_index", "end_header", ""]
+        return "\n".join(lines).encode()
+
+    def test_binary_of_both_orders_and_ascii(self) -> None:
+        wanted = [1, 2, 3, 0, 0.2, 1, 4, 5, 6, 1, 0, 0]
+        for kind, letter, most in (("uchar", "B", 255), ("ushort", "H", 65535), ("float", "f", 1)):
+            colours = [0, 0.2 * most, most], [most, 0, 0]
+            numbers = colours if letter == "f" else [[round(n) for n in one] for one in colours]
+            rows = [((3.0, 1.0, 2.0), numbers[0]), ((6.0, 4.0, 5.0), numbers[1])]
+            for form, order in (("binary_little_endian", "<"), ("binary_big_endian", ">")):
+                data = b"".join(struct.pack(f"{order}3f3{letter}b", *a, *b, 7) for a, b in rows)
+                found = self.found(self.head(form, kind) + data + b"\3")
+                self.assertEqual([round(n, 4) for n in found], wanted, (form, kind))
+            text = "\n".join(" ".join(map(str, (*a, *b, 7))) for a, b in rows) + "\n3 0 1 0\n"
+            found = self.found(self.head("ascii", kind, "r g b") + text.encode())
+            self.assertEqual([round(n, 4) for n in found], wanted, kind)
+
+    def test_others_have_none(self) -> None:
+        for data in (
+            self.head("ascii", "uchar", "red green"), b"ply\n", b"ply\nend_header\n", b"v 0 0 0\n",
+            self.head("ascii", "uchar", more="property list uchar int many"),
+            self.head("ascii", "colour"),
+        ):
+            self.assertIsNone(self.found(data))
 
 
 @lru_cache(maxsize=None)
@@ -127,21 +177,23 @@ class Showing(Page):
         head += "".join(f"property float {axis}\n" for axis in "xyz")
         head += "".join(f"property uchar {part}\n" for part in ("red", "green", "blue"))
         head += "element face 2\nproperty list uchar int vertex_indices\nend_header\n"
-        rows = [*(f"{corner} 9 9 9" for corner in corners), "3 0 1 2", "3 0 2 3", ""]
+        rows = [*(f"{corner} 250 9 9" for corner in corners), "3 0 1 2", "3 0 2 3", ""]
         facets = "".join(
             "facet normal 0 0 1\nouter loop\n"
             + "".join(f"vertex {corners[at]}\n" for at in face) + "endloop\nendfacet\n"
             for face in ((0, 1, 2), (0, 2, 3))
         )
         for name, text, said in (
-            ("scan.ply", head + "\n".join(rows), "Not shown: vertex colours"),
-            ("part.stl", f"solid part\n{facets}endsolid part\n", "prepare"),
+            ("scan.ply", head + "\n".join(rows), "own"),
+            ("part.stl", f"solid part\n{facets}endsolid part\n", "stone"),
         ):
             self.drop(self.written(name, text.encode()))
             self.page.until(f"document.title === {name!r} || {FAULTY}")
             self.shows(name)
             self.assertEqual(self.value("viewer.hierarchy.faces"), 2)
-            self.assertIn(said, self.text("notice"))
+            self.assertIn("prepare", self.text("notice"))
+            self.assertNotIn("Not shown", self.text("notice"))
+            self.assertEqual(self.value("viewer.set.colour"), said)
 
     def test_the_sample_is_built(self) -> None:
         self.open()
