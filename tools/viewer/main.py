@@ -106,7 +106,7 @@ def loaded(asked: argparse.Namespace) -> Model:
         sys.exit(f"viewer: {asked.model}: {fault}")
 
 
-def model_kept(path: Path, programs: Programs, fresh: bool, dresses: bool) -> Model:
+def model_kept(path: Path, programs: Programs, fresh: bool, dresses: bool = False) -> Model:
     """The model of a file. What was built of a text once is taken again, unless it shall be built
     afresh."""
     text = path.read_bytes()
