@@ -185,7 +185,7 @@ class Showing(Page):
         )
         for name, text, said in (
             ("scan.ply", head + "\n".join(rows), "own"),
-            ("part.stl", f"solid part\n{facets}endsolid part\n", "stone"),
+            ("part.stl", f"solid part\n{facets}endsolid part\n", "height"),
         ):
             self.drop(self.written(name, text.encode()))
             self.page.until(f"document.title === {name!r} || {FAULTY}")
