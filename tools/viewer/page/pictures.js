@@ -16,7 +16,9 @@ export class Pictures {
   async show(pages) {
     const { gl } = this, { width, height } = this.room(pages);
     this.make(width, height, pages.length);
-    for (const [layer, page] of pages.entries()) this.put(layer, await layerOf(page, width, height));
+    for (const [layer, page] of pages.entries()) {
+      this.put(layer, await layerOf(page, width, height));
+    }
     gl.generateMipmap(gl.TEXTURE_2D_ARRAY);
   }
 
