@@ -9,7 +9,7 @@ from typing import Dict, List, Optional, Tuple
 sys.path.insert(0, str(Path(__file__).resolve().parent))
 
 from dressing.coat import coat_of, painted, within  # noqa: E402
-from dressing.dressed import Dressed, dressed  # noqa: E402
+from dressing.dressed import Dressed, dressed, has_dress  # noqa: E402
 from dressing.materials import PLAIN, PNG, materials_in, pictures_for  # noqa: E402
 from dressing.origins import Origin, mesh_of, traced  # noqa: E402
 from dressing.seams import cut  # noqa: E402
@@ -158,6 +158,13 @@ class Materials(unittest.TestCase):
         self.assertEqual((own.kind, own.data), ("image/png", PNG + b"data"))
         self.assertEqual((lost.missing, text.missing), ("none.jpg", "text.png"))
         self.assertEqual(unknown.colour, PLAIN)
+
+    def test_what_has_no_materials_is_left(self) -> None:
+        path = self.folder({"SQUARE.mtl": b""})
+        self.assertTrue(has_dress(path, SQUARE))
+        self.assertFalse(has_dress(path, SQUARE.replace(b"mtllib square.mtl", b" mtllib a b.mtl")))
+        self.assertFalse(has_dress(path, SQUARE.replace(b"vt", b"vn")))
+        self.assertTrue(has_dress(path, SQUARE.replace(b"mtllib square.mtl", b"")))
 
     def test_a_file_of_materials_that_is_missing_is_named(self) -> None:
         (page,) = pictures_for(self.folder({}), ["red"], ["lost.mtl"])

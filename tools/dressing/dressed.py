@@ -1,10 +1,12 @@
 """A text that `simplify` takes, cut open along the seams of its texture, with the coat of it."""
+from pathlib import Path
 from typing import List, NamedTuple, Optional, Sequence, Tuple
 
 from .coat import coat_of, within
+from .materials import has_materials
 from .origins import Mesh, Origin, as_they_stood, mesh_of, traced
 from .seams import Cut, Key, cut
-from .textured import NONE, Place, Textured, read
+from .textured import NONE, Place, Textured, has_texture, libraries_of, read
 
 MOST_PAGES = 256
 
@@ -34,6 +36,11 @@ def _text(mesh: Mesh, made: Cut) -> bytes:
     lines = [mesh.lines[vertex] for vertex in made.before]
     lines += [b"f %d %d %d" % (a + 1, b + 1, c + 1) for a, b, c in made.faces]
     return b"\n".join(lines) + b"\n"
+
+
+def has_dress(path: Path, text: bytes) -> bool:
+    """Whether there is something to dress a file with: texture coordinates, and materials."""
+    return has_texture(text) and has_materials(path, libraries_of(text))
 
 
 def dressed(

@@ -95,11 +95,20 @@ def _shown(folder: Path, material: _Material) -> Picture:
     return Picture(material.colour, kind, data)
 
 
+def _named(path: Path, libraries: Sequence[str]) -> Sequence[str]:
+    return libraries or [path.with_suffix(".mtl").name]
+
+
+def has_materials(path: Path, libraries: Sequence[str]) -> bool:
+    """Whether a file of materials stands beside a file."""
+    return any(_beside(path.parent, name) for name in _named(path, libraries))
+
+
 def pictures_for(path: Path, pages: Sequence[str], libraries: Sequence[str]) -> List[Picture]:
     """What each page of a file is drawn with."""
     known: Dict[str, _Material] = {}
     missing = ""
-    for name in libraries or [path.with_suffix(".mtl").name]:
+    for name in _named(path, libraries):
         text = _read(path.parent, name)
         if text is None:
             missing = name

@@ -6,6 +6,7 @@ from mesh_files.obj import fields_of
 
 NONE = -1  # of a corner without a texture coordinate
 _HAS_SOME = re.compile(rb"^[ \t]*vt[ \t]", re.MULTILINE)
+_LIBRARY = re.compile(rb"^[ \t]*(mtllib[ \t].*)$", re.MULTILINE)
 Place = Tuple[float, float, float]
 Spot = Tuple[float, float]
 
@@ -82,6 +83,11 @@ def _name(fields: List[bytes]) -> str:
 def has_texture(text: bytes) -> bool:
     """Whether a file may have texture coordinates."""
     return _HAS_SOME.search(text) is not None
+
+
+def libraries_of(text: bytes) -> List[str]:
+    """The files of materials that a text names."""
+    return [_name(line.split()) for line in _LIBRARY.findall(text)]
 
 
 def read(text: bytes) -> Optional[Textured]:

@@ -26,8 +26,8 @@ from pathlib import Path
 from types import FrameType
 from typing import List, Optional, Union
 
+from dressing.dressed import has_dress
 from dressing.materials import Picture, pictures_for
-from dressing.textured import has_texture
 
 from . import kept, progress, seat
 from .alone import page_of
@@ -110,7 +110,7 @@ def model_kept(path: Path, programs: Programs, fresh: bool, dresses: bool = Fals
     """The model of a file. What was built of a text once is taken again, unless it shall be built
     afresh."""
     text = path.read_bytes()
-    dresses = dresses and has_texture(text)
+    dresses = dresses and has_dress(path, text)
     key = None if is_built(text) else kept.name_for(text, programs, dresses)
     found = None if fresh or key is None else kept.found(key, path.name)
     if found is not None:

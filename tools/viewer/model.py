@@ -16,7 +16,7 @@ from subprocess import PIPE
 from typing import IO, List, NamedTuple, Optional, Sequence, Set, Tuple
 
 from dressing.coat import Painted, painted
-from dressing.dressed import Dressed, dressed
+from dressing.dressed import Dressed, dressed, has_dress
 from mesh_files import obj
 from mesh_files.reading import as_obj, without_faces
 from mesh_files.soup import MeshFault
@@ -193,6 +193,7 @@ def model_of(path: Path, programs: Programs, dresses: bool = False) -> Model:
     read. Where `dresses` says so it has the dress of a textured file, and is cut open for that."""
     text = path.read_bytes()
     if not is_built(text):
+        dresses = dresses and has_dress(path, text)
         return _built(path.name, text_at(path), text, programs, dresses)
     stream = unpacked(text, programs.pack)
     checked = needed(run(programs.vdpm, ["check"], stream.out, "checking"), manual.STREAM)
