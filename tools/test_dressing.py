@@ -122,6 +122,20 @@ class Dressing(unittest.TestCase):
         self.assertEqual(faces_of(self.square(mesh, (0.5, ROOT)).text), [(4, 1, 3), (2, 5, 6)])
         self.assertIsNone(dressed(SQUARE, mesh.replace(b"f 3 1 2", b"f 2 4 3"), (0.5, ROOT)))
 
+    def test_a_mesh_without_seams_stays_whole(self) -> None:
+        plain = SQUARE.replace(b"f 1/4/1 3/3/1 4/4/1", b"f 1/1/1 3/3/1 4/4/1")
+        one_page = plain.replace(b"usemtl a b\n", b"")
+        for text, is_cut in ((SQUARE, True), (plain, True), (one_page, False)):
+            found = dressed(text, text, None)
+            self.assertEqual(found and found.is_cut, is_cut)
+
+    def test_colours_of_materials_alone_cut_nothing(self) -> None:
+        text = b"v 0 0 0\nv 4 0 0\nv 4 4 0\nv 0 4 0\nusemtl a\nf 1 2 3\nusemtl b\nf 1 3 4\n"
+        found = dressed(text, text, None)
+        assert found is not None
+        self.assertEqual((found.is_cut, found.before), (False, [0, 1, 2, 3]))
+        self.assertEqual(words_of(found.coat)[-1], 256)
+
     def test_what_goes_beyond_a_coat_comes_to_its_border(self) -> None:
         self.assertEqual(within((0.5, -40.0)), (32768, -2097152))
 
@@ -163,7 +177,8 @@ class Materials(unittest.TestCase):
         path = self.folder({"SQUARE.mtl": b""})
         self.assertTrue(has_dress(path, SQUARE))
         self.assertFalse(has_dress(path, SQUARE.replace(b"mtllib square.mtl", b" mtllib a b.mtl")))
-        self.assertFalse(has_dress(path, SQUARE.replace(b"vt", b"vn")))
+        bare = SQUARE.replace(b"vt", b"vn").replace(b"usemtl", b"g")
+        self.assertFalse(has_dress(path, bare))
         self.assertTrue(has_dress(path, SQUARE.replace(b"mtllib square.mtl", b"")))
 
     def test_a_file_of_materials_that_is_missing_is_named(self) -> None:

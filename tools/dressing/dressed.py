@@ -12,8 +12,10 @@ MOST_PAGES = 256
 
 
 class Dressed(NamedTuple):
-    """`before` are the vertices of the text before that those of this one were."""
+    """`before` are the vertices of the text before that those of this one were. Where colours of
+    materials alone are told, or the texture has no seam, the mesh isn't cut."""
 
+    is_cut: bool
     text: bytes
     coat: bytes
     before: List[int]
@@ -22,6 +24,8 @@ class Dressed(NamedTuple):
 
 
 def _keys(textured: Textured, origins: Sequence[Origin]) -> List[Key]:
+    if not textured.has_spots:
+        return [(0, 0, 0)] * (3 * len(origins))
     spots = [within(spot) for spot in textured.spots]
     keys: List[Key] = []
     for number, corners in origins:
@@ -39,7 +43,7 @@ def _text(mesh: Mesh, made: Cut) -> bytes:
 
 
 def has_dress(path: Path, text: bytes) -> bool:
-    """Whether there is something to dress a file with: texture coordinates, and materials."""
+    """Whether there is something to dress a file with."""
     return has_texture(text) and has_materials(path, libraries_of(text))
 
 
@@ -58,4 +62,5 @@ def dressed(
         return None
     made = cut(len(mesh.places), mesh.faces, _keys(textured, origins))
     coat = coat_of(made.keys, [textured.faces[number].page for number, _ in origins])
-    return Dressed(_text(mesh, made), coat, made.before, textured.pages, textured.libraries)
+    is_cut, told = len(made.before) > len(mesh.places), (textured.pages, textured.libraries)
+    return Dressed(is_cut, _text(mesh, made), coat, made.before, *told)

@@ -5,7 +5,7 @@ from typing import Dict, List, NamedTuple, Optional, Tuple
 from mesh_files.obj import fields_of
 
 NONE = -1  # of a corner without a texture coordinate
-_HAS_SOME = re.compile(rb"^[ \t]*vt[ \t]", re.MULTILINE)
+_HAS_SOME = re.compile(rb"^[ \t]*(?:vt|usemtl)[ \t]", re.MULTILINE)
 _LIBRARY = re.compile(rb"^[ \t]*(mtllib[ \t].*)$", re.MULTILINE)
 Place = Tuple[float, float, float]
 Spot = Tuple[float, float]
@@ -28,6 +28,11 @@ class Textured(NamedTuple):
     faces: List[Face]
     pages: List[str]
     libraries: List[str]
+
+    @property
+    def has_spots(self) -> bool:
+        """Whether a corner has a texture coordinate."""
+        return any(spot != NONE for face in self.faces for spot in face.spots)
 
 
 class _Reader:
@@ -81,7 +86,7 @@ def _name(fields: List[bytes]) -> str:
 
 
 def has_texture(text: bytes) -> bool:
-    """Whether a file may have texture coordinates."""
+    """Whether a file may have texture coordinates or materials."""
     return _HAS_SOME.search(text) is not None
 
 
@@ -91,7 +96,8 @@ def libraries_of(text: bytes) -> List[str]:
 
 
 def read(text: bytes) -> Optional[Textured]:
-    """None where no corner has a texture coordinate, or a number isn't one."""
+    """None where no corner has a texture coordinate and no face a material, or a number isn't
+    one."""
     if not has_texture(text):
         return None
     reader = _Reader()
@@ -101,4 +107,4 @@ def read(text: bytes) -> Optional[Textured]:
     except (ValueError, IndexError):
         return None
     told = reader.told
-    return told if any(spot != NONE for face in told.faces for spot in face.spots) else None
+    return told if told.has_spots or any(told.pages) else None

@@ -231,7 +231,7 @@ def _built(name: str, text: bytes, given: bytes, programs: Programs, dresses: bo
     cut = dressed(text, mesh, stands) if dresses else None
     tell(f"building a hierarchy of {faces:,} faces")
     begun = time.monotonic()
-    words = ["0", "--digits", str(digits), *(["--keep-border"] if cut else [])]
+    words = ["0", "--digits", str(digits), *(["--keep-border"] if cut and cut.is_cut else [])]
     source = cut.text if cut else mesh
     stream = needed(run(programs.simplify, words, source, "building"), manual.OBJ).out
     checked = needed(run(programs.vdpm, ["check"], stream, "checking"), manual.STREAM)
