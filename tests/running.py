@@ -110,7 +110,8 @@ class Talk:
             return
         if process.poll() is None and state_of(process) == "S":
             interrupt(process)
-            self.streams.interrupts = False
+            # (a call before the one that waits for room may have been met)
+            self.streams.interrupts = self.streams.crowded is not None
             self.streams.stop_writing()
 
     def is_over(self) -> bool:
