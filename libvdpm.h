@@ -311,6 +311,26 @@ uint32_t vdpm_made_length(vdpm_made *made, size_t *bytes, size_t *notes);
 uint32_t vdpm_made_bytes(vdpm_made *made, uint8_t *out, size_t room);
 uint32_t vdpm_made_notes(vdpm_made *made, uint8_t *out, size_t room);
 
+/* A number with D decimals: whole + part / 10^D, and less than zero where negative is 1. */
+typedef struct vdpm_decimal {
+    uint64_t whole;
+    uint64_t part; /* less than 10^D */
+    uint32_t negative;
+} vdpm_decimal;
+
+/* How positions lead back to the coordinates of the file: on each axis a coordinate is
+ * extent / steps * position + middle, to within half a step. */
+typedef struct vdpm_scale {
+    vdpm_decimal extent;    /* how long the longest axis of the bounding box is; 18 decimals */
+    vdpm_decimal middle[3]; /* the middle of the box; 19 decimals */
+    uint32_t steps;         /* into how many steps the extent is divided, 2 to 65,534; 0, as is all
+                             * else, where positions are the coordinates */
+} vdpm_scale;
+
+/* Tells that of what vdpm_prepare made, exactly, as the first line of the text does; all 0 for what
+ * another function made. Answers VDPM_DONE or VDPM_NOT_SO. */
+uint32_t vdpm_made_scale(vdpm_made *made, vdpm_scale *scale);
+
 /* Gives the memory of what was made back. What isn't open stays as it is. */
 void vdpm_made_close(vdpm_made *made);
 

@@ -15,7 +15,7 @@ from typing import Any, Dict, List, Optional
 from tried_library import TOP, Asked, cases_of, compiled, runs_that_fail, take_library
 
 import vdpm
-from vdpm.library import DONE, NOT_SO, Handle, Told, load
+from vdpm.library import DONE, NOT_SO, Handle, Scale, Told, load
 
 OCTAHEDRON = TOP / "examples" / "octahedron.obj"
 folder = tempfile.TemporaryDirectory(prefix="library-")
@@ -108,6 +108,29 @@ class Made(unittest.TestCase):
         for faces, digits in ((0, 5), (0, -1), (-1, 0), (2 ** 32, 0)):
             with self.subTest(faces=faces, digits=digits), self.assertRaises(ValueError):
                 vdpm.build(OCTAHEDRON.read_bytes(), faces, digits)
+
+
+class Scales(unittest.TestCase):
+    def scale_of(self, text: bytes) -> Scale:
+        library, made, fault, scale = load(), Handle(None, 0), Told(), Scale()
+        self.assertEqual(library.vdpm_made_scale(made, scale), NOT_SO)
+        self.assertEqual(library.vdpm_prepare(text, len(text), 0, made, fault), DONE)
+        self.assertEqual(library.vdpm_made_scale(made, scale), DONE)
+        library.vdpm_made_close(made)
+        return scale
+
+    def test_the_numbers_are_those_of_the_line(self) -> None:
+        for x, y, z in (("2.5", "0", "1e3"), ("-1e-17", "3", "0"), ("-99999999999999.5", "7", "8")):
+            text = f"v {x} {y} {z}\nv 0 0 0\nv 0 -7.25 0\nf 1 2 3\n".encode()
+            scale, told = self.scale_of(text), vdpm.prepare(text)
+            with self.subTest(x):
+                self.assertEqual(scale.extent.value(18) / scale.steps, told.scale)
+                middle = tuple(scale.middle[axis].value(19) for axis in range(3))
+                self.assertEqual(middle, told.middle)
+
+    def test_points_on_the_grid_have_none(self) -> None:
+        scale = self.scale_of(OCTAHEDRON.read_bytes())
+        self.assertEqual((scale.steps, scale.extent.value(18)), (0, 0))
 
 
 class Handles(unittest.TestCase):

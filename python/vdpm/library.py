@@ -59,6 +59,29 @@ class Moves(ctypes.Structure):
     _fields_ = [("moves", ctypes.c_uint32), ("left", ctypes.c_uint32)]
 
 
+class Decimal(ctypes.Structure):
+    """A number with decimals, as the library tells it."""
+
+    whole: int
+    part: int
+    negative: int
+    _fields_ = [("whole", ctypes.c_uint64), ("part", ctypes.c_uint64),
+                ("negative", ctypes.c_uint32)]
+
+    def value(self, digits: int) -> Fraction:
+        """What it is, its part in units of 10 to the power -digits."""
+        number = self.whole + Fraction(self.part, 10**digits)
+        return -number if self.negative else number
+
+
+class Scale(ctypes.Structure):
+    """How the positions of a prepared text lead back to coordinates, as the library tells it."""
+
+    extent: Decimal
+    steps: int
+    _fields_ = [("extent", Decimal), ("middle", Decimal * 3), ("steps", ctypes.c_uint32)]
+
+
 class Version(NamedTuple):
     """Which file the library is, and what the record beside it tells, as `./prove --status` does.
 
@@ -144,6 +167,7 @@ def load(path: Optional[str] = None) -> ctypes.CDLL:
         "made_length": [handle, count, count],
         "made_bytes": [handle, BYTES, size],
         "made_notes": [handle, BYTES, size],
+        "made_scale": [handle, ctypes.POINTER(Scale)],
         "made_close": [handle],
     }
     for name, arguments in types.items():

@@ -47,6 +47,33 @@ static void texts_of_nothing(void) {
     told("vdpm_made_bytes", vdpm_made_bytes(&made, NULL, 0), VDPM_NOT_SO);
 }
 
+/* The scale of a text whose points don't stand on the grid, of one whose points do, and of none. */
+static void scales(void) {
+    static const uint8_t scaled[] = "v -1 0 0\nv 0 2.5 0\nv -3.5 2.5 0\nf 1 2 3\n";
+    static const uint8_t standing[] = "v 0 0 0\nv 4 0 0\nv 0 4 0\nf 1 2 3\n";
+    vdpm_made made = VDPM_CLOSED;
+    vdpm_fault fault;
+    vdpm_scale scale;
+    memset(&scale, 7, sizeof scale);
+    told("vdpm_made_scale", vdpm_made_scale(&made, &scale), VDPM_NOT_SO);
+    told("vdpm_prepare", vdpm_prepare(scaled, sizeof scaled - 1, 0, &made, &fault), VDPM_DONE);
+    told("vdpm_made_scale", vdpm_made_scale(&made, &scale), VDPM_DONE);
+    told("extent", (uint32_t)scale.extent.whole, 3);
+    told("its part", scale.extent.part == UINT64_C(500000000000000000), 1);
+    told("steps", scale.steps, 65534);
+    told("middle of x", (uint32_t)scale.middle[0].whole, 1);
+    told("its part", scale.middle[0].part == UINT64_C(7500000000000000000), 1);
+    told("its sign", scale.middle[0].negative, 1);
+    told("middle of y", (uint32_t)scale.middle[1].whole, 1);
+    told("its part", scale.middle[1].part == UINT64_C(2500000000000000000), 1);
+    told("its sign", scale.middle[1].negative, 0);
+    vdpm_made_close(&made);
+    told("vdpm_prepare", vdpm_prepare(standing, sizeof standing - 1, 0, &made, &fault), VDPM_DONE);
+    told("vdpm_made_scale", vdpm_made_scale(&made, &scale), VDPM_DONE);
+    told("as it stood", scale.steps | (uint32_t)scale.extent.whole | scale.middle[0].negative, 0);
+    vdpm_made_close(&made);
+}
+
 /* The stream of nothing, packed and given back; and bytes that are neither. */
 static void packed_nothing(const uint8_t *stream, size_t length) {
     vdpm_made made = VDPM_CLOSED, back = VDPM_CLOSED;
@@ -133,6 +160,7 @@ int main(void) {
     size_t length = 0;
     uint8_t *stream = empty_stream(&length);
     texts_of_nothing();
+    scales();
     told("vdpm_open", vdpm_open(NULL, 0, 0, &viewer, &place), 22);
     told("vdpm_line", vdpm_line(&viewer, NULL, 0), VDPM_NOT_SO);
     told("vdpm_open", vdpm_open(stream, length, 0, &viewer, &place), VDPM_DONE);

@@ -24,7 +24,8 @@ MAIN = """
 use crate::made_slot::MadeSlot;
 use crate::slot::Slot;
 use crate::tables::{
-    ChangeCounts, Counts, ExtentTold, Handle, LevelTold, Look, MadeHandle, Moved, NO_FAULT,
+    ChangeCounts, Counts, DecimalTold, ExtentTold, Handle, LevelTold, Look, MadeHandle, Moved,
+    NO_FAULT, ScaleTold,
 };
 use std::rt::HostRuntime;
 
@@ -79,6 +80,9 @@ fn main(rt: HostRuntime) {
     making::vdpm_made_length(alloc, &mut made, &mut length, &mut notes);
     making::vdpm_made_bytes(alloc, &mut made, &mut bytes);
     making::vdpm_made_notes(alloc, &mut made, &mut bytes);
+    let zero = DecimalTold { whole: 0, part: 0, negative: 0 };
+    let mut scale = ScaleTold { extent: zero, x: zero, y: zero, z: zero, steps: 0 };
+    scale::vdpm_made_scale(alloc, &mut made, &mut scale);
     making::vdpm_made_close(alloc, &mut made);
     let MadeHandle { slot: _made_slot, open: _made_open } = made;
 }

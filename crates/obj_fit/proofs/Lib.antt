@@ -6,6 +6,7 @@ pub mod ScannedLaws
 pub mod SoundLaws
 pub mod GridLaws
 pub mod HeadLaws
+pub mod ScaleLaws
 pub mod ReadLaws
 pub mod RecutLaws
 pub mod StandingLaws

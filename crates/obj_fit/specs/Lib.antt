@@ -1,6 +1,7 @@
 pub mod Thin
 pub mod Fine
 pub mod Texts
+pub mod Scales
 pub mod Outcome
 pub mod Making
 pub mod Fails

@@ -12,6 +12,7 @@ ghost use Rattle.obj_fit.specs.Outcome.{MakesPrepared, IsPreparedText, counts_of
 ghost use Rattle.obj_fit.specs.Outcome.{rounded_for};
 ghost use Rattle.obj_fit.specs.Fine.{rounded_faces as rounded_faces_of};
 ghost use Rattle.obj_fit.specs.Making.{done_of, IsMakeFail};
+ghost use Rattle.obj_fit.specs.Scales.{TellsScale};
 ghost use Rattle.obj_fit.specs.Fails.{StopsPreparing};
 
 use crate::counts::counts_of;
@@ -19,6 +20,7 @@ use crate::fault::{Fault, InputFail};
 use crate::laying::{Laid, lay_out};
 use crate::notes::{head_line, notes_text};
 use crate::rounded::rounded_faces;
+use crate::scale::{Scale, scale_of};
 use mesh_scan::{MeshFail, scan_mesh};
 use obj_prepare::{
     ExactPoint, Fit, LongestAxis, PrepareFail, Prepared, longest_axis, prepare, rounded_count,
@@ -28,10 +30,12 @@ use pm_base::{Corners, Mesh, Point};
 use pm_io::Source;
 use std::alloc::{AllocError, Global};
 
-/// A mesh, the line that is written before it, and what is said of it.
+/// A mesh, the line that is written before it and its numbers, and what is said of it.
 #[derive(Drop)]
 pub struct Made {
     pub head: Vec<u8>,
+    /// None where coordinates stand as they stood.
+    pub scale: Option<Scale>,
     pub mesh: Mesh,
     pub notes: Vec<u8>,
 }
@@ -121,6 +125,7 @@ fn make_of(alloc: Global, size: Option<u32>, scan: &Scan) -> Result<Made, InputF
     requires within { IsWithinLimits (scanned_of scan.now) }
     ensures made { IfOk result (λ m. MakesPrepared size (scanned_of scan.now) (done_of m)) }
     ensures formed { IfOk result (λ m. IsWellFormed (mesh_of m.mesh)) }
+    ensures scale { IfOk result (λ m. TellsScale m.head.items m.scale) }
     ensures err { IfErr result (IsMakeFail size (scanned_of scan.now)) }
 {
     let Ok(laid) = lay_out(alloc, size, scan) else {
@@ -140,8 +145,14 @@ fn make_of(alloc: Global, size: Option<u32>, scan: &Scan) -> Result<Made, InputF
     let Ok(head) = head_line(alloc, &laid.placing.fit) else {
         return Err(InputFail::OutOfMemory);
     };
+    let scale = scale_of(&laid.placing.fit);
     let mesh = prepared.mesh;
-    Ok(Made { head, mesh, notes })
+    Ok(Made {
+        head,
+        scale,
+        mesh,
+        notes,
+    })
 }
 
 /// Reads an OBJ, STL or PLY file to its end, and makes a mesh of it. An OBJ line with a fault is
@@ -153,6 +164,7 @@ pub fn make<S: Source>(alloc: Global, size: Option<u32>, input: &mut S) -> Resul
         (λ m. IfSome (S.left input.old)
         (λ bytes. IsPreparedText size bytes (Ok (done_of m)) None)) }
     ensures formed { IfOk result (λ m. IsWellFormed (mesh_of m.mesh)) }
+    ensures scale { IfOk result (λ m. TellsScale m.head.items m.scale) }
     ensures end { OnOk result (AtEnd (S.left input.new)) }
     ensures count { OnOk result (S.faults input.new ≡ S.faults input.old) }
     ensures err { IfErr result

@@ -34,8 +34,8 @@ fn five_times(n: i128) -> i128
     5 * n
 }
 
-// The middle of an axis, in units of 10^-19.
-fn middle(low: i128, high: i128) -> i128
+/// The middle of an axis, in units of 10^-19.
+pub(crate) fn middle(low: i128, high: i128) -> i128
     requires low { unsigned_abs low ≤ 10 ^ 32 }
     requires high { unsigned_abs high ≤ 10 ^ 32 }
     ensures value { result ≡ middle low high }

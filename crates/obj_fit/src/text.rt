@@ -8,9 +8,9 @@ use itoa::Buffer;
 use std::alloc::AllocError;
 
 // 10 to the power of 18, and of 19.
-const SCALE_18: u64 = 1_000_000_000_000_000_000;
+pub(crate) const SCALE_18: u64 = 1_000_000_000_000_000_000;
 
-const SCALE_19: u64 = 10_000_000_000_000_000_000;
+pub(crate) const SCALE_19: u64 = 10_000_000_000_000_000_000;
 
 /// Adds a number in decimal digits.
 pub fn add_number(text: &mut Vec<u8>, n: u64) -> Result<(), AllocError>

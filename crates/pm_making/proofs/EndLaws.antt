@@ -1,6 +1,6 @@
 -- How a command that builds ends, and what was made then.
-use Rattle.std.proofs.Common.{◌≡◌, ℕ, List, [], Option, Some, Result, Ok, Err, refl, sym, ◌∙◌, ap}
-use Rattle.std.proofs.Common.{subst, arith}
+use Rattle.std.proofs.Common.{◌≡◌, ℕ, List, [], Option, Some, None, Result, Ok, Err, refl, sym}
+use Rattle.std.proofs.Common.{◌∙◌, ap, subst, arith}
 use Rattle.pm_forest.specs.Forest.{Hierarchy}
 use Rattle.pm_format.specs.Stream.{stream}
 use Rattle.pm_commands.specs.declared.asked.Asked.{Asked}
@@ -23,7 +23,8 @@ some_inner e = grind (arith, e)
 
 pub stream_of :
     (IsMade : List ℕ → Result Hierarchy Fault → Option ℕ → Type 0) (asks : Asked) (digits : ℕ)
-    (text bytes : List ℕ) (all : MadeText) → all ≡ record { bytes = bytes; notes = [] }
+    (text bytes : List ℕ) (all : MadeText)
+    → all ≡ record { bytes = bytes; notes = []; scale = None }
     → ShowsSurfacesOf IsMade digits text (Some []) (Some bytes)
     → GivesMeshBack asks text (Some []) (Some bytes) → IsStreamOf IsMade asks digits text all
 stream_of IsMade asks digits text bytes all is shows back =

@@ -2,6 +2,7 @@
 use Rattle.std.specs.Prelude.{◌≡◌, ℕ, Bool, true, false, List, [], Option, Some, None, Result, Ok}
 use Rattle.pm_forest.specs.Forest.{Hierarchy}
 use Rattle.pm_format.specs.Stream.{stream}
+use Rattle.obj_fit.specs.declared.scale.Scale.{Scale}
 use Rattle.pm_commands.specs.declared.asked.Asked.{Asked}
 use Rattle.pm_commands.specs.declared.fault.Fault.{Fault}
 use Rattle.pm_commands.specs.declared.fault.Fault.TheVariants as faults
@@ -10,10 +11,12 @@ use Rattle.pm_commands.specs.Outcome.{Replied, GivesMeshBack}
 use Rattle.pm_making.specs.declared.fail.BuildFail.{BuildFail}
 use Rattle.pm_making.specs.declared.fail.BuildFail.TheVariants as fails
 
--- The bytes that were made, and the lines that are said beside them.
+-- The bytes that were made, the lines that are said beside them, and how their mesh's positions
+-- lead back to coordinates, where those were scaled.
 pub record MadeText : Type 0 where
   pub bytes : List ℕ
   pub notes : List ℕ
+  pub scale : Option Scale
 
 -- The bytes are the stream text of a hierarchy that is made of the text, where `IsMade` says which,
 -- and lead back to the text's mesh: `expand` does with them what `canon` does with the text.

@@ -2,7 +2,7 @@
 ghost use Rattle.std.specs.Prelude.{IfOk, IfErr};
 ghost use Rattle.obj_prepare.specs.Placing.{IsSize};
 ghost use Rattle.obj_fit.specs.Laws.{IsFitText};
-ghost use Rattle.pm_making.specs.Fitting.{IsPreparedOf, IsUnfit};
+ghost use Rattle.pm_making.specs.Fitting.{HasScale, IsPreparedOf, IsUnfit};
 
 use crate::fail::PrepareFail;
 use crate::gathered::Gathered;
@@ -20,6 +20,7 @@ pub fn prepare(alloc: Global, text: &[u8], size: Option<u32>) -> Result<Made, Pr
     requires size { IsSize size }
     ensures made { IfOk result (IsPreparedOf size text.now) }
     ensures fit { IfOk result (λ all. IsFitText all.bytes) }
+    ensures scale { IfOk result HasScale }
     ensures refused { IfErr result (IsUnfit size text.now) }
 {
     let Ok(mut source) = SureSource::new(alloc, text, 4096) else {
@@ -36,5 +37,5 @@ pub fn prepare(alloc: Global, text: &[u8], size: Option<u32>) -> Result<Made, Pr
         return Err(PrepareFail::OutOfMemory);
     }
     outcomes_are_sound();
-    Ok(Made::of(gathered.into_bytes(), it.notes))
+    Ok(Made::scaled(gathered.into_bytes(), it.notes, it.scale))
 }

@@ -3,3 +3,4 @@ pub mod Border
 pub mod Looking
 pub mod Making
 pub mod Packing
+pub mod Scales

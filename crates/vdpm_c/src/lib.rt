@@ -17,6 +17,7 @@ mod means;
 mod measuring;
 mod nodes;
 mod packing;
+mod scale;
 mod slot;
 mod statuses;
 mod tables;

@@ -94,6 +94,30 @@ pub struct MadeHandle {
     pub open: u32,
 }
 
+/// A number with decimals: `whole + part / 10^D`, and less than zero where `negative` is 1.
+#[repr(C)]
+#[derive(Clone, Copy)]
+pub struct DecimalTold {
+    pub whole: u64,
+    pub part: u64,
+    pub negative: u32,
+}
+
+/// How positions lead back to coordinates: extent / steps * position + middle.
+#[repr(C)]
+#[derive(Clone, Copy)]
+pub struct ScaleTold {
+    /// How long the longest axis of the bounding box is, with 18 decimals.
+    pub extent: DecimalTold,
+    /// The middle of the box on each axis, with 19 decimals.
+    pub x: DecimalTold,
+    pub y: DecimalTold,
+    pub z: DecimalTold,
+    /// Into how many steps the extent is divided; 0, and all others too, where positions are the
+    /// coordinates.
+    pub steps: u32,
+}
+
 /// The fault of a text.
 #[repr(C)]
 #[derive(Clone, Copy)]

@@ -4,6 +4,7 @@ use Rattle.pm_base.specs.Meshes.{mesh_of}
 use Rattle.obj_scan.specs.Fails.{scanned_of}
 use Rattle.obj_fit.proofs.MakeLaws.{laid_lent, laid_fans, laid_places, laid_few, laid_three}
 use Rattle.obj_fit.proofs.MakeLaws.{makes_done}
+use Rattle.obj_fit.proofs.ScaleLaws.{head_line_tells}
 use Rattle.obj_fit.proofs.making.make_of.Goals as goal
 
 pub prepare-requires : goal.prepare-requires
@@ -40,3 +41,8 @@ pub notes_of-requires-clause-three_within : goal.notes_of-requires-clause-three_
 notes_of-requires-clause-three_within c =
     laid_three c.args.size (scanned_of c.args.scan.now) c.in-Ok.laid c.requires.within
     c.in-Ok.ensures
+
+pub returns-clause-scale : goal.returns-clause-scale
+returns-clause-scale c =
+    head_line_tells c.in-Ok.laid.placing.fit c.in-Ok-head_line.head.items c.scale_of-scale.result
+    c.in-Ok-head_line.ensures c.scale_of-scale.ensures
