@@ -10,7 +10,8 @@
  * Ownership. A vdpm_viewer is the caller's: a variable or a field, all zero at first
  * (VDPM_CLOSED). Between vdpm_open and vdpm_close it owns memory of the library, so it is
  * neither copied nor changed by hand then; that isn't looked at. So it is with a vdpm_made between
- * the making and vdpm_made_close. The library keeps no pointer that it is given: every array is the
+ * the making and vdpm_made_close, and with a vdpm_slots between vdpm_slots_open and
+ * vdpm_slots_close. The library keeps no pointer that it is given: every array is the
  * caller's, and is read or written during the call alone.
  * The arrays of a call don't overlap. One whose length or room is 0 may be NULL, as data() of an
  * empty std::vector is; no other pointer is.
@@ -37,7 +38,7 @@ extern "C" {
 
 /* The version of the library. What may change with which number: docs/LIBRARY.md. */
 #define VDPM_VERSION_MAJOR 1
-#define VDPM_VERSION_MINOR 1
+#define VDPM_VERSION_MINOR 2
 #define VDPM_VERSION_PATCH 0
 #define VDPM_VERSION \
     (VDPM_VERSION_MAJOR * 10000 + VDPM_VERSION_MINOR * 100 + VDPM_VERSION_PATCH)
@@ -61,7 +62,7 @@ enum {
     VDPM_NO_RECORD = 31  /* the line names a record that isn't there; nothing was done */
 };
 
-/* What is told in place of a record or a vertex where there is none. */
+/* What is told in place of a record, a vertex, an item or a slot where there is none. */
 #define VDPM_NONE UINT32_C(0xFFFFFFFF)
 
 /* A viewer. Its fields are the library's own. */
@@ -333,6 +334,51 @@ uint32_t vdpm_made_scale(vdpm_made *made, vdpm_scale *scale);
 
 /* Gives the memory of what was made back. What isn't open stays as it is. */
 void vdpm_made_close(vdpm_made *made);
+
+/* The slots of a renderer's buffer, by which a change (vdpm_change) is written into it: an item, a
+ * node in a vertex buffer or a face in an index buffer, keeps one slot while it is shown. Its
+ * fields are the library's own. All zero at first: vdpm_slots slots = VDPM_CLOSED; */
+typedef struct vdpm_slots {
+    void *at;
+    uint32_t open;
+} vdpm_slots;
+
+/* What a change of slots came to. */
+typedef struct vdpm_slots_sizes {
+    uint32_t written; /* how many slots are to be written */
+    uint32_t length;  /* how many slots the buffer has: the most items that it ever showed */
+} vdpm_slots_sizes;
+
+/* Opens the slots of a buffer for items 0 to `items` - 1, of which none is shown: 13 bytes an item.
+ * Answers VDPM_DONE, VDPM_NO_MEMORY or VDPM_NOT_SO. *slots is as it was where it isn't VDPM_DONE.
+ */
+uint32_t vdpm_slots_open(uint32_t items, vdpm_slots *slots);
+
+/* Changes what is shown: the items of `gone` leave, and those of `put` come, or stay and are
+ * written anew, as gone_nodes and new_nodes, or gone_faces and put_faces, of vdpm_change. No change
+ * writes fewer slots. With the numbers in *sizes:
+ * `writes`  `written` numbers: the slots to write, first those of `put`, in its order, then those
+ *           that are left empty
+ * `items`   `written` numbers: the item that each of these slots has now, or VDPM_NONE
+ * The room is counted in numbers, and gone_length + put_length are always enough; the rest of it
+ * stays as it was.
+ * Answers VDPM_DONE; VDPM_OUT_OF_RANGE, where an item of `gone` isn't shown, one of `put` isn't
+ * below the `items` of vdpm_slots_open, or one stands twice in them; VDPM_NO_ROOM; or VDPM_NOT_SO.
+ * Nothing is changed, and nothing written, where it isn't VDPM_DONE, but that *sizes tells beside
+ * VDPM_NO_ROOM how many would be written. */
+uint32_t vdpm_slots_change(vdpm_slots *slots, const uint32_t *gone, size_t gone_length,
+                           const uint32_t *put, size_t put_length, uint32_t *writes,
+                           size_t writes_room, uint32_t *items, size_t items_room,
+                           vdpm_slots_sizes *sizes);
+
+/* Tells the slot of each of `length` items, or VDPM_NONE for one that isn't shown, in the front of
+ * `room` numbers; the rest stays as it was. So the put_corners of vdpm_change become an index
+ * buffer's, by the slots of the nodes. */
+uint32_t vdpm_slots_of(vdpm_slots *slots, const uint32_t *items, size_t length, uint32_t *out,
+                       size_t room);
+
+/* Closes slots and gives their memory back. What isn't open stays as it is. */
+void vdpm_slots_close(vdpm_slots *slots);
 
 #ifdef __cplusplus
 }
