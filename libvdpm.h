@@ -357,9 +357,8 @@ uint32_t vdpm_slots_open(uint32_t items, vdpm_slots *slots);
 /* Changes what is shown: the items of `gone` leave, and those of `put` come, or stay and are
  * written anew, as gone_nodes and new_nodes, or gone_faces and put_faces, of vdpm_change. No change
  * writes fewer slots. With the numbers in *sizes:
- * `writes`  `written` numbers: the slots to write, first those of `put`, in its order, then those
- *           that are left empty
- * `items`   `written` numbers: the item that each of these slots has now, or VDPM_NONE
+ * `writes`  `written` numbers: the slots to write, first those of the items of `put`, in its order,
+ *           then those that are left empty
  * The room is counted in numbers, and gone_length + put_length are always enough; the rest of it
  * stays as it was.
  * Answers VDPM_DONE; VDPM_OUT_OF_RANGE, where an item of `gone` isn't shown, one of `put` isn't
@@ -368,8 +367,7 @@ uint32_t vdpm_slots_open(uint32_t items, vdpm_slots *slots);
  * VDPM_NO_ROOM how many would be written. */
 uint32_t vdpm_slots_change(vdpm_slots *slots, const uint32_t *gone, size_t gone_length,
                            const uint32_t *put, size_t put_length, uint32_t *writes,
-                           size_t writes_room, uint32_t *items, size_t items_room,
-                           vdpm_slots_sizes *sizes);
+                           size_t writes_room, vdpm_slots_sizes *sizes);
 
 /* Tells the slot of each of `length` items, or VDPM_NONE for one that isn't shown, in the front of
  * `room` numbers; the rest stays as it was. So the put_corners of vdpm_change become an index
