@@ -1,10 +1,13 @@
 -- Each item that leaves or comes has a slot of its own that differs.
-use Rattle.std.proofs.Common.{◌≡◌, ◌≢◌, ℕ, suc, zero, ◌<◌, ◌≤◌, ◌⊎◌, max, List, length, inl, inr}
+use Rattle.std.proofs.Common.{◌≡◌, ◌≢◌, ℕ, suc, zero, ◌+◌, ◌<◌, ◌≤◌, ◌⊎◌, List, length, inl, inr}
 use Rattle.std.proofs.Common.{refl, sym, ap, subst, ◌∙◌, arith}
-use Rattle.std.proofs.lemmas.Bool.{cases_eq}
+use Rattle.std.proofs.lemmas.Bool.{cases_eq, cases_lt}
 use Rattle.pm_buffers.specs.Buffers.{at, Shows}
-use Rattle.pm_buffers.specs.Changes.{IsChange, AreChanged, AreDifferent}
+use Rattle.pm_buffers.specs.Changes.{Has, IsChange, AreChanged, AreWritten, staying, write_count}
+use Rattle.pm_buffers.specs.declared.tables.TheConstants.{EMPTY}
+use Rattle.pm_buffers.proofs.TableLaws.{within_of}
 use Rattle.pm_buffers.proofs.ChangeLaws.{once_same}
+use Rattle.pm_buffers.proofs.CountLaws.{leaving, many, all_shown, all_once, gone_or_put}
 
 -- places of which each is the place of one number at most
 abbrev AreApart : ℕ → (ℕ → ℕ → Type 0) → Type 0
@@ -53,61 +56,104 @@ pigeons (suc n) (suc m) R apart have =
     (moved_places n m R apart have place.0 place.1 place.2) in
     omega (arith, fewer)
 
-module _ (old gone new now slots : List ℕ) (change : IsChange old gone new)
-    (changed : AreChanged old gone new now) (different : AreDifferent old now slots) where
-  abbrev LeavesAt : ℕ → ℕ → Type 0
-  LeavesAt k p = at old (at slots p) ≡ at gone k
+module _ (old gone put : List ℕ) (change : IsChange old gone put) where
+  abbrev leaves : List ℕ
+  leaves = leaving old gone put
 
-  abbrev ComesAt : ℕ → ℕ → Type 0
-  ComesAt k p = at now (at slots p) ≡ at new k
+  slot_of : (k : ℕ) → k < length leaves → Shows old (at leaves k)
+  slot_of k low = all_shown old gone put change k low
 
-  not_shown : (k : ℕ) → k < length gone → ¬ Shows now (at gone k)
-  not_shown k low shown =
-      elim ((changed (at gone k)).0 shown) [
-        | inl has ↦ (change.hidden has.0 has.1).1
-            (subst (Shows old) (sym has.2) (change.shown k low))
-        | inr stays ↦ stays.1 (k, low, refl)
+  leaves_same : (j k : ℕ) → j < length leaves → at leaves j ≡ at leaves k → j ≡ k
+  leaves_same j k low same =
+      once_same leaves (all_once old gone put change) j k (slot_of j low).1.is_item same
+
+  put_same : (j k : ℕ) → j < length put → k < length put → at put j ≡ at put k → j ≡ k
+  put_same j k j_low k_low same =
+      elim (cases_lt j k) [
+        | inl before ↦ absurd (change.lists.put_once j k before k_low same)
+        | inr past ↦ elim (cases_lt k j) [
+          | inl before ↦ absurd (change.lists.put_once k j before j_low (sym same))
+          | inr other ↦ omega (arith, past, other)
+        ]
       ]
 
-  leaving : HavePlaces (length gone) (length slots) LeavesAt
-  leaving k low =
-      let shown = change.shown k low in
-      let has = (different.differ shown.0).1 (λ e.
-      not_shown k low (
+  -- ---- a change has no more items than a buffer
+  abbrev HasSlot : ℕ → ℕ → Type 0
+  HasSlot k s = at old s ≡ at leaves k
+
+  slots_have : HavePlaces (length leaves) (length old) HasSlot
+  slots_have k low =
+      let shown = slot_of k low in (
         shown.0,
-        record {
-          is_item = shown.1.is_item;
-          there = sym e ∙ shown.1.there;
-        },
-      )) in
-      (has.0, has.1, ap (at old) has.2 ∙ shown.1.there)
+        within_of old shown.0 (λ no. shown.1.is_item (sym shown.1.there ∙ no)),
+        shown.1.there,
+      )
 
-  coming : HavePlaces (length new) (length slots) ComesAt
-  coming k low =
-      let shown = (changed (at new k)).1 (inl (k, low, refl)) in
-      let has = (different.differ shown.0).1 (λ e.
-      (change.hidden k low).1 (
-        shown.0,
-        record {
-          is_item = shown.1.is_item;
-          there = e ∙ shown.1.there;
-        },
-      )) in
-      (has.0, has.1, ap (at now) has.2 ∙ shown.1.there)
+  abbrev IsPut : ℕ → ℕ → Type 0
+  IsPut k x = at put k ≡ x
 
-  leaving_apart : AreApart (length gone) LeavesAt
-  leaving_apart j k p j_low k_low a b =
-      once_same gone change.gone_once j k (change.shown j j_low).1.is_item (sym a ∙ b)
-
-  coming_apart : AreApart (length new) ComesAt
-  coming_apart j k p j_low k_low a b =
-      let shown = (changed (at new j)).1 (inl (j, j_low, refl)) in
-      once_same new change.new_once j k shown.1.is_item (sym a ∙ b)
-
-  pub fewest : max (length gone) (length new) ≤ length slots
-  fewest =
+  pub leaves_low : length gone + length (staying old put) ≤ length old
+  leaves_low =
       omega (
         arith,
-        pigeons (length gone) (length slots) LeavesAt leaving_apart leaving,
-        pigeons (length new) (length slots) ComesAt coming_apart coming,
+        many old gone put change,
+        pigeons (length leaves) (length old) HasSlot
+            (λ j k s j_low k_low a b. leaves_same j k j_low (sym a ∙ b)) slots_have,
       )
+
+  pub put_low : length put ≤ length old
+  put_low =
+      pigeons (length put) (length old) IsPut
+      (λ j k x j_low k_low a b. put_same j k j_low k_low (a ∙ sym b))
+      (λ k low. (at put k, change.within k low, refl))
+
+  -- ---- each has a slot of its own among those written
+  module _ (now slots : List ℕ) (changed : AreChanged old gone put now)
+      (written : AreWritten old put now slots) where
+    abbrev LeavesAt : ℕ → ℕ → Type 0
+    LeavesAt k p = at old (at slots p) ≡ at leaves k
+
+    abbrev ComesAt : ℕ → ℕ → Type 0
+    ComesAt k p = at now (at slots p) ≡ at put k
+
+    -- the slot that an item has that leaves or stays
+    told : (k : ℕ) → k < length leaves → (s : ℕ) → at old s ≡ at leaves k
+        → at leaves k ≢ EMPTY → (at old s ≢ at now s) ⊎ Has put (at now s)
+    told k low s there item =
+        elim (cases_eq (at old s) (at now s)) [
+          | inl same ↦
+              let is : at leaves k ≡ at now s = sym there ∙ same in
+              elim (gone_or_put old gone put change k low) [
+                | inl gone_has ↦ elim ((changed (at leaves k)).0
+                    (s, record { is_item = item; there = sym is })) [
+                      | inl has ↦ inr (has.0, has.1, has.2 ∙ is)
+                      | inr stays ↦ absurd (stays.1 gone_has)
+                    ]
+                | inr put_has ↦ inr (put_has.0, put_has.1, put_has.2 ∙ is)
+              ]
+          | inr differs ↦ inl differs
+        ]
+
+    leaving_places : HavePlaces (length leaves) (length slots) LeavesAt
+    leaving_places k low =
+        let shown = slot_of k low in
+        let has = (written.told shown.0).1
+        (told k low shown.0 shown.1.there shown.1.is_item) in
+        (has.0, has.1, ap (at old) has.2 ∙ shown.1.there)
+
+    coming_places : HavePlaces (length put) (length slots) ComesAt
+    coming_places k low =
+        let shown = (changed (at put k)).1 (inl (k, low, refl)) in
+        let has = (written.told shown.0).1 (inr (k, low, sym shown.1.there)) in
+        (has.0, has.1, ap (at now) has.2 ∙ shown.1.there)
+
+    pub fewest : write_count old gone put ≤ length slots
+    fewest =
+        omega (
+          arith,
+          many old gone put change,
+          pigeons (length leaves) (length slots) LeavesAt
+              (λ j k p j_low k_low a b. leaves_same j k j_low (sym a ∙ b)) leaving_places,
+          pigeons (length put) (length slots) ComesAt
+              (λ j k p j_low k_low a b. put_same j k j_low k_low (sym a ∙ b)) coming_places,
+        )

@@ -1,3 +1,4 @@
 pub mod TableLaws
 pub mod ChangeLaws
+pub mod CountLaws
 pub mod FewestLaws

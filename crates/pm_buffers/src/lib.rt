@@ -12,5 +12,5 @@ mod tables;
 mod tests;
 
 pub use laws::writes_are_fewest;
-pub use slots::{NotAChange, OutOfMemory, Slots};
+pub use slots::{ChangeFail, OutOfMemory, Slots};
 pub use tables::EMPTY;

@@ -90,6 +90,18 @@ impl Tables {
         self.slot_of(item).is_some()
     }
 
+    /// The item that stands in a slot.
+    pub(crate) fn item_in(&self, slot: u32) -> Option<u32>
+        ensures some { IfSome result (λ item. StandsIn self.now.entries slot item) }
+        ensures none { IfNone result (at self.now.entries slot ≡ EMPTY) }
+    {
+        if slot as usize >= self.entries.len() {
+            return None;
+        }
+        let item = self.entries[slot as usize];
+        if item == EMPTY { None } else { Some(item) }
+    }
+
     /// An item comes into the slot of one that leaves, which is the result.
     pub(crate) fn replace(&mut self, gone: u32, new: u32) -> u32
         requires gone { Shows self.old.entries gone }

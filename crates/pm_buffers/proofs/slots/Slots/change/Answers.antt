@@ -1,35 +1,34 @@
-use Rattle.std.proofs.Common.{subst, ◌∙◌, arith}
+use Rattle.std.proofs.Common.{length, subst, ◌∙◌, arith}
 use Rattle.pm_buffers.specs.Buffers.{Buffer}
-use Rattle.pm_buffers.specs.Changes.{AreWritten}
-use Rattle.pm_buffers.proofs.ChangeLaws.{changed, kept, differ}
+use Rattle.pm_buffers.specs.Steps.{AreWrittenSoFar}
+use Rattle.pm_buffers.proofs.ChangeLaws.{changed, written}
 use Rattle.pm_buffers.proofs.slots.Slots.change.Goals as goal
-
-pub returns-then-not-is_change-clause-buffer : goal.returns-then-not-is_change-clause-buffer
-returns-then-not-is_change-clause-buffer c =
-    rw c.is_change.ensures.unchanged c.is_change.ensures.sound
 
 pub returns-clause-shown : goal.returns-clause-shown
 returns-clause-shown c =
-    let written = subst (λ (b : Buffer). AreWritten b.entries c.args.gone.now c.args.new.now
-    c.change.new.self.entries c.change.new.writes c.change.result)
+    let done = subst (λ (b : Buffer). AreWrittenSoFar b.entries c.args.gone.now c.args.put.now
+    c.change.new.self.entries c.change.new.writes c.write_count-count.result
+    (length c.args.gone.now))
     (c.self.view_is ∙ c.is_change.ensures.unchanged) c.change.ensures.written in
     changed _ _ _ (c.is_change.ensures.yes c.if-not-is_change.false)
-    c.is_change.ensures.sound.few _ _ _ written c.change.ensures.count
-    c.is_change.ensures.sound.once
+    c.is_change.ensures.sound.few _ _ _ _ done
+    (omega (arith, c.write_count-count.ensures.count)) (omega arith)
 
 pub returns-clause-kept : goal.returns-clause-kept
 returns-clause-kept c =
-    let written = subst (λ (b : Buffer). AreWritten b.entries c.args.gone.now c.args.new.now
-    c.change.new.self.entries c.change.new.writes c.change.result)
+    let done = subst (λ (b : Buffer). AreWrittenSoFar b.entries c.args.gone.now c.args.put.now
+    c.change.new.self.entries c.change.new.writes c.write_count-count.result
+    (length c.args.gone.now))
     (c.self.view_is ∙ c.is_change.ensures.unchanged) c.change.ensures.written in
-    kept _ _ _ (c.is_change.ensures.yes c.if-not-is_change.false)
-    c.is_change.ensures.sound.few _ _ _ written c.change.ensures.count
+    done.kept
 
 pub returns-clause-written : goal.returns-clause-written
 returns-clause-written c =
-    let written = subst (λ (b : Buffer). AreWritten b.entries c.args.gone.now c.args.new.now
-    c.change.new.self.entries c.change.new.writes c.change.result)
+    let done = subst (λ (b : Buffer). AreWrittenSoFar b.entries c.args.gone.now c.args.put.now
+    c.change.new.self.entries c.change.new.writes c.write_count-count.result
+    (length c.args.gone.now))
     (c.self.view_is ∙ c.is_change.ensures.unchanged) c.change.ensures.written in
-    differ _ _ _ (c.is_change.ensures.yes c.if-not-is_change.false)
-    c.is_change.ensures.sound.few _ _ _ written c.change.ensures.count
-    (omega (arith, c.change.ensures.count, c.change.ensures.len, c.requires.room))
+    written _ _ _ (c.is_change.ensures.yes c.if-not-is_change.false)
+    c.is_change.ensures.sound.few _ _ _ _ done
+    (omega (arith, c.write_count-count.ensures.count)) (omega arith)
+    (omega (arith, c.change.ensures.len, c.if-count-writes.false)) c.change.ensures.sound.once
