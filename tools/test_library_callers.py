@@ -1,10 +1,11 @@
 """Tries programs that call the library: python3 tools/test_library_callers.py
 
-The header is compiled as each C and C++ that it promises, and the programs of
-tools/library_callers and examples/library run under the sanitizers and valgrind, and on threads
-with little stack.
+The header is compiled as each C and C++ that it promises, and against what programs were built with
+(abi.c), and the programs of tools/library_callers and examples/library run under the sanitizers and
+valgrind, and on threads with little stack.
 """
 import os
+import re
 import shutil
 import subprocess
 import sys
@@ -14,6 +15,8 @@ from pathlib import Path
 from typing import Iterator, List, Tuple
 
 from tried_library import TOP, compiled, take_library
+
+from quick_start.joining import symbols
 
 import vdpm
 
@@ -34,6 +37,12 @@ static vdpm_viewer viewer = VDPM_CLOSED;
 int is_open(void);
 int is_open(void) { return viewer.open && VDPM_VERSION >= 10000; }
 """
+# What a program that was built before would meet wrongly.
+KEPT = CALLERS / "abi.c"
+CHANGES = (
+    ("    uint32_t left;", "    uint64_t left;"), ("VDPM_NO_ROOM = 7", "VDPM_NO_ROOM = 4"),
+    ("uint32_t keep_border", "int32_t keep_border"), ("    uint32_t split; ", "    uint32_t at; "),
+)  # fmt: skip
 folder = tempfile.TemporaryDirectory(prefix="library-")
 
 
@@ -72,17 +81,38 @@ def has_sanitizers() -> bool:
 
 
 class Header(unittest.TestCase):
-    def test_it_is_clean_in_each_language(self) -> None:
+    def assert_clean(self, text: str) -> None:
+        """A file of C and C++ is clean in each standard."""
         tried = 0
         for language, standard, compiler in languages():
             with self.subTest(f"{compiler} -std={standard}"):
                 words = [compiler, f"-std={standard}", *STRICT, "-fsyntax-only", "-x", language,
                          "-"]
-                done = subprocess.run(words, input=USER, capture_output=True, text=True,
+                done = subprocess.run(words, input=text, capture_output=True, text=True,
                                       check=False)
                 self.assertEqual((done.returncode, done.stderr), (0, ""))
             tried += 1
         self.assertGreater(tried, 0)
+
+    def test_it_is_clean_in_each_language(self) -> None:
+        self.assert_clean(USER)
+
+    def test_it_tells_what_programs_were_built_with(self) -> None:
+        text = KEPT.read_text(encoding="ascii")
+        self.assert_clean(text)
+        kept = re.findall(r"^(?:uint32_t|void) (vdpm_\w+)\(", text, re.MULTILINE)
+        self.assertEqual(sorted(kept), symbols())
+
+    def test_another_layout_number_or_function_is_refused(self) -> None:
+        header, at = (TOP / "libvdpm.h").read_text(encoding="ascii"), Path(folder.name) / "other"
+        at.mkdir()
+        words = ["cc", "-std=c99", f"-I{at}", "-fsyntax-only", str(KEPT)]
+        for before, after in CHANGES:
+            with self.subTest(after):
+                self.assertEqual(header.count(before), 1)
+                (at / "libvdpm.h").write_text(header.replace(before, after), encoding="ascii")
+                done = subprocess.run(words, capture_output=True, check=False)
+                self.assertEqual(done.returncode, 1)
 
 
 class Pictures(unittest.TestCase):
@@ -131,6 +161,7 @@ class Callers(unittest.TestCase):
 
     def test_sanitizers_find_nothing(self) -> None:
         if not has_sanitizers():
+            print("LEFT OUT: callers under sanitizers: cc has none")
             self.skipTest("cc has no sanitizers")
         room, torus = Path(folder.name), TORUS.read_bytes()
         self.assert_clean([str(caller("edges", *SANITIZERS))])
@@ -141,8 +172,10 @@ class Callers(unittest.TestCase):
             made = str(compiled(name, room, *SANITIZERS))
             self.assert_clean([made, str(STREAM), *words], given)
 
-    @unittest.skipUnless(shutil.which("valgrind"), "there is no valgrind")
     def test_valgrind_finds_nothing(self) -> None:
+        if shutil.which("valgrind") is None:
+            print("LEFT OUT: callers under valgrind: there is none")
+            self.skipTest("there is no valgrind")
         words = ["valgrind", "-q", "--leak-check=full", "--error-exitcode=9"]
         self.assert_clean([*words, str(caller("edges"))])
         self.assert_clean([*words, str(compiled("fly", Path(folder.name))), str(STREAM), "4"])

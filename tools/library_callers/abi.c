@@ -1,0 +1,109 @@
+/* What programs were built with that ask for version 1 of the library: its functions, layouts and
+ * numbers, as they were when each was new. A compiler refuses this file where the header tells
+ * another. A new function or number is added here with the version that brings it; no line goes or
+ * changes until the major version does. Layouts are those of 64-bit systems. */
+#include "libvdpm.h"
+
+#define SIZE(type, bytes) typedef char size_of_##type[sizeof(type) == (bytes) ? 1 : -1]
+#define FIELD(type, name, at) typedef char is_##type##_##name[offsetof(type, name) == (at) ? 1 : -1]
+#define NUMBER(name, value) typedef char name##_is[(name) == (value) ? 1 : -1]
+
+/* Of 1.0. */
+
+NUMBER(VDPM_DONE, 0);
+NUMBER(VDPM_FAULTY, 1);
+NUMBER(VDPM_OUT_OF_RANGE, 2);
+NUMBER(VDPM_NO_MEMORY, 5);
+NUMBER(VDPM_NOT_SO, 6);
+NUMBER(VDPM_NO_ROOM, 7);
+NUMBER(VDPM_NO_SUCH, 8);
+NUMBER(VDPM_QUIT, 9);
+NUMBER(VDPM_BAD_LINE, 30);
+NUMBER(VDPM_NO_RECORD, 31);
+NUMBER(VDPM_NONE, 0xFFFFFFFF);
+
+SIZE(vdpm_viewer, 16);
+FIELD(vdpm_viewer, at, 0);
+FIELD(vdpm_viewer, open, 8);
+
+SIZE(vdpm_sizes, 24);
+FIELD(vdpm_sizes, shown_nodes, 0);
+FIELD(vdpm_sizes, shown_faces, 4);
+FIELD(vdpm_sizes, nodes, 8);
+FIELD(vdpm_sizes, leaves, 12);
+FIELD(vdpm_sizes, records, 16);
+FIELD(vdpm_sizes, digits, 20);
+
+SIZE(vdpm_change_sizes, 16);
+FIELD(vdpm_change_sizes, gone_faces, 0);
+FIELD(vdpm_change_sizes, gone_nodes, 4);
+FIELD(vdpm_change_sizes, new_nodes, 8);
+FIELD(vdpm_change_sizes, put_faces, 12);
+
+SIZE(vdpm_made, 16);
+FIELD(vdpm_made, at, 0);
+FIELD(vdpm_made, open, 8);
+
+SIZE(vdpm_fault, 16);
+FIELD(vdpm_fault, number, 0);
+FIELD(vdpm_fault, place, 8);
+
+uint32_t vdpm_open(const uint8_t *, size_t, uint32_t, vdpm_viewer *, uint64_t *);
+uint32_t vdpm_line(vdpm_viewer *, const uint8_t *, size_t);
+uint32_t vdpm_reply_length(vdpm_viewer *, size_t *);
+uint32_t vdpm_reply(vdpm_viewer *, uint8_t *, size_t);
+uint32_t vdpm_counts(vdpm_viewer *, vdpm_sizes *);
+uint32_t vdpm_frame(vdpm_viewer *, uint32_t *, size_t, int32_t *, size_t, uint32_t *, size_t,
+                    uint32_t *, size_t, uint32_t *, size_t);
+uint32_t vdpm_change(vdpm_viewer *, uint32_t *, size_t, uint32_t *, size_t, uint32_t *, size_t,
+                     int32_t *, size_t, uint32_t *, size_t, uint32_t *, size_t,
+                     vdpm_change_sizes *);
+uint32_t vdpm_splitter(vdpm_viewer *, uint32_t, uint32_t *);
+uint32_t vdpm_maker(vdpm_viewer *, uint32_t, uint32_t *);
+uint32_t vdpm_ancestor(vdpm_viewer *, uint32_t, uint32_t *);
+uint32_t vdpm_place(vdpm_viewer *, uint32_t, int32_t *, size_t);
+uint32_t vdpm_means(vdpm_viewer *, uint32_t, const uint16_t *, size_t, uint16_t *, size_t);
+void vdpm_close(vdpm_viewer *);
+
+uint32_t vdpm_build(const uint8_t *, size_t, uint32_t, uint32_t, vdpm_made *, vdpm_fault *);
+uint32_t vdpm_simplify(const uint8_t *, size_t, uint32_t, uint32_t, uint32_t, vdpm_made *,
+                       vdpm_fault *);
+uint32_t vdpm_prepare(const uint8_t *, size_t, uint32_t, vdpm_made *, vdpm_fault *);
+uint32_t vdpm_made_length(vdpm_made *, size_t *, size_t *);
+uint32_t vdpm_made_bytes(vdpm_made *, uint8_t *, size_t);
+uint32_t vdpm_made_notes(vdpm_made *, uint8_t *, size_t);
+void vdpm_made_close(vdpm_made *);
+
+/* Of 1.1. */
+
+NUMBER(VDPM_BY_ERROR, 0);
+NUMBER(VDPM_BY_DEVIATION, 1);
+
+SIZE(vdpm_look, 28);
+FIELD(vdpm_look, eye, 0);
+FIELD(vdpm_look, focal, 12);
+FIELD(vdpm_look, tolerance, 16);
+FIELD(vdpm_look, silhouette, 20);
+FIELD(vdpm_look, measure, 24);
+
+SIZE(vdpm_moved, 8);
+FIELD(vdpm_moved, moves, 0);
+FIELD(vdpm_moved, left, 4);
+
+SIZE(vdpm_box, 24);
+FIELD(vdpm_box, low, 0);
+FIELD(vdpm_box, high, 12);
+
+SIZE(vdpm_fineness, 24);
+FIELD(vdpm_fineness, error, 0);
+FIELD(vdpm_fineness, deviation, 8);
+FIELD(vdpm_fineness, split, 16);
+
+uint32_t vdpm_version(void);
+uint32_t vdpm_view(vdpm_viewer *, const vdpm_look *, const int64_t *, size_t, vdpm_moved *);
+uint32_t vdpm_fits(vdpm_viewer *, uint32_t, const int32_t *, size_t, int32_t *, size_t);
+uint32_t vdpm_inputs(vdpm_viewer *, uint32_t *, size_t, uint32_t *, size_t, uint32_t *);
+uint32_t vdpm_extent(vdpm_viewer *, vdpm_box *);
+uint32_t vdpm_level(vdpm_viewer *, vdpm_fineness *);
+uint32_t vdpm_pack(const uint8_t *, size_t, vdpm_made *, vdpm_fault *);
+uint32_t vdpm_unpack(const uint8_t *, size_t, vdpm_made *, vdpm_fault *);
