@@ -12,7 +12,7 @@ import sys
 import tempfile
 import unittest
 from pathlib import Path
-from typing import Iterator, List, Tuple
+from typing import Iterator, List, Sequence, Tuple
 
 from tried_library import TOP, compiled, take_library
 
@@ -81,10 +81,12 @@ def has_sanitizers() -> bool:
 
 
 class Header(unittest.TestCase):
-    def assert_clean(self, text: str) -> None:
-        """A file of C and C++ is clean in each standard."""
+    def assert_clean(self, text: str, standards: Sequence[str] = ()) -> None:
+        """A file of C and C++ is clean in these standards, or in each."""
         tried = 0
         for language, standard, compiler in languages():
+            if standards and standard not in standards:
+                continue
             with self.subTest(f"{compiler} -std={standard}"):
                 words = [compiler, f"-std={standard}", *STRICT, "-fsyntax-only", "-x", language,
                          "-"]
@@ -96,6 +98,16 @@ class Header(unittest.TestCase):
 
     def test_it_is_clean_in_each_language(self) -> None:
         self.assert_clean(USER)
+
+    def test_the_lines_of_the_page_compile(self) -> None:
+        page = (TOP / "docs/LIBRARY.md").read_text(encoding="utf-8")
+        lines = re.findall(r"^    (?!\$ )(.*)", page[page.index("## From C"):page.index("## Vers")],
+                           re.MULTILINE)
+        self.assertGreater(len(lines), 6)
+        told = "const uint8_t *text, size_t text_length, const uint8_t *bytes, size_t length"
+        self.assert_clean("\n".join([
+            '#include "libvdpm.h"', f"uint32_t page({told});", f"uint32_t page({told}) {{", *lines,
+            "return status; }", ""]), ("c99", "c17", "c++11", "c++20"))
 
     def test_it_tells_what_programs_were_built_with(self) -> None:
         text = KEPT.read_text(encoding="ascii")
