@@ -18,6 +18,7 @@ import vdpm
 from vdpm.library import DONE, NOT_SO, Handle, Scale, Told, load
 
 OCTAHEDRON = TOP / "examples" / "octahedron.obj"
+RING = TOP / "examples" / "ring_scan.obj"
 folder = tempfile.TemporaryDirectory(prefix="library-")
 
 
@@ -155,6 +156,21 @@ class FromC(unittest.TestCase):
         words = [str(compiled("make", Path(folder.name))), "6"]
         done = subprocess.run(words, input=OCTAHEDRON.read_bytes(), capture_output=True, check=True)
         self.assertEqual(done.stdout, vdpm.simplify(OCTAHEDRON.read_bytes(), 6))
+
+    def test_coordinates_from_c(self) -> None:
+        scale = str(compiled("scale", Path(folder.name)))
+        for text in (RING.read_bytes(), b"v 0 0 -7\nv 9 0 0\nv 0 9 0\nf 1 2 3\n"):
+            made = vdpm.prepare(text)
+            done = subprocess.run([scale], input=text, capture_output=True, check=True)
+            rows = [line.split()[1:] for line in made.text.splitlines() if line[:1] == b"v"]
+            self.assertEqual(len(done.stdout.splitlines()), len(rows))
+            for told, row in zip(done.stdout.splitlines(), rows):
+                for number, place, middle in zip(told.split(), row, made.middle):
+                    exact = made.scale * int(place) + middle
+                    self.assertAlmostEqual(float(number), float(exact), delta=1e-9)
+        text = b"v 0 0 0\nf 1 2 3\n"
+        done = subprocess.run([scale], input=text, capture_output=True, check=False)
+        self.assertEqual((done.returncode, done.stdout), (1, b""))
 
     def test_each_allocation_failing_in_turn(self) -> None:
         text = OCTAHEDRON.read_bytes()
