@@ -14,9 +14,10 @@ from second_try import TriedTwice
 
 TOOLS = Path(__file__).resolve().parent
 SUBJECTS = (
-    "programs", "models", "serving", "films", "looking", "controls", "settings", "following",
-    "gliding", "judging", "keeping", "playing", "arrays", "libraries", "worlds", "draping",
-    "textured", "terrain", "exaggerating", "hollows", "upright", "sizes", "returning", "alone",
+    "programs", "models", "large", "serving", "films", "looking", "controls", "settings",
+    "following", "gliding", "judging", "keeping", "playing", "arrays", "libraries", "worlds",
+    "draping", "textured", "terrain", "exaggerating", "hollows", "upright", "sizes", "returning",
+    "alone",
 )
 NO_BROWSER = "no Chromium"
 

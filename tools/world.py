@@ -26,14 +26,13 @@ from typing import List, Optional
 from viewer.main import programs_of
 from worlds.building import Build, build_world
 from worlds.checking import check_world
-from worlds.form import World, WorldFault, read_world, write_world
+from worlds.form import FACES, World, WorldFault, read_world, write_world
 from worlds.making import Asked, make_world
 from worlds.parents import make_parent
 from worlds.progress import Work
 from worlds.tiles3d import FILE, Export, write_tiles3d
 
 TOP = Path(__file__).resolve().parent.parent
-FACES = 100_000
 
 
 def say(text: str) -> None:

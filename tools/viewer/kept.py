@@ -23,7 +23,7 @@ from .model import Dress, Model, Programs, Scale
 
 MOST_BYTES = 1_000_000_000
 TOP = Path(__file__).resolve().parent.parent.parent
-_FORM = b"kept 2\n"
+_FORM = b"kept 3\n"
 
 
 def folder() -> Path:

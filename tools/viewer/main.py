@@ -1,12 +1,13 @@
 """Shows a mesh in a window of the browser: what is refined follows the camera.
 
     ./viewer MODEL [--open] [--fresh] [--budget N] [--memory MB] [--program PATH] [--library]
-        [--port P] [--drape IMAGE [WEST SOUTH EAST NORTH]]
+        [--port P] [--drape IMAGE [WEST SOUTH EAST NORTH]] [--spacing S] [--rise H] [--world]
     ./viewer --film FLIGHT MODEL [--budget N] [--program PATH] > film.html
     ./viewer --page [MODEL] [--module FILE] > page.html
 
 MODEL is a stream, packed or not; or an OBJ, PLY or STL file, which `simplify` builds first, after
-`prepare` where it isn't fit; or the world.json of a world of tiles (docs/WORLDS.md). The page's
+`prepare` where it isn't fit; or a height field; or the world.json of a world of tiles
+(docs/WORLDS.md), into which --world cuts what has too many faces for one mesh. The page's
 address is printed, and --open opens it; Ctrl-C ends all. With --film the script FLIGHT is played,
 and its frames are written as one page that needs no server. With --page the window itself is
 written as one page that needs no server: it shows MODEL, or what is dropped on it, by the engine as
@@ -22,6 +23,7 @@ import signal
 import sys
 import threading
 import webbrowser
+from math import inf
 from pathlib import Path
 from types import FrameType
 from typing import List, Optional, Union
@@ -32,7 +34,9 @@ from dressing.materials import Picture, pictures_for
 from . import kept, progress, seat
 from .alone import page_of
 from .drape import BadDrape, Drape, drape_of
+from .fields import ONE, Steps, is_field
 from .film import BadFlight, film_page
+from .large import WORLD, shown_for
 from .library import NOT_BUILT, TO_BUILD, built_library
 from .model import Dress, Model, Programs, is_built, model_of, tell, with_packed_stream
 from .module import NoModule, module_of
@@ -44,7 +48,6 @@ from .world import WorldServer, WorldShowing, showing_of
 
 MEMORY = 1000  # megabytes
 TOLD = 2.0     # seconds that a page has to hear why there is nothing to show
-WORLD = "world.json"
 TOP = Path(__file__).resolve().parent.parent.parent
 
 
@@ -54,13 +57,20 @@ def budget_of(text: str) -> int:
     return int(text)
 
 
+def positive(text: str) -> float:
+    number = float(text)
+    if not 0 < number < inf:
+        raise argparse.ArgumentTypeError(f"{text} isn't above 0")
+    return number
+
+
 def arguments(words: Optional[List[str]] = None) -> argparse.Namespace:
     parser = argparse.ArgumentParser(
         prog="viewer",
         description="Shows a mesh in the browser, refined for where the camera looks.",
     )
     add = parser.add_argument
-    model = "a stream, an OBJ, PLY or STL file, or a world.json"
+    model = "a stream, an OBJ, PLY or STL file, a height field, or a world.json"
     add("model", type=Path, nargs="?", help=model)
     add("--open", action="store_true", help="open the page in the browser")
     add("--budget", type=budget_of, default=ALL_MOVES, help="splits and collapses a view may make")
@@ -74,6 +84,9 @@ def arguments(words: Optional[List[str]] = None) -> argparse.Namespace:
     edges = "a picture over a terrain, with its west, south, east and north, or a world file's"
     add("--drape", nargs="+", metavar=("IMAGE", "EDGE"), help=edges)
     add("--fresh", action="store_true", help="build a model anew that was built before")
+    add("--world", action="store_true", help="cut a file that has too many faces into tiles")
+    add("--spacing", type=positive, default=1.0, help="between the points of a .pgm")
+    add("--rise", type=positive, default=1.0, help="of a step of grey of a .pgm")
     asked = parser.parse_args(words)
     if asked.model is None and not asked.page:
         parser.error("a model is needed, but for --page")
@@ -91,7 +104,8 @@ def found(asked: argparse.Namespace) -> Model:
     """The model that is asked for; ProgramEnded where it can't be had."""
     try:
         dresses = not asked.page and asked.film is None  # (these show no textures)
-        model = model_kept(asked.model, programs_of(asked.program), asked.fresh, dresses)
+        programs, steps = programs_of(asked.program), Steps(asked.spacing, asked.rise)
+        model = model_kept(asked.model, programs, asked.fresh, dresses, steps)
     except OSError as fault:
         raise ProgramEnded(f"it can't be read: {fault.strerror}") from fault
     tell(f"{asked.model}: {model.counts}")
@@ -106,18 +120,21 @@ def loaded(asked: argparse.Namespace) -> Model:
         sys.exit(f"viewer: {asked.model}: {fault}")
 
 
-def model_kept(path: Path, programs: Programs, fresh: bool, dresses: bool = False) -> Model:
+def model_kept(
+    path: Path, programs: Programs, fresh: bool, dresses: bool = False, steps: Steps = ONE
+) -> Model:
     """The model of a file. What was built of a text once is taken again, unless it shall be built
     afresh."""
     text = path.read_bytes()
     dresses = dresses and has_dress(path, text)
-    key = None if is_built(text) else kept.name_for(text, programs, dresses)
+    given = text + repr(steps).encode() if is_field(path) else text
+    key = None if is_built(text) else kept.name_for(given, programs, dresses)
     found = None if fresh or key is None else kept.found(key, path.name)
     if found is not None:
         tell(f"it was built before, and kept in {kept.folder()}: --fresh builds it anew")
         return found
-    model = model_of(path, programs, dresses)
-    key = None if is_built(text) else kept.name_for(text, programs, dresses)
+    model = model_of(path, programs, dresses, steps)
+    key = None if is_built(text) else kept.name_for(given, programs, dresses)
     if key is not None:  # (programs that are built by their first run are known after it)
         kept.keep(key, model)
     return model
@@ -234,9 +251,13 @@ def window(asked: argparse.Namespace) -> None:
     too."""
     try:
         drape = drape_of(asked.drape) if asked.drape else None
+        programs, steps = programs_of(asked.program), Steps(asked.spacing, asked.rise)
+        asked.model = shown_for(asked.model, asked.world, programs, steps)
         server = listening(asked)
     except BadDrape as bad:
         sys.exit(f"viewer: {bad}")
+    except ProgramEnded as fault:
+        sys.exit(f"viewer: {asked.model}: {fault}")
     except OSError as fault:
         sys.exit(f"viewer: {asked.model} can't be read: {fault.strerror}")
     for name in ("SIGHUP", "SIGTERM"):

@@ -1,10 +1,10 @@
 """From a file to a stream that is ready to be looked at.
 
 A file that begins with the bytes `VDPM` is a stream, and `vdpm check` judges it; one with `VDPK`
-is a packed stream, which `pack` unpacks before. Of a PLY or STL file an OBJ text is made; any other
-is taken for one: `vdpm canon` judges it with the least number of decimals that it allows; where
-that refuses it, `prepare` makes it fit; then `simplify` makes the stream. Each step is told on
-standard error, with the seconds where it takes some.
+is a packed stream, which `pack` unpacks before. Of a PLY or STL file and of a height field an OBJ
+text is made; any other is taken for one: `vdpm canon` judges it with the least number of decimals
+that it allows; where that refuses it, `prepare` makes it fit; then `simplify` makes the stream.
+Each step is told on standard error.
 """
 import re
 import subprocess
@@ -22,6 +22,7 @@ from mesh_files.reading import as_obj, without_faces
 from mesh_files.soup import MeshFault
 
 from . import colours, manual, progress
+from .fields import ONE, Steps, field_text, is_field
 from .program import UNPROVED, ProgramEnded, end_of, feed, is_notice
 
 MAGIC, PACKED = b"VDPM", b"VDPK"
@@ -188,13 +189,14 @@ def unpacked(text: bytes, pack: Path) -> Done:
     return needed(run(pack, ["--unpack"], text, "unpacking"), manual.PACK)
 
 
-def model_of(path: Path, programs: Programs, dresses: bool = False) -> Model:
+def model_of(path: Path, programs: Programs, dresses: bool = False, steps: Steps = ONE) -> Model:
     """The model of a file; ProgramEnded where it can't be had, and OSError where it can't be
-    read. Where `dresses` says so it has the dress of a textured file, and is cut open for that."""
+    read. Where `dresses` says so it has the dress of a textured file, and is cut open for that.
+    `steps` are those of a height field that doesn't tell its own."""
     text = path.read_bytes()
     if not is_built(text):
         dresses = dresses and has_dress(path, text)
-        return _built(path.name, text_at(path), text, programs, dresses)
+        return _built(path.name, text_at(path, steps), text, programs, dresses)
     stream = unpacked(text, programs.pack)
     checked = needed(run(programs.vdpm, ["check"], stream.out, "checking"), manual.STREAM)
     counts = checked.out.decode("ascii").strip()
@@ -207,10 +209,10 @@ def with_packed_stream(model: Model, programs: Programs) -> Model:
     return model._replace(stream=done.out)
 
 
-def text_at(path: Path) -> bytes:
-    """The OBJ text of a mesh file; what is passed over of another kind of file is told."""
+def text_at(path: Path, steps: Steps = ONE) -> bytes:
+    """The OBJ text of a file; what is passed over of another kind of file is told."""
     try:
-        text, notes = as_obj(path)
+        text, notes = (field_text(path, steps, tell), []) if is_field(path) else as_obj(path)
     except MeshFault as fault:
         raise ProgramEnded(str(fault)) from None
     for note in notes:
@@ -225,7 +227,7 @@ def _built(name: str, text: bytes, given: bytes, programs: Programs, dresses: bo
     faces = obj.face_count(mesh)
     if faces == 0:
         raise ProgramEnded(str(without_faces(text)))
-    scale = scale_of(mesh) if prepared else None
+    scale = scale_of(mesh)
     found = _colours(text, mesh, prepared, scale)
     stands = (scale or Scale(1.0, (0.0, 0.0, 0.0))) if prepared else None
     cut = dressed(text, mesh, stands) if dresses else None
@@ -281,8 +283,8 @@ def passed_over(text: bytes) -> Tuple[str, ...]:
 
 
 def scale_of(mesh: bytes) -> Optional[Scale]:
-    """How a prepared mesh leads back, by its first line; None where its coordinates are the file's
-    own."""
+    """How a mesh leads back to a file's coordinates, as its first line tells where it was scaled;
+    None where they are its own."""
     found = obj.scale_of(mesh)
     return Scale(*found) if found else None
 

@@ -15,6 +15,7 @@ Side = Tuple[Place, Place]  # a side of a face runs from the first place to the 
 GREATEST_COORDINATE = 32_767
 LONGEST_SPAN = 2 * GREATEST_COORDINATE
 MOST_FACES = 1_048_576
+FACES = 100_000  # of a tile or a parent, where no other number is asked for
 FORM = "cushionwren world 1"
 # Who knows the first form alone refuses a world whose streams are packed.
 PACKED_FORM = "cushionwren world 2"

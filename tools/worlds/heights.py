@@ -88,6 +88,15 @@ def read_heights(
         raise WorldFault(f"{path}: {fault}") from None
 
 
+def size_of(path: Path) -> Tuple[int, int]:
+    """How many columns and rows the head of such a file tells."""
+    with path.open("rb") as file:
+        if path.suffix.lower() == ".pgm":
+            return _pgm_head(file)[:2]
+        head = _head_of(_head_lines(file)[0])
+        return head.columns, head.rows
+
+
 class _Range:
     """The least and the greatest height that is known."""
 
@@ -244,12 +253,18 @@ def _pgm_number(file: BinaryIO) -> int:
             return int(text or b"0")
 
 
-def _read_pgm(file: BinaryIO, spacing: float, rise: float) -> Heights:
+def _pgm_head(file: BinaryIO) -> Tuple[int, int, int]:
+    """Columns, rows and the greatest grey."""
     if file.read(2) != b"P5":
         raise WorldFault("the file is no binary PGM (`P5`)")
     columns, rows, greatest = (_pgm_number(file) for _ in range(3))
     if not (columns and rows and 0 < greatest < 65_536):
         raise WorldFault(f"the head tells {columns} by {rows} points of at most {greatest}")
+    return columns, rows, greatest
+
+
+def _read_pgm(file: BinaryIO, spacing: float, rise: float) -> Heights:
+    columns, rows, greatest = _pgm_head(file)
     found = Rows(file, file.tell(), "H" if greatest > 255 else "B", columns, rows, rise)
     known = _Range()
     for row in reversed(range(rows)):
