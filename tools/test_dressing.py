@@ -59,7 +59,8 @@ class Reading(unittest.TestCase):
 
     def test_what_has_none_is_left(self) -> None:
         for text in (b"v 0 0 0\nf 1 1 1\n", b"v 0 0 0\nvt 1 1\nf 1 1 1\n",
-                     b"v 0 0 0\nvt x 1\nf 1/1 1 1\n", b"v 0 0 0\nvt 1 1\nf 1/2 1 1\n"):
+                     b"v 0 0 0\nvt x 1\nf 1/1 1 1\n", b"v 0 0 0\nvt 1 1\nf 1/2 1 1\n",
+                     b"v 0 0 0\nvt nan\nf 1/1 1 1\n", b"v 0 0 0\nvt 1\nf 1/1 1 1\n\\"):
             self.assertIsNone(read(text))
 
 

@@ -3,6 +3,7 @@ import re
 from typing import Dict, List, NamedTuple, Optional, Tuple
 
 from mesh_files.obj import fields_of
+from mesh_files.soup import MeshFault, finite
 
 NONE = -1  # of a corner without a texture coordinate
 _HAS_SOME = re.compile(rb"^[ \t]*(?:vt|usemtl)[ \t]", re.MULTILINE)
@@ -60,10 +61,10 @@ class _Reader:
     def take(self, fields: List[bytes]) -> None:
         word, told = fields[0], self.told
         if word == b"v":
-            x, y, z = map(float, fields[1:4])
+            x, y, z = finite(map(float, fields[1:4]))
             told.places.append((x, y, z))
         elif word == b"vt":
-            u, v = float(fields[1]), float(fields[2]) if len(fields) > 2 else 0.0
+            u, v = finite([float(fields[1]), float(fields[2]) if len(fields) > 2 else 0.0])
             told.spots.append((u, v))
         elif word == b"f":
             self.face(fields[1:])
@@ -104,7 +105,7 @@ def read(text: bytes) -> Optional[Textured]:
     try:
         for _, fields in fields_of(text.split(b"\n")):
             reader.take(fields)
-    except (ValueError, IndexError):
+    except (ValueError, IndexError, MeshFault):
         return None
     told = reader.told
     return told if told.has_spots or any(told.pages) else None
