@@ -4,6 +4,7 @@ faces, and whose box fits into the coordinates of a stream.
 A height field is halved along its rows and columns; soups cuts what is none.
 """
 from dataclasses import dataclass
+from itertools import chain
 from math import isnan
 from typing import Container, FrozenSet, Iterator, List, NamedTuple, Optional, Tuple
 
@@ -13,11 +14,13 @@ from .heights import Heights
 
 class Piece(NamedTuple):
     """The faces of a tile: places of the world, faces over them, and the edges, by places, at which
-    a surface that isn't a manifold is cut open in this tile and in others."""
+    a surface that isn't a manifold is cut open in this tile and in others. The `border` is known of
+    faces that are a manifold over different places, which then aren't looked through."""
 
     places: List[Place]
     faces: List[Corners]
     opened: FrozenSet[FrozenSet[Place]] = frozenset()
+    border: Optional[List[Tuple[int, int]]] = None  # sides by their ends
 
 
 @dataclass(frozen=True)
@@ -51,10 +54,13 @@ class Grid(NamedTuple):
         field, unit, lowest = self.heights, self.unit, self.origin[2]
         y = round(row * field.along / unit)
         return [
-            None if isnan(height) else
-            (round(column * field.across / unit), y, round((height - lowest) / unit))
-            for column, height in enumerate(field.part(row, west, east), west)
+            None if isnan(height) else (x, y, round((height - lowest) / unit))
+            for x, height in zip(self.columns(west, east), field.part(row, west, east))
         ]
+
+    def columns(self, west: int, east: int) -> List[int]:
+        step, unit = self.heights.across, self.unit
+        return [round(column * step / unit) for column in range(west, east + 1)]
 
 
 class Range(NamedTuple):
@@ -97,13 +103,22 @@ def _piece_of(grid: Grid, one: Range) -> Piece:
         known += [place is not None for place in found]
         places += [place or (0, 0, 0) for place in found]
     faces: List[Corners] = []
-    for here in range(len(places) - wide):
-        if here % wide != wide - 1:
+    for first in range(0, len(places) - wide, wide):
+        for here in range(first, first + wide - 1):
             there = here + wide
-            faces += [(here, here + 1, there + 1), (here, there + 1, there)]
-    if not all(known):
-        faces = [(a, b, c) for a, b, c in faces if known[a] and known[b] and known[c]]
-    return Piece(places, faces)
+            faces.append((here, here + 1, there + 1))
+            faces.append((here, there + 1, there))
+    if all(known):
+        return Piece(places, faces, border=_around(wide, len(places)))
+    return Piece(places, [(a, b, c) for a, b, c in faces if known[a] and known[b] and known[c]])
+
+
+def _around(wide: int, points: int) -> List[Tuple[int, int]]:
+    """The border sides of rows of points, so many in each, counterclockwise."""
+    south_east, north_west = wide - 1, points - wide
+    way = [*range(south_east), *range(south_east, points - 1, wide)]
+    way += [*range(points - 1, north_west, -1), *range(north_west, -1, -wide)]
+    return list(zip(way, way[1:]))
 
 
 def cut_grid(grid: Grid, most: int, known: Container[str]) -> Iterator[Half]:
@@ -128,5 +143,5 @@ def cut_grid(grid: Grid, most: int, known: Container[str]) -> Iterator[Half]:
 
 
 def _fits(piece: Piece) -> bool:
-    used = [piece.places[corner] for face in piece.faces for corner in face]
-    return not used or fits(*box_of(used))
+    used = set(chain.from_iterable(piece.faces))
+    return not used or fits(*box_of(piece.places[corner] for corner in used))

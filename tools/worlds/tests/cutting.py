@@ -4,7 +4,9 @@ import struct
 from math import cos, pi, sin
 from typing import List, Tuple
 
+from ..cutting import Grid, cut_grid
 from ..form import Corners, Place, Side, WorldFault, below, box_of
+from ..heights import read_heights
 from ..mending import border_sides, mended
 from ..parents import together
 from .common import (
@@ -61,6 +63,17 @@ class Fields(WithWorld):
         self.assertEqual(len(world.level(0)), 8)  # two rows, and four columns of two cells
         spans = [b - a for t in world.tiles.values() for a, b in zip(t.low, t.high)]
         self.assertLessEqual(max(spans), 65_534)
+
+    def test_the_border_of_a_field_without_holes_is_known(self) -> None:
+        for rows, columns in ((2, 2), (2, 7), (6, 2), (4, 5)):
+            field = random_field(random.Random(rows), rows, columns)
+            heights = read_heights(self.file("field.asc", grid_text(field, 10)), 1, 1)
+            grid = Grid(heights, 1.0, (0.0, 0.0, 0.0))
+            (half,) = cut_grid(grid, 1000, ())
+            assert half.piece is not None and half.piece.border is not None
+            done = mended(half.piece.places, half.piece.faces)
+            self.assertEqual(sorted(done.border), sorted(half.piece.border))
+            self.assertEqual((done.dropped, done.split), (0, 0))
 
     def test_tiles_beside_one_another_are_neighbours(self) -> None:
         field = random_field(random.Random(3), 5, 5)
