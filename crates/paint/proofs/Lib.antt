@@ -1,8 +1,6 @@
-pub mod InputLaws
 pub mod CoatLaws
 pub mod LineLaws
 pub mod PartLaws
 pub mod StreamLaws
 pub mod MadeLaws
 pub mod EndingLaws
-pub mod SaidLaws

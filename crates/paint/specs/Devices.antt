@@ -6,7 +6,7 @@ use Rattle.pm_io.specs.Bytes.{Gains}
 use Rattle.pm_io.specs.Devices.{Tells}
 use Rattle.paint.specs.declared.obeying.TheConstants.{MOST}
 use Rattle.paint.specs.declared.fault.Fault.{Fault}
-use Rattle.paint.specs.Input.{ReadsTo, StopsShort}
+use Rattle.pm_program.specs.Input.{ReadsTo, StopsShort}
 use Rattle.paint.specs.Making.{IsMade, Refuses}
 use Rattle.paint.specs.Ending.{front, Replied, CutShort}
 use Rattle.paint.specs.FaultLine.{fault_line}

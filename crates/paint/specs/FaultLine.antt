@@ -7,8 +7,6 @@ use Rattle.paint.specs.declared.refused.Refused.{Refused}
 use Rattle.paint.specs.declared.refused.Refused.TheVariants as coats
 use Rattle.paint.specs.declared.fault.Fault.{Fault}
 use Rattle.paint.specs.declared.fault.Fault.TheVariants as faults
-use Rattle.paint.specs.declared.fault.RunFail.{RunFail}
-use Rattle.paint.specs.declared.fault.RunFail.TheVariants as fails
 
 -- A fault with a place, a word for what is counted and its number, and why it is one.
 unfoldable pub place_line : ℕ → List ℕ → ℕ → List ℕ → List ℕ
@@ -56,10 +54,3 @@ refused_line (coats.Trailing byte) = byte_line 69 byte (codes "bytes follow the 
 unfoldable pub fault_line : Fault → List ℕ
 fault_line (faults.Stream e) = stream_line e
 fault_line (faults.Coat e) = refused_line e
-
--- Why the program ended early.
-unfoldable pub fail_line : RunFail → List ℕ
-fail_line (fails.Faulty f) = fault_line f
-fail_line fails.Read = codes "paint: read fault\n"
-fail_line fails.Write = codes "paint: write fault\n"
-fail_line fails.OutOfMemory = codes "paint: out of memory\n"

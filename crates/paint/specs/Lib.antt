@@ -1,5 +1,4 @@
 pub mod Words
-pub mod Input
 pub mod Coat
 pub mod Texts
 pub mod Lines

@@ -1,17 +1,15 @@
 -- The words of a command line.
-use Rattle.std.specs.Prelude.{List, [], ◌∷◌, drop, String, Bool, true, false}
-use Rattle.std.specs.Prelude.{Result, Ok, Err}
+use Rattle.std.specs.Prelude.{List, [], ◌∷◌, drop, Option, Some, None, Ok, Err}
 use Rattle.std.specs.Vec.Iter.{into_iter_items}
-use Rattle.std.specs.declared.alloc.Global.{Global}
-use Rattle.std.specs.declared.vec.IntoIter.{IntoIter}
-use Rattle.std.specs.declared.io.Error.{Error}
+use Rattle.pm_program.specs.Endings.{Arguments}
 
--- There are none, as there should be.
-abbrev pub are_none : {W : Type 0} → List W → Bool
-are_none [] = true
-are_none (word ∷ words) = false
+-- No word asks for the lines of a coat, and words for nothing.
+abbrev pub asked_by : {W : Type 0} → List W → Option (Unit {0})
+asked_by [] = Some tt
+asked_by (word ∷ words) = None
 
--- The arguments of a program could be gathered, and are its name and no word more.
-abbrev pub understood : Result (IntoIter (String Global) Global) Error → Bool
-understood (Ok args) = are_none (drop 1 (into_iter_items args))
-understood (Err e) = false
+-- The same of the arguments of a program, of which the first is its name. None are understood where
+-- they can't be gathered.
+abbrev pub asked_of : Arguments → Option (Unit {0})
+asked_of (Ok args) = asked_by (drop 1 (into_iter_items args))
+asked_of (Err e) = None

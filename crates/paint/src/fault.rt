@@ -21,15 +21,6 @@ pub enum MakeFail {
     OutOfMemory,
 }
 
-/// Why the program ends early.
-#[derive(Clone, Copy, Debug, PartialEq, Eq)]
-pub enum RunFail {
-    Faulty(Fault),
-    Read,
-    Write,
-    OutOfMemory,
-}
-
 /// Why nothing is made where a stream has a fault. Want of memory is none.
 pub fn of_stream(fault: FormatError) -> MakeFail
     ensures { result ≡ stream_fail fault }

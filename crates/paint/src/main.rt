@@ -4,7 +4,6 @@
 
 mod coat;
 mod fault;
-mod input;
 mod judging;
 mod lines;
 mod making;

@@ -1,27 +1,18 @@
 //! What the program does with its devices. All memory is taken before the first byte of output.
 ghost use Rattle.std.specs.Prelude.{◌≡◌, ◌≤◌, ◌^◌, false, length};
-ghost use Rattle.paint.specs.Ending.{EndsOn, Ends, PutCounts, ReadCounts};
-ghost use Rattle.paint.specs.Ending.{of_input_fail, of_make_fail};
+ghost use Rattle.pm_program.specs.Fails.{PutCounts, ReadCounts};
+ghost use Rattle.paint.specs.Ending.{EndsOn, Ends, of_make_fail};
 
-use crate::fault::{MakeFail, RunFail};
-use crate::input::{InputFail, read_up_to};
+use crate::fault::{Fault, MakeFail};
 use crate::making::paint;
 use pm_io::{Sink, Source, put_all};
+use pm_program::{RunFail, of_input, read_up_to};
 use std::alloc::Global;
 
 /// How many bytes of the input are looked at, at most. No stream text has as many.
 pub const MOST: usize = 0x4000_0000;
 
-fn of_input(fail: InputFail) -> RunFail
-    ensures { result ≡ of_input_fail fail }
-{
-    match fail {
-        InputFail::Read => RunFail::Read,
-        InputFail::OutOfMemory => RunFail::OutOfMemory,
-    }
-}
-
-fn of_make(fail: MakeFail) -> RunFail
+fn of_make(fail: MakeFail) -> RunFail<Fault>
     ensures { result ≡ of_make_fail fail }
 {
     match fail {
@@ -31,7 +22,7 @@ fn of_make(fail: MakeFail) -> RunFail
 }
 
 // Puts what is made of bytes.
-fn put_made<K: Sink>(alloc: Global, bytes: &[u8], out: &mut K) -> Result<(), RunFail>
+fn put_made<K: Sink>(alloc: Global, bytes: &[u8], out: &mut K) -> Result<(), RunFail<Fault>>
     requires { length bytes.now ≤ 2 ^ 30 }
     ensures ends { EndsOn result bytes.now (K.got out.old) (K.got out.new) }
     ensures counts { PutCounts result (K.faults out.old) (K.faults out.new) }
@@ -46,7 +37,11 @@ fn put_made<K: Sink>(alloc: Global, bytes: &[u8], out: &mut K) -> Result<(), Run
 }
 
 /// Puts what is made of the input.
-pub fn obey<S: Source, K: Sink>(alloc: Global, input: &mut S, out: &mut K) -> Result<(), RunFail>
+pub fn obey<S: Source, K: Sink>(
+    alloc: Global,
+    input: &mut S,
+    out: &mut K,
+) -> Result<(), RunFail<Fault>>
     requires { S.ended input.old ≡ false }
     ensures ends { Ends result (S.left input.old) (S.left input.new) (K.got out.old)
         (K.got out.new) }

@@ -1,15 +1,18 @@
 //! The words of the command line.
 ghost use Rattle.std.specs.Prelude.{◌≡◌, drop};
 ghost use Rattle.std.specs.Vec.Iter.{into_iter_items};
-ghost use Rattle.paint.specs.Words.{are_none};
+ghost use Rattle.paint.specs.Words.{asked_by};
 
 use std::env::Args;
 
-/// Whether no word follows the program's name.
-pub fn are_none(args: Args) -> bool
-    ensures { result ≡ are_none (drop 1 (into_iter_items args)) }
+/// That no word follows the program's name, as there should be none.
+pub fn read_words(args: Args) -> Option<()>
+    ensures { result ≡ asked_by (drop 1 (into_iter_items args)) }
 {
     let mut words = args;
     let _name = words.next();
-    words.next().is_none()
+    match words.next() {
+        Some(_) => None,
+        None => Some(()),
+    }
 }

@@ -1,7 +1,7 @@
 use Rattle.std.proofs.Common.{List, ℕ, subst}
 use Rattle.paint.specs.declared.obeying.TheConstants.{MOST}
 use Rattle.paint.specs.Ending.{EndsOn}
-use Rattle.paint.proofs.InputLaws.{front_few}
+use Rattle.pm_program.proofs.InputLaws.{front_few}
 use Rattle.paint.proofs.EndingLaws.{ends_of}
 use Rattle.paint.proofs.obeying.obey.Goals as goal
 

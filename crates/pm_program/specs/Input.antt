@@ -3,8 +3,8 @@ use Rattle.std.specs.Prelude.{◌≡◌, ◌⊎◌, ℕ, ◌<◌, ◌≤◌, Lis
 use Rattle.std.specs.Prelude.{Ok, Err}
 use Rattle.pm_io.specs.Bytes.{Loses, AtEnd}
 use Rattle.pm_io.specs.Causes.{Rose}
-use Rattle.paint.specs.declared.input.InputFail.{InputFail}
-use Rattle.paint.specs.declared.input.InputFail.TheVariants as fails
+use Rattle.pm_program.specs.declared.input.InputFail.{InputFail}
+use Rattle.pm_program.specs.declared.input.InputFail.TheVariants as fails
 
 -- What the source lost was added to the bytes.
 pub record Took (left now : Option (List ℕ)) (old new : List ℕ) : Type 0 where

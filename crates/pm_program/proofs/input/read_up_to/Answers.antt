@@ -1,6 +1,6 @@
 use Rattle.std.proofs.Common.{◌≤◌, length, arith}
-use Rattle.paint.proofs.InputLaws.{front_all, front_cut}
-use Rattle.paint.proofs.input.read_up_to.Goals as goal
+use Rattle.pm_program.proofs.InputLaws.{front_all, front_cut}
+use Rattle.pm_program.proofs.input.read_up_to.Goals as goal
 
 pub returns-in-Ok-false-clause-ok : goal.returns-in-Ok-false-clause-ok
 returns-in-Ok-false-clause-ok g c =

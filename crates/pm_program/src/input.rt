@@ -1,8 +1,10 @@
 //! The first bytes of the input.
 ghost use Rattle.std.specs.Prelude.{◌≡◌, ◌<◌, ◌≤◌, length, true, false, IfOk, IfErr, OnOk};
 ghost use Rattle.pm_io.specs.Bytes.{AtEnd};
-ghost use Rattle.paint.specs.Input.{Took, HoldsFront, StopsShort, InputCounts};
+ghost use Rattle.pm_program.specs.Input.{Took, HoldsFront, StopsShort, InputCounts};
+ghost use Rattle.pm_program.specs.Fails.{of_input_fail};
 
+use crate::RunFail;
 use pm_io::Source;
 use std::alloc::Global;
 
@@ -11,6 +13,16 @@ use std::alloc::Global;
 pub enum InputFail {
     Read,
     OutOfMemory,
+}
+
+/// Why a program ends early whose input isn't there.
+pub fn of_input<F>(fail: InputFail) -> RunFail<F>
+    ensures { result ≡ of_input_fail fail }
+{
+    match fail {
+        InputFail::Read => RunFail::Read,
+        InputFail::OutOfMemory => RunFail::OutOfMemory,
+    }
 }
 
 // Adds the next bytes, and answers whether more may come.

@@ -1,6 +1,6 @@
 use Rattle.std.proofs.Common.{◌≡◌, ◌-◌, length, false}
 use Rattle.pm_io.specs.Bytes.{Loses}
-use Rattle.paint.proofs.input.read_up_to.Given as goal
+use Rattle.pm_program.proofs.input.read_up_to.Given as goal
 
 abbrev pub invariant-loop-bytes : goal.invariant-loop-bytes
 invariant-loop-bytes g l = record {

@@ -4,7 +4,7 @@ use Rattle.std.proofs.Common.{Some, None, IfSome, sym, ◌∙◌, ap, subst, ari
 use Rattle.std.proofs.lemmas.List.{append-nil, take_all, take-append-le, length-take}
 use Rattle.pm_io.specs.Bytes.{Loses, AtEnd}
 use Rattle.pm_io.proofs.Known.{loses_both}
-use Rattle.paint.specs.Input.{Took, HoldsFront}
+use Rattle.pm_program.specs.Input.{Took, HoldsFront}
 
 -- After one more piece.
 pub took_on : (left mid now : Option (List ℕ)) (old new : List ℕ) → Loses left mid old

@@ -1,0 +1,4 @@
+pub mod Stops
+pub mod Fails
+pub mod Input
+pub mod Endings

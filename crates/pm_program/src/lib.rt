@@ -1,0 +1,11 @@
+//! What programs share: why they end early, what they say of it, their statuses, and how the first
+//! bytes of an input are read.
+#![tactic(auto)]
+
+mod fail;
+mod input;
+mod stop;
+
+pub use fail::RunFail;
+pub use input::{InputFail, of_input, read_up_to};
+pub use stop::{Stop, refuse_words, say, tell_stop};
