@@ -1,24 +1,15 @@
 //! The program over any source and sinks.
-ghost use Rattle.std.specs.Prelude.{◌≡◌, ◌⊎◌, ◌≤◌, map, ℕ, List, false, None, Some, codes};
+ghost use Rattle.std.specs.Prelude.{◌≡◌, ◌≤◌, map, false, None, codes};
 ghost use Rattle.std.specs.String.{string_bytes};
-ghost use Rattle.pm_io.specs.Causes.{Rose};
-ghost use Rattle.pm_io.specs.Devices.{Tells};
-ghost use Rattle.pm_io.specs.Endings.{Untouched, CountsFaults, Says, NoneFailed};
-ghost use Rattle.pm_commands.specs.declared.fault.Fault.{Fault};
-ghost use Rattle.pm_commands.specs.declared.asked.Border.{Border};
-ghost use Rattle.pm_commands.specs.declared.asked.Asked.{Asked};
-ghost use Rattle.pm_commands.specs.Ran.{Ran};
-ghost use Rattle.pm_commands.specs.Outcome.{IsOutcome};
-ghost use Rattle.pm_commands.specs.Ending.{ReadFails, ReadToEnd, Answers};
-ghost use Rattle.pm_commands.specs.Devices.{Replies, SimplifiedLeadsBack, Breaks};
-ghost use Rattle.pm_commands.specs.Devices.{SimplifiedShowsSurfaces, ShowsKeptBorder};
+ghost use Rattle.pm_io.specs.Endings.{Untouched, CountsFaults, Says};
 ghost use Rattle.simplify.specs.Words.{asked_of};
 ghost use Rattle.simplify.specs.Asking.{Asks};
-ghost use Rattle.simplify.specs.FaultLine.{fault_line};
+ghost use Rattle.simplify.specs.Endings.{Obeys};
 
 use crate::words::read_words;
-use pm_commands::{Asked, Border, obey, outcomes_are_sound, say, tell};
+use pm_commands::{obey, outcomes_are_sound, tell};
 use pm_io::{Sink, Source};
+use pm_program::{Stop, tell_stop};
 use std::alloc::Global;
 
 /// Does what the words after the program's name ask for, and answers the exit status.
@@ -44,47 +35,15 @@ pub fn run<S: Source, K: Sink, E: Sink>(
     ensures refused { asked_of (map string_bytes words.now) ≡ None → result ≡ 2 }
     ensures known { result ≡ 2 → asked_of (map string_bytes words.now) ≡ None }
     ensures untouched { result ≡ 2 → Untouched S.Source K.Sink input.old input.new out.old out.new }
-    // The outcome of what was asked for is whole, exactly its text was put, and the input was read
-    // to its end, where that decides the outcome.
-    ensures whole { (asked : Asked) → Asks words.now asked → result ≡ 0
-        → Replies S.Source K.Sink asked None input.old out.old out.new }
-    ensures read_whole { (asked : Asked) → Asks words.now asked → result ≡ 0
-        → ReadToEnd asked (S.left input.old) (S.left input.new) }
-    // What `canon` does with the OBJ text, `expand` does with the stream, and each frame that
-    // `view` writes of it shows an oriented manifold; where the border was kept, with exactly the
-    // border sides of the text's mesh, at the same places.
-    ensures expands { (target digits : ℕ) (border : Border)
-        → Asks words.now (Asked.Simplify target digits border) → result ≡ 0
-        → SimplifiedLeadsBack S.Source K.Sink target digits border input.old out.old out.new }
-    ensures surfaces { (target digits : ℕ) (border : Border)
-        → Asks words.now (Asked.Simplify target digits border) → result ≡ 0
-        → SimplifiedShowsSurfaces S.Source K.Sink target digits border input.old out.old out.new }
-    ensures meets { (target digits : ℕ) → Asks words.now (Asked.Simplify target digits Border.Kept)
-        → result ≡ 0 → ShowsKeptBorder S.Source K.Sink target digits input.old out.old out.new }
-    // The outcome has a fault, which is said, and the text before it was put, which is none.
-    ensures faulty { (asked : Asked) → Asks words.now asked → result ≡ 1 → (f : Fault)
-        × Replies S.Source K.Sink asked (Some f) input.old out.old out.new
-        × Tells E.Sink err.old err.new (fault_line f) }
-    // A read failed before the bytes that decide the outcome were all taken, and nothing was put.
-    ensures unreached { (asked : Asked) → Asks words.now asked → result ≡ 3
-        → ReadFails asked (S.left input.old) (S.left input.new) (K.got out.old) (K.got out.new) }
-    // A write failed, and a proper prefix of the text was put.
-    ensures write { (asked : Asked) → Asks words.now asked → result ≡ 4
-        → Rose (K.faults out.old) (K.faults out.new)
-        × Breaks S.Source K.Sink asked input.old out.old out.new }
-    ensures memory { result ≡ 5 → K.got out.new ≡ K.got out.old }
+    // What was asked for was done, or the status tells why not.
+    ensures obeys { Obeys S.Source K.Sink E.Sink (λ a. Asks words.now a) result input.old input.new
+        out.old out.new err.old err.new }
     ensures counts { CountsFaults S.Source K.Sink result input.old input.new out.old out.new }
     ensures said { Says E.Sink (codes "simplify") result err.old err.new }
-    // Where no device failed, a whole outcome gives 0 and a fault gives 1, unless memory is wanted.
-    ensures complete { (asked : Asked) (bytes : List ℕ) (all : Ran) → Asks words.now asked
-        → S.left input.old ≡ Some bytes → IsOutcome asked bytes all
-        → NoneFailed S.Source K.Sink input.old input.new out.old out.new
-        → Answers all.fault result ⊎ (result ≡ 5) }
 {
     outcomes_are_sound();
     let Some(asked) = read_words(words) else {
-        say(err, b"simplify: words not understood\n");
-        return 2;
+        return tell_stop(err, "simplify", Stop::Words);
     };
     match obey(alloc, asked, input, out) {
         Ok(()) => 0,

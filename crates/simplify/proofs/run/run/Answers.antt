@@ -1,4 +1,4 @@
-use Rattle.std.proofs.Common.{None, Err, IfSome, inl, sym, ◌∙◌, subst, arith}
+use Rattle.std.proofs.Common.{None, Err, IfSome, inl, sym, ◌∙◌, subst, arith, rules}
 use Rattle.std.specs.Prelude.{codes}
 use Rattle.pm_commands.specs.declared.asked.Border.TheVariants as borders
 use Rattle.pm_commands.specs.declared.asked.Asked.TheVariants as asked
@@ -9,54 +9,77 @@ use Rattle.pm_commands.proofs.EndingLaws.{fail_counts, fail_says}
 use Rattle.pm_commands.proofs.EndingLaws.{completes_whole, completes}
 use Rattle.simplify.proofs.run.run.Goals as goal
 
-pub returns-in-Ok-clause-whole : goal.returns-in-Ok-clause-whole
-returns-in-Ok-clause-whole g c = λ other asks is.
-    subst (λ a. IfSome (g.S.Source.left c.args.input.now)
-    (λ bytes. Replied a bytes None (g.K.Sink.got c.args.out.now) (g.K.Sink.got c.obey.new.out)))
-    (one_asked _ _ other (sym c.read_words.ensures.asked ∙ c.in-Some.is) asks)
-    c.in-Ok.ensures.ends
+pub returns-in-Ok-clause-obeys : goal.returns-in-Ok-clause-obeys
+returns-in-Ok-clause-obeys g c = record {
+  whole = λ other asks is.
+      subst (λ a. IfSome (g.S.Source.left c.args.input.now)
+      (λ bytes. Replied a bytes None (g.K.Sink.got c.args.out.now) (g.K.Sink.got c.obey.new.out)))
+      (one_asked _ _ other (sym c.read_words.ensures.asked ∙ c.in-Some.is) asks)
+      c.in-Ok.ensures.ends;
+  read_whole = λ other asks is.
+      subst (λ a. ReadToEnd a (g.S.Source.left c.args.input.now) (g.S.Source.left c.obey.new.input))
+      (one_asked _ _ other (sym c.read_words.ensures.asked ∙ c.in-Some.is) asks)
+      c.in-Ok.ensures.read_whole;
+  expands = λ target digits border asks is.
+      c.in-Ok.ensures.simplified_back target digits border
+      (one_asked _ _ (asked.Simplify target digits border) (sym c.read_words.ensures.asked
+      ∙ c.in-Some.is) asks);
+  surfaces = λ target digits border asks is.
+      c.in-Ok.ensures.simplified_surfaces target digits border
+      (one_asked _ _ (asked.Simplify target digits border) (sym c.read_words.ensures.asked
+      ∙ c.in-Some.is) asks);
+  meets = λ target digits asks is.
+      c.in-Ok.ensures.meets target digits
+      (one_asked _ _ (asked.Simplify target digits borders.Kept) (sym c.read_words.ensures.asked
+      ∙ c.in-Some.is) asks);
+  faulty = search rules;
+  unreached = search rules;
+  write = search rules;
+  memory = search rules;
+  complete = λ other bytes all asks left outcome none.
+      inl (completes_whole c.outcomes_are_sound.ensures.one c.in-Some.asked bytes all _ _ _ left
+      (subst (λ a. IsOutcome a bytes all)
+      (one_asked _ other _ asks (sym c.read_words.ensures.asked ∙ c.in-Some.is)) outcome)
+      c.in-Ok.ensures.ends);
+}
 
-pub returns-in-Ok-clause-read_whole : goal.returns-in-Ok-clause-read_whole
-returns-in-Ok-clause-read_whole g c = λ other asks is.
-    subst (λ a. ReadToEnd a (g.S.Source.left c.args.input.now) (g.S.Source.left c.obey.new.input))
-    (one_asked _ _ other (sym c.read_words.ensures.asked ∙ c.in-Some.is) asks)
-    c.in-Ok.ensures.read_whole
-
-pub returns-in-Ok-clause-complete : goal.returns-in-Ok-clause-complete
-returns-in-Ok-clause-complete g c =
-    λ other bytes all asks left outcome none.
-    inl (completes_whole c.outcomes_are_sound.ensures.one c.in-Some.asked bytes all _ _ _ left
-    (subst (λ a. IsOutcome a bytes all)
-    (one_asked _ other _ asks (sym c.read_words.ensures.asked ∙ c.in-Some.is)) outcome)
-    c.in-Ok.ensures.ends)
-
-pub returns-in-Err-clause-faulty : goal.returns-in-Err-clause-faulty
-returns-in-Err-clause-faulty g c = λ other asks is.
-    said_fault (codes "simplify: ") other c.in-Err.fail _ _ _ _ _ _ _ _ (sym c.tell.ensures.status
-    ∙ is) (subst
-    (λ a. Ends a (Err c.in-Err.fail) (g.S.Source.left c.args.input.now)
-    (g.S.Source.left c.obey.new.input) (g.K.Sink.got c.args.out.now)
-    (g.K.Sink.got c.obey.new.out))
-    (one_asked _ _ other (sym c.read_words.ensures.asked ∙ c.in-Some.is) asks)
-    c.in-Err.ensures.ends) c.tell.ensures.said
-
-pub returns-in-Err-clause-unreached : goal.returns-in-Err-clause-unreached
-returns-in-Err-clause-unreached g c = λ other asks is.
-    read_of other c.in-Err.fail _ _ _ _ (sym c.tell.ensures.status ∙ is)
-    (subst (λ a. Ends a (Err c.in-Err.fail) (g.S.Source.left c.args.input.now)
-    (g.S.Source.left c.obey.new.input) (g.K.Sink.got c.args.out.now)
-    (g.K.Sink.got c.obey.new.out))
-    (one_asked _ _ other (sym c.read_words.ensures.asked ∙ c.in-Some.is) asks)
-    c.in-Err.ensures.ends)
-
-pub returns-in-Err-clause-write : goal.returns-in-Err-clause-write
-returns-in-Err-clause-write g c = λ other asks is.
-    cut_of other c.in-Err.fail _ _ _ _ _ _ _ _ (sym c.tell.ensures.status ∙ is)
-    (subst (λ a. Ends a (Err c.in-Err.fail) (g.S.Source.left c.args.input.now)
-    (g.S.Source.left c.obey.new.input) (g.K.Sink.got c.args.out.now)
-    (g.K.Sink.got c.obey.new.out))
-    (one_asked _ _ other (sym c.read_words.ensures.asked ∙ c.in-Some.is) asks)
-    c.in-Err.ensures.ends) c.in-Err.ensures.counts
+pub returns-in-Err-clause-obeys : goal.returns-in-Err-clause-obeys
+returns-in-Err-clause-obeys g c = record {
+  whole = search rules;
+  read_whole = search rules;
+  expands = search rules;
+  surfaces = search rules;
+  meets = search rules;
+  faulty = λ other asks is.
+      said_fault (codes "simplify: ") other c.in-Err.fail _ _ _ _ _ _ _ _ (sym c.tell.ensures.status
+      ∙ is) (subst
+      (λ a. Ends a (Err c.in-Err.fail) (g.S.Source.left c.args.input.now)
+      (g.S.Source.left c.obey.new.input) (g.K.Sink.got c.args.out.now)
+      (g.K.Sink.got c.obey.new.out))
+      (one_asked _ _ other (sym c.read_words.ensures.asked ∙ c.in-Some.is) asks)
+      c.in-Err.ensures.ends) c.tell.ensures.said;
+  unreached = λ other asks is.
+      read_of other c.in-Err.fail _ _ _ _ (sym c.tell.ensures.status ∙ is)
+      (subst (λ a. Ends a (Err c.in-Err.fail) (g.S.Source.left c.args.input.now)
+      (g.S.Source.left c.obey.new.input) (g.K.Sink.got c.args.out.now)
+      (g.K.Sink.got c.obey.new.out))
+      (one_asked _ _ other (sym c.read_words.ensures.asked ∙ c.in-Some.is) asks)
+      c.in-Err.ensures.ends);
+  write = λ other asks is.
+      cut_of other c.in-Err.fail _ _ _ _ _ _ _ _ (sym c.tell.ensures.status ∙ is)
+      (subst (λ a. Ends a (Err c.in-Err.fail) (g.S.Source.left c.args.input.now)
+      (g.S.Source.left c.obey.new.input) (g.K.Sink.got c.args.out.now)
+      (g.K.Sink.got c.obey.new.out))
+      (one_asked _ _ other (sym c.read_words.ensures.asked ∙ c.in-Some.is) asks)
+      c.in-Err.ensures.ends) c.in-Err.ensures.counts;
+  memory = search rules;
+  complete = λ other bytes all asks left outcome none.
+      completes c.outcomes_are_sound.ensures.one c.in-Some.asked c.in-Err.fail _ _ _ _ _ bytes all _ _
+      _ _ left (subst (λ a. IsOutcome a bytes all)
+      (one_asked _ other _ asks (sym c.read_words.ensures.asked ∙ c.in-Some.is)) outcome)
+      c.in-Err.ensures.ends c.in-Err.ensures.counts c.tell.ensures.status none.input_same
+      none.out_same none.input_few none.out_few;
+}
 
 pub returns-in-Err-clause-counts : goal.returns-in-Err-clause-counts
 returns-in-Err-clause-counts g c =
@@ -67,30 +90,3 @@ pub returns-in-Err-clause-said : goal.returns-in-Err-clause-said
 returns-in-Err-clause-said g c =
     fail_says g.E.Sink (codes "simplify") c.in-Err.fail _ _ _ c.tell.ensures.status
     c.tell.ensures.said
-
-pub returns-in-Err-clause-complete : goal.returns-in-Err-clause-complete
-returns-in-Err-clause-complete g c =
-    λ other bytes all asks left outcome none.
-    completes c.outcomes_are_sound.ensures.one c.in-Some.asked c.in-Err.fail _ _ _ _ _ bytes all _ _
-    _ _ left (subst (λ a. IsOutcome a bytes all)
-    (one_asked _ other _ asks (sym c.read_words.ensures.asked ∙ c.in-Some.is)) outcome)
-    c.in-Err.ensures.ends c.in-Err.ensures.counts c.tell.ensures.status none.input_same
-    none.out_same none.input_few none.out_few
-
-pub returns-in-Ok-clause-expands : goal.returns-in-Ok-clause-expands
-returns-in-Ok-clause-expands g c = λ target digits border asks is.
-    c.in-Ok.ensures.simplified_back target digits border
-    (one_asked _ _ (asked.Simplify target digits border) (sym c.read_words.ensures.asked
-    ∙ c.in-Some.is) asks)
-
-pub returns-in-Ok-clause-surfaces : goal.returns-in-Ok-clause-surfaces
-returns-in-Ok-clause-surfaces g c = λ target digits border asks is.
-    c.in-Ok.ensures.simplified_surfaces target digits border
-    (one_asked _ _ (asked.Simplify target digits border) (sym c.read_words.ensures.asked
-    ∙ c.in-Some.is) asks)
-
-pub returns-in-Ok-clause-meets : goal.returns-in-Ok-clause-meets
-returns-in-Ok-clause-meets g c = λ target digits asks is.
-    c.in-Ok.ensures.meets target digits
-    (one_asked _ _ (asked.Simplify target digits borders.Kept) (sym c.read_words.ensures.asked
-    ∙ c.in-Some.is) asks)
