@@ -1,26 +1,26 @@
 -- What a status says of how the program ended.
 use Rattle.std.proofs.Common.{◌≡◌, ◌⊎◌, inl, inr, ℕ, ◌-◌, ◌^◌, ◌<◌, List, Option, Some, None}
 use Rattle.std.proofs.Common.{Result, Ok, Err, IfSome, refl, subst, arith}
+use Rattle.std.specs.Prelude.{codes}
 use Rattle.pm_io.specs.Bytes.{Gains}
-use Rattle.pm_io.specs.Causes.{Rose}
-use Rattle.pm_io.specs.Endings.{CountsFaults}
-use Rattle.pm_io.specs.declared.device.Source as source
+use Rattle.pm_io.specs.Devices.{Tells}
 use Rattle.pm_io.specs.declared.device.Sink as sink
+use Rattle.pm_program.specs.declared.fail.RunFail.{RunFail}
+use Rattle.pm_program.specs.declared.fail.RunFail.TheVariants as fails
+use Rattle.pm_program.specs.Fails.{status_of, fail_line}
+use Rattle.pm_program.specs.Input.{HoldsFront, StopsShort}
+use Rattle.pm_program.proofs.InputLaws.{on_front}
 use Rattle.pm_pack.specs.Packed.{IsPacked, PackedTextsAreOfOne}
 use Rattle.pack.specs.declared.obeying.TheConstants.{MOST}
 use Rattle.pack.specs.declared.words.Asked.{Asked}
 use Rattle.pack.specs.declared.words.Asked.TheVariants as asked
 use Rattle.pm_pack.specs.declared.fault.Fault.{Fault}
-use Rattle.pack.specs.declared.fault.RunFail.{RunFail}
-use Rattle.pack.specs.declared.fault.RunFail.TheVariants as fails
-use Rattle.pack.specs.Input.{HoldsFront, StopsShort}
 use Rattle.pack.specs.Making.{Refuses}
-use Rattle.pack.specs.Ending.{front, Replied, CutShort, EndsOn, Ends, PutCounts, ReadCounts}
-use Rattle.pack.specs.Ending.{status_of}
-use Rattle.pack.proofs.InputLaws.{on_front}
+use Rattle.pack.specs.Ending.{front, Replied, CutShort, EndsOn, Ends}
+use Rattle.pack.specs.FaultLine.{fault_line}
 
 -- What was done with bytes was done with the first ones that were left.
-pub ends_of : (asks : Asked) (r : Result (Unit {0}) RunFail) (left now old new : Option (List ℕ))
+pub ends_of : (asks : Asked) (r : Result (Unit {0}) (RunFail Fault)) (left now old new : Option (List ℕ))
     (bytes : List ℕ) → HoldsFront MOST left now bytes → EndsOn asks r bytes old new
     → Ends asks r left now old new
 unfolding front
@@ -39,31 +39,23 @@ one_asked asks a b is are = cc
 
 -- How the program ended early, by its status.
 module _ (asks : Asked) (left now old new : Option (List ℕ)) where
-  abbrev pub By : RunFail → Type 0
+  abbrev pub By : RunFail Fault → Type 0
   By fail = Ends asks (Err fail) left now old new
 
-  pub fault_of : (fail : RunFail) → status_of fail ≡ 1 → By fail
-      → (f : Fault) × (fail ≡ fails.Faulty f)
-      × IfSome left (λ bytes. Refuses asks (front bytes) f)
-  fault_of (fails.Faulty f) is by = (f, refl, by.0)
-  fault_of fails.Read is by = absurd (omega arith)
-  fault_of fails.Write is by = absurd (omega arith)
-  fault_of fails.OutOfMemory is by = absurd (omega arith)
-
-  pub read_of : (fail : RunFail) → status_of fail ≡ 3 → By fail → StopsShort MOST left now
+  pub read_of : (fail : RunFail Fault) → status_of fail ≡ 3 → By fail → StopsShort MOST left now
   read_of (fails.Faulty f) is by = absurd (omega arith)
   read_of fails.Read is by = by.0
   read_of fails.Write is by = absurd (omega arith)
   read_of fails.OutOfMemory is by = absurd (omega arith)
 
-  pub cut_of : (fail : RunFail) → status_of fail ≡ 4 → By fail
+  pub cut_of : (fail : RunFail Fault) → status_of fail ≡ 4 → By fail
       → IfSome left (λ bytes. CutShort asks (front bytes) old new)
   cut_of (fails.Faulty f) is by = absurd (omega arith)
   cut_of fails.Read is by = absurd (omega arith)
   cut_of fails.Write is by = by
   cut_of fails.OutOfMemory is by = absurd (omega arith)
 
-  pub nothing_of : (fail : RunFail) (status : ℕ) → status ≡ status_of fail
+  pub nothing_of : (fail : RunFail Fault) (status : ℕ) → status ≡ status_of fail
       → (status ≡ 1) ⊎ ((status ≡ 3) ⊎ (status ≡ 5)) → By fail → new ≡ old
   nothing_of (fails.Faulty f) status given is by = by.1
   nothing_of fails.Read status given is by = by.1
@@ -72,19 +64,25 @@ module _ (asks : Asked) (left now old new : Option (List ℕ)) where
   nothing_of fails.Write status given (inr (inr is)) by = absurd (omega arith)
   nothing_of fails.OutOfMemory status given is by = by
 
--- No device failed, so the input has a fault, or memory was wanting.
-pub completes : (fail : RunFail) (status in_old in_new out_old out_new : ℕ)
-    → status ≡ status_of fail → ReadCounts (Err fail) in_old in_new
-    → PutCounts (Err fail) out_old out_new → in_new ≡ in_old → out_new ≡ out_old
-    → in_old < 2 ^ 64 - 1 → out_old < 2 ^ 64 - 1 → (status ≡ 1) ⊎ (status ≡ 5)
-completes (fails.Faulty f) status in_old in_new out_old out_new given reads puts in_same out_same
-    in_few out_few = inl given
-completes fails.Read status in_old in_new out_old out_new given reads puts in_same out_same
-    in_few out_few = let rose : Rose in_old in_new = reads in absurd (omega (arith, rose))
-completes fails.Write status in_old in_new out_old out_new given reads puts in_same out_same
-    in_few out_few = let rose : Rose out_old out_new = puts in absurd (omega (arith, rose))
-completes fails.OutOfMemory status in_old in_new out_old out_new given reads puts in_same out_same
-    in_few out_few = inr given
+-- The fault that was said.
+pub told_fault : {E : Type 0} (e : sink.Ghosts E) (mine other : Asked)
+    (left now old new : Option (List ℕ)) (fail : RunFail Fault) (err err_now : E) → mine ≡ other
+    → status_of fail ≡ 1 → Ends mine (Err fail) left now old new
+    → Tells e err err_now (fail_line (codes "pack") fault_line fail)
+    → (f : Fault) × IfSome left (λ bytes. Refuses other (front bytes) f)
+    × Tells e err err_now (fault_line f)
+unfolding fail_line
+told_fault e mine other left now old new (fails.Faulty f) err err_now same is ends told = (
+  f,
+  subst (λ (a : Asked). IfSome left (λ bytes. Refuses a (front bytes) f)) same ends.0,
+  told,
+)
+told_fault e mine other left now old new fails.Read err err_now same is ends told =
+    absurd (omega arith)
+told_fault e mine other left now old new fails.Write err err_now same is ends told =
+    absurd (omega arith)
+told_fault e mine other left now old new fails.OutOfMemory err err_now same is ends told =
+    absurd (omega arith)
 
 -- A packed text has no fault, and is of one text.
 pub back_done : (one : PackedTextsAreOfOne) (status : ℕ) (left old new : Option (List ℕ))
@@ -99,7 +97,7 @@ back_done one status (Some bytes) old new given done = λ text is.
           (one (front bytes) done.text text done.made is) done.gained,
     )
 
-pub back_fails : (fail : RunFail) (status : ℕ) (left now old new : Option (List ℕ))
+pub back_fails : (fail : RunFail Fault) (status : ℕ) (left now old new : Option (List ℕ))
     → status ≡ status_of fail → Ends asked.Unpack (Err fail) left now old new
     → (status ≡ 1) ⊎ (status ≡ 5)
     → IfSome left (λ bytes. (text : List ℕ) → IsPacked (front bytes) text
@@ -115,61 +113,3 @@ back_fails fails.Write status (Some bytes) now old new given ends (inl is) =
 back_fails fails.Write status (Some bytes) now old new given ends (inr is) = λ text made. inr is
 back_fails fails.OutOfMemory status (Some bytes) now old new given ends either =
     λ text made. inr given
-
--- What the counts did.
-pub counts_of : {S K : Type 0} (s : source.Ghosts S) (k : sink.Ghosts K) (fail : RunFail)
-    (status : ℕ) (input input_now : S) (out out_now : K) → status ≡ status_of fail
-    → ReadCounts (Err fail) (s.faults input) (s.faults input_now)
-    → PutCounts (Err fail) (k.faults out) (k.faults out_now)
-    → CountsFaults s k status input input_now out out_now
-counts_of s k (fails.Faulty f) status input input_now out out_now given reads puts = record {
-  whole = λ is. (reads, puts);
-  faulty = λ is. (reads, puts);
-  words = λ is. (reads, puts);
-  read = λ is. absurd (omega (arith, given, is));
-  write = λ is. absurd (omega (arith, given, is));
-  memory = λ is. (reads, puts);
-}
-counts_of s k fails.Read status input input_now out out_now given reads puts = record {
-  whole = λ is. absurd (omega (arith, given, is));
-  faulty = λ is. absurd (omega (arith, given, is));
-  words = λ is. absurd (omega (arith, given, is));
-  read = λ is. (reads, puts);
-  write = λ is. absurd (omega (arith, given, is));
-  memory = λ is. absurd (omega (arith, given, is));
-}
-counts_of s k fails.Write status input input_now out out_now given reads puts = record {
-  whole = λ is. absurd (omega (arith, given, is));
-  faulty = λ is. absurd (omega (arith, given, is));
-  words = λ is. absurd (omega (arith, given, is));
-  read = λ is. absurd (omega (arith, given, is));
-  write = λ is. (reads, puts);
-  memory = λ is. absurd (omega (arith, given, is));
-}
-counts_of s k fails.OutOfMemory status input input_now out out_now given reads puts = record {
-  whole = λ is. (reads, puts);
-  faulty = λ is. (reads, puts);
-  words = λ is. (reads, puts);
-  read = λ is. absurd (omega (arith, given, is));
-  write = λ is. absurd (omega (arith, given, is));
-  memory = λ is. (reads, puts);
-}
-
--- Where words can't be gathered no device is asked.
-pub ungathered_counts : {S K : Type 0} (s : source.Ghosts S) (k : sink.Ghosts K) (status : ℕ)
-    (input : S) (out : K) → (status ≡ 2) ⊎ (status ≡ 5)
-    → CountsFaults s k status input input out out
-ungathered_counts s k status input out either = record {
-  whole = λ is. (refl, refl);
-  faulty = λ is. (refl, refl);
-  words = λ is. (refl, refl);
-  read = λ is. elim either [
-    | inl two ↦ absurd (omega (arith, two, is))
-    | inr five ↦ absurd (omega (arith, five, is))
-  ];
-  write = λ is. elim either [
-    | inl two ↦ absurd (omega (arith, two, is))
-    | inr five ↦ absurd (omega (arith, five, is))
-  ];
-  memory = λ is. (refl, refl);
-}

@@ -1,4 +1,2 @@
-pub mod InputLaws
 pub mod EndingLaws
-pub mod SaidLaws
 pub mod FaultLaws

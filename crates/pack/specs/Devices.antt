@@ -8,7 +8,7 @@ use Rattle.pm_pack.specs.Packed.{IsPacked}
 use Rattle.pack.specs.declared.obeying.TheConstants.{MOST}
 use Rattle.pack.specs.declared.words.Asked.{Asked}
 use Rattle.pm_pack.specs.declared.fault.Fault.{Fault}
-use Rattle.pack.specs.Input.{ReadsTo, StopsShort}
+use Rattle.pm_program.specs.Input.{ReadsTo, StopsShort}
 use Rattle.pack.specs.Making.{Refuses}
 use Rattle.pack.specs.Ending.{front, Replied, CutShort}
 use Rattle.pack.specs.FaultLine.{fault_line}

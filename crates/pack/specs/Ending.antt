@@ -1,16 +1,14 @@
 -- How the program ends, and when each status comes.
 use Rattle.std.specs.Prelude.{◌≡◌, ℕ, List, take, Option, IfSome, Result, Ok, Err}
 use Rattle.pm_io.specs.Bytes.{Gains, GainsPart}
-use Rattle.pm_io.specs.Causes.{Rose}
+use Rattle.pm_program.specs.declared.fail.RunFail.{RunFail}
+use Rattle.pm_program.specs.declared.fail.RunFail.TheVariants as fails
+use Rattle.pm_program.specs.Input.{ReadsTo, StopsShort}
+use Rattle.pm_pack.specs.declared.fault.Fault.{Fault}
 use Rattle.pack.specs.declared.obeying.TheConstants.{MOST}
 use Rattle.pack.specs.declared.words.Asked.{Asked}
-use Rattle.pack.specs.declared.input.InputFail.{InputFail}
-use Rattle.pack.specs.declared.input.InputFail.TheVariants as input
 use Rattle.pack.specs.declared.fault.MakeFail.{MakeFail}
 use Rattle.pack.specs.declared.fault.MakeFail.TheVariants as makes
-use Rattle.pack.specs.declared.fault.RunFail.{RunFail}
-use Rattle.pack.specs.declared.fault.RunFail.TheVariants as fails
-use Rattle.pack.specs.Input.{ReadsTo, StopsShort}
 use Rattle.pack.specs.Making.{IsMade, Refuses}
 
 -- The bytes that are looked at, the first 2^30.
@@ -30,7 +28,7 @@ pub record CutShort (asks : Asked) (bytes : List ℕ) (old new : Option (List �
   pub part : GainsPart old new text
 
 -- How the work on bytes ends: `old` and `new` are what the sink had taken.
-abbrev pub EndsOn : Asked → Result (Unit {0}) RunFail → List ℕ → Option (List ℕ)
+abbrev pub EndsOn : Asked → Result (Unit {0}) (RunFail Fault) → List ℕ → Option (List ℕ)
     → Option (List ℕ) → Type 0
 EndsOn asks (Ok done) bytes old new = Replied asks bytes old new
 EndsOn asks (Err (fails.Faulty fault)) bytes old new = Refuses asks bytes fault × (new ≡ old)
@@ -40,7 +38,7 @@ EndsOn asks (Err fails.OutOfMemory) bytes old new = new ≡ old
 
 -- How the program ends: `left` is what the source had left at first and `now` what it has left
 -- then.
-abbrev pub Ends : Asked → Result (Unit {0}) RunFail → Option (List ℕ) → Option (List ℕ)
+abbrev pub Ends : Asked → Result (Unit {0}) (RunFail Fault) → Option (List ℕ) → Option (List ℕ)
     → Option (List ℕ) → Option (List ℕ) → Type 0
 Ends asks (Ok done) left now old new =
     IfSome left (λ bytes. Replied asks (front bytes) old new) × ReadsTo MOST left now
@@ -51,33 +49,7 @@ Ends asks (Err fails.Write) left now old new =
     IfSome left (λ bytes. CutShort asks (front bytes) old new)
 Ends asks (Err fails.OutOfMemory) left now old new = new ≡ old
 
--- What the count of the sink did.
-abbrev pub PutCounts : Result (Unit {0}) RunFail → ℕ → ℕ → Type 0
-PutCounts (Ok done) old new = new ≡ old
-PutCounts (Err (fails.Faulty fault)) old new = new ≡ old
-PutCounts (Err fails.Read) old new = new ≡ old
-PutCounts (Err fails.Write) old new = Rose old new
-PutCounts (Err fails.OutOfMemory) old new = new ≡ old
-
--- What the count of the source did.
-abbrev pub ReadCounts : Result (Unit {0}) RunFail → ℕ → ℕ → Type 0
-ReadCounts (Ok done) old new = new ≡ old
-ReadCounts (Err (fails.Faulty fault)) old new = new ≡ old
-ReadCounts (Err fails.Read) old new = Rose old new
-ReadCounts (Err fails.Write) old new = new ≡ old
-ReadCounts (Err fails.OutOfMemory) old new = new ≡ old
-
--- What the program ends by.
-abbrev pub of_input_fail : InputFail → RunFail
-of_input_fail input.Read = fails.Read
-of_input_fail input.OutOfMemory = fails.OutOfMemory
-
-abbrev pub of_make_fail : MakeFail → RunFail
+-- What the program ends by of which nothing is made.
+abbrev pub of_make_fail : MakeFail → RunFail Fault
 of_make_fail (makes.Faulty fault) = fails.Faulty fault
 of_make_fail makes.OutOfMemory = fails.OutOfMemory
-
-abbrev pub status_of : RunFail → ℕ
-status_of (fails.Faulty fault) = 1
-status_of fails.Read = 3
-status_of fails.Write = 4
-status_of fails.OutOfMemory = 5

@@ -5,8 +5,6 @@ use Rattle.pm_format.specs.declared.fault.FormatError.{FormatError}
 use Rattle.pm_format.specs.declared.fault.FormatError.TheVariants as format
 use Rattle.pm_pack.specs.declared.fault.Fault.{Fault}
 use Rattle.pm_pack.specs.declared.fault.Fault.TheVariants as faults
-use Rattle.pack.specs.declared.fault.RunFail.{RunFail}
-use Rattle.pack.specs.declared.fault.RunFail.TheVariants as fails
 
 -- A fault with a place, a word for what is counted and its number, and why it is one.
 unfoldable pub place_line : ℕ → List ℕ → ℕ → List ℕ → List ℕ
@@ -41,10 +39,3 @@ fault_line faults.Trailing = bare_line 29 (codes "bytes follow the stream")
 fault_line faults.NotPacked = bare_line 34 (codes "it begins otherwise than a packed text")
 fault_line faults.Cut = bare_line 35 (codes "the packed text is cut off or damaged")
 fault_line faults.PackedTrailing = bare_line 36 (codes "bytes follow the packed text")
-
--- Why the program ended early.
-unfoldable pub fail_line : RunFail → List ℕ
-fail_line (fails.Faulty f) = fault_line f
-fail_line fails.Read = codes "pack: read fault\n"
-fail_line fails.Write = codes "pack: write fault\n"
-fail_line fails.OutOfMemory = codes "pack: out of memory\n"

@@ -1,5 +1,4 @@
 pub mod Words
-pub mod Input
 pub mod Making
 pub mod Ending
 pub mod FaultLine

@@ -11,15 +11,6 @@ pub enum MakeFail {
     OutOfMemory,
 }
 
-/// Why the program ends early.
-#[derive(Clone, Copy, Debug, PartialEq, Eq)]
-pub enum RunFail {
-    Faulty(Fault),
-    Read,
-    Write,
-    OutOfMemory,
-}
-
 // Want of memory is no fault of the input.
 fn of_fault(fault: Option<Fault>) -> MakeFail
     ensures { result ≡ fault_fail fault }

@@ -3,7 +3,6 @@
 #![tactic(auto)]
 
 mod fault;
-mod input;
 mod making;
 mod obeying;
 mod run;

@@ -1,28 +1,20 @@
 //! What the program does with its devices. All memory is taken before the first byte of output.
 ghost use Rattle.std.specs.Prelude.{◌≡◌, false};
-ghost use Rattle.pack.specs.Ending.{EndsOn, Ends, PutCounts, ReadCounts};
-ghost use Rattle.pack.specs.Ending.{of_input_fail, of_make_fail};
+ghost use Rattle.pm_program.specs.Fails.{PutCounts, ReadCounts};
+ghost use Rattle.pack.specs.Ending.{EndsOn, Ends, of_make_fail};
 
-use crate::fault::{MakeFail, RunFail};
-use crate::input::{InputFail, read_up_to};
+use crate::fault::MakeFail;
 use crate::making::make;
 use crate::words::Asked;
 use pm_io::{Sink, Source, put_all};
+use pm_pack::Fault;
+use pm_program::{RunFail, of_input, read_up_to};
 use std::alloc::Global;
 
 /// How many bytes of the input are looked at, at most. No stream text has as many.
 pub const MOST: usize = 0x4000_0000;
 
-fn of_input(fail: InputFail) -> RunFail
-    ensures { result ≡ of_input_fail fail }
-{
-    match fail {
-        InputFail::Read => RunFail::Read,
-        InputFail::OutOfMemory => RunFail::OutOfMemory,
-    }
-}
-
-fn of_make(fail: MakeFail) -> RunFail
+fn of_make(fail: MakeFail) -> RunFail<Fault>
     ensures { result ≡ of_make_fail fail }
 {
     match fail {
@@ -32,7 +24,12 @@ fn of_make(fail: MakeFail) -> RunFail
 }
 
 // Puts what is made of bytes.
-fn put_made<K: Sink>(alloc: Global, asked: Asked, bytes: &[u8], out: &mut K) -> Result<(), RunFail>
+fn put_made<K: Sink>(
+    alloc: Global,
+    asked: Asked,
+    bytes: &[u8],
+    out: &mut K,
+) -> Result<(), RunFail<Fault>>
     ensures ends { EndsOn asked result bytes.now (K.got out.old) (K.got out.new) }
     ensures counts { PutCounts result (K.faults out.old) (K.faults out.new) }
 {
@@ -51,7 +48,7 @@ pub fn obey<S: Source, K: Sink>(
     asked: Asked,
     input: &mut S,
     out: &mut K,
-) -> Result<(), RunFail>
+) -> Result<(), RunFail<Fault>>
     requires { S.ended input.old ≡ false }
     ensures ends { Ends asked result (S.left input.old) (S.left input.new) (K.got out.old)
         (K.got out.new) }

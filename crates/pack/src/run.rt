@@ -1,39 +1,21 @@
 //! The program over any source and sinks.
-ghost use Rattle.std.specs.Prelude.{◌≡◌, ◌≢◌, ◌⊎◌, ◌≤◌, false, IfOk, IfErr, codes};
-ghost use Rattle.std.specs.IoError.{error_kind};
-ghost use Rattle.pm_io.specs.Causes.{Rose};
-ghost use Rattle.pm_io.specs.Devices.{Unread, Unput, Tells};
-ghost use Rattle.pm_io.specs.Endings.{Untouched, CountsFaults, SaysEnding, NoneFailed};
+ghost use Rattle.std.specs.Prelude.{◌≡◌, false, codes};
+ghost use Rattle.pm_io.specs.Endings.{SaysEnding, NoneFailed};
+ghost use Rattle.pm_program.specs.Endings.{Endings, Outcomes};
 ghost use Rattle.pack.specs.declared.words.Asked.{Asked};
 ghost use Rattle.pack.specs.Words.{asked_of, Asks};
 ghost use Rattle.pack.specs.Devices.{Replies, LeadsBack, TellsFault, Breaks};
 ghost use Rattle.pack.specs.Devices.{ReadsFront, Unreached};
 
 use crate::obeying::obey;
-use crate::said::{say, tell};
+use crate::said::tell;
 use crate::words::{Asked, read_words};
 use pm_io::{Sink, Source};
 use pm_pack::packed_texts_are_sound;
+use pm_program::{Stop, refuse_words, tell_stop};
 use std::alloc::Global;
 use std::env::Args;
-use std::io::{self, ErrorKind};
-
-// The status where the words can't be gathered: for want of memory, of which nothing is said, or
-// since one isn't UTF-8 and so none of the forms.
-fn refuse_words<E: Sink>(err: &mut E, kind: ErrorKind) -> u8
-    ensures memory { kind ≡ ErrorKind.OutOfMemory → result ≡ 5 }
-    ensures other { kind ≢ ErrorKind.OutOfMemory → result ≡ 2 }
-    ensures either { (result ≡ 2) ⊎ (result ≡ 5) }
-    ensures unsaid { result ≡ 5 → Unput E.Sink err.old err.new }
-    ensures said { result ≡ 2
-        → Tells E.Sink err.old err.new (codes "pack: words not understood\n") }
-{
-    if kind == ErrorKind::OutOfMemory {
-        return 5;
-    }
-    say(err, b"pack: words not understood\n");
-    2
-}
+use std::io;
 
 /// Packs a stream text, or with `--unpack` unpacks a packed text, and answers the exit status.
 ///
@@ -51,17 +33,11 @@ pub fn run<S: Source, K: Sink, E: Sink>(
 ) -> u8
     // The input hasn't ended; once it has, it isn't asked again.
     requires { S.ended input.old ≡ false }
-    ensures statuses { result ≤ 5 }
-    // Other words are refused, and only they; then nothing is read or put.
-    ensures refused { IfOk args (λ _. asked_of args ≡ None → result ≡ 2) }
-    ensures known { result ≡ 2 → asked_of args ≡ None }
-    ensures untouched { result ≡ 2 → Untouched S.Source K.Sink input.old input.new out.old out.new }
-    // Words that can't be gathered are refused too, but for want of memory, of which nothing is
-    // said; and nothing is read.
-    ensures not_text { IfErr args (λ e. error_kind e ≢ ErrorKind.OutOfMemory → result ≡ 2) }
-    ensures no_memory { IfErr args (λ e. error_kind e ≡ ErrorKind.OutOfMemory → result ≡ 5) }
-    ensures unread { IfErr args (λ _. Unread S.Source input.old input.new) }
-    ensures unsaid { IfErr args (λ _. result ≡ 5 → Unput E.Sink err.old err.new) }
+    ensures endings { Endings S.Source K.Sink E.Sink args result input.old input.new out.old out.new
+        err.old err.new }
+    ensures outcomes { Outcomes S.Source K.Sink E.Sink (codes "pack") args (asked_of args) result
+        input.old input.new out.old out.new err.old err.new }
+    ensures said { SaysEnding E.Sink (codes "pack") result err.old err.new }
     // Exactly a packed text of the stream text that was read was put, or with `--unpack` the stream
     // text that the packed text is of; and the input was read to its end.
     ensures packs { Asks args Asked.Pack → result ≡ 0
@@ -79,31 +55,17 @@ pub fn run<S: Source, K: Sink, E: Sink>(
         → TellsFault S.Source E.Sink asked input.old err.old err.new }
     // A read failed before the bytes that decide were all taken.
     ensures unreached { result ≡ 3 → Unreached S.Source input.old input.new }
-    // A write failed, and a proper prefix of the text was put; in all other cases but status 0
-    // nothing was.
+    // A write failed, and a proper prefix of the text was put.
     ensures write { (asked : Asked) → Asks args asked → result ≡ 4
         → Breaks S.Source K.Sink asked input.old out.old out.new }
-    ensures nothing_put { (result ≡ 1) ⊎ ((result ≡ 3) ⊎ (result ≡ 5))
-        → K.got out.new ≡ K.got out.old }
-    // The count of a device that failed rose, and no other did.
-    ensures counts { CountsFaults S.Source K.Sink result input.old input.new out.old out.new }
-    ensures said { SaysEnding E.Sink (codes "pack") result err.old err.new }
-    ensures said_memory { IfOk args (λ _. result ≡ 5
-        → Tells E.Sink err.old err.new (codes "pack: out of memory\n")) }
-    // Where no device failed and the words are understood, the work is done, or the input has a
-    // fault, or memory is wanted.
-    ensures complete { (asked : Asked) → Asks args asked
-        → NoneFailed S.Source K.Sink input.old input.new out.old out.new
-        → (result ≡ 0) ⊎ ((result ≡ 1) ⊎ (result ≡ 5)) }
 {
     packed_texts_are_sound();
     let args = match args {
         Ok(args) => args,
-        Err(error) => return refuse_words(err, error.kind()),
+        Err(error) => return refuse_words(err, "pack", error.kind()),
     };
     let Some(asked) = read_words(args) else {
-        say(err, b"pack: words not understood\n");
-        return 2;
+        return tell_stop(err, "pack", Stop::Words);
     };
     match obey(alloc, asked, input, out) {
         Ok(()) => 0,

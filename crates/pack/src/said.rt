@@ -1,20 +1,13 @@
 //! What is said on the error sink.
-ghost use Rattle.std.specs.Prelude.{◌≡◌, ◌≤◌, length};
+ghost use Rattle.std.specs.Prelude.{◌≡◌, ◌≤◌, length, codes};
 ghost use Rattle.pm_io.specs.Devices.{Tells};
-ghost use Rattle.pack.specs.Ending.{status_of};
-ghost use Rattle.pack.specs.FaultLine.{place_line, bare_line, stream_line, fault_line, fail_line};
+ghost use Rattle.pm_program.specs.Fails.{status_of, fail_line};
+ghost use Rattle.pack.specs.FaultLine.{place_line, bare_line, stream_line, fault_line};
 
-use crate::fault::RunFail;
 use pm_format::FormatError;
-use pm_io::{Line, Sink, put_all};
+use pm_io::{Line, Sink};
 use pm_pack::Fault;
-
-/// Puts text on the error sink. That it fails changes nothing.
-pub fn say<E: Sink>(err: &mut E, text: &[u8])
-    ensures { Tells E.Sink err.old err.new text.now }
-{
-    let _ = put_all(err, text);
-}
+use pm_program::{RunFail, Stop, say, tell_stop};
 
 // A fault with a place: a word for what is counted, its number, and why it is a fault.
 #[tactic(auto, unfolding(crate::specs::FaultLine::place_line))]
@@ -104,31 +97,28 @@ fn put_fault(line: &mut Line, fault: Fault)
     }
 }
 
-// Why the program ended early.
-#[tactic(auto, unfolding(crate::specs::FaultLine::fail_line))]
-fn put_fail(line: &mut Line, fail: RunFail)
-    ensures { line.new ≡ fail_line fail }
+// Says which fault the input has.
+fn say_fault<E: Sink>(err: &mut E, fault: Fault)
+    ensures { Tells E.Sink err.old err.new (fault_line fault) }
 {
-    match fail {
-        RunFail::Faulty(fault) => put_fault(line, fault),
-        RunFail::Read => put_text(line, b"pack: read fault\n"),
-        RunFail::Write => put_text(line, b"pack: write fault\n"),
-        RunFail::OutOfMemory => put_text(line, b"pack: out of memory\n"),
-    }
+    let mut line = Line::new();
+    put_fault(&mut line, fault);
+    say(err, line.as_slice());
 }
 
 /// Says why the program ended early, and answers its status.
-pub fn tell<E: Sink>(err: &mut E, fail: RunFail) -> u8
+#[tactic(auto, unfolding(pm_program::specs::Fails::fail_line))]
+pub fn tell<E: Sink>(err: &mut E, fail: RunFail<Fault>) -> u8
     ensures status { result ≡ status_of fail }
-    ensures said { Tells E.Sink err.old err.new (fail_line fail) }
+    ensures said { Tells E.Sink err.old err.new (fail_line (codes "pack") fault_line fail) }
 {
-    let mut line = Line::new();
-    put_fail(&mut line, fail);
-    say(err, line.as_slice());
     match fail {
-        RunFail::Faulty(_) => 1,
-        RunFail::Read => 3,
-        RunFail::Write => 4,
-        RunFail::OutOfMemory => 5,
+        RunFail::Faulty(fault) => {
+            say_fault(err, fault);
+            1
+        }
+        RunFail::Read => tell_stop(err, "pack", Stop::Read),
+        RunFail::Write => tell_stop(err, "pack", Stop::Write),
+        RunFail::OutOfMemory => tell_stop(err, "pack", Stop::OutOfMemory),
     }
 }

@@ -1,12 +1,14 @@
-use Rattle.std.proofs.Common.{Err, IfSome, inr, refl, sym, ap, ◌∙◌, subst}
+use Rattle.std.proofs.Common.{Err, IfSome, refl, sym, ap, ◌∙◌, subst}
+use Rattle.std.specs.Prelude.{codes}
 use Rattle.pack.specs.declared.words.Asked.{Asked}
 use Rattle.pack.specs.declared.words.Asked.TheVariants as asked
 use Rattle.pack.specs.Words.{asked_of}
 use Rattle.pack.specs.Ending.{front, Replied, CutShort, Ends}
-use Rattle.pack.proofs.EndingLaws.{one_asked, read_of, cut_of, nothing_of, completes, back_done}
-use Rattle.pack.proofs.EndingLaws.{back_fails, counts_of, ungathered_counts}
-use Rattle.pack.proofs.SaidLaws.{told_fault, says_ending, said_memory, fails_some, knows_words}
-use Rattle.pack.proofs.SaidLaws.{ungathered_says}
+use Rattle.pack.specs.FaultLine.{fault_line}
+use Rattle.pm_program.proofs.EndingLaws.{ends_early, outcomes_early, says_early, completes}
+use Rattle.pm_program.proofs.EndingLaws.{ends_ungathered}
+use Rattle.pack.proofs.EndingLaws.{one_asked, read_of, cut_of, nothing_of, told_fault, back_done}
+use Rattle.pack.proofs.EndingLaws.{back_fails}
 use Rattle.pack.proofs.run.run.Goals as goal
 
 pub returns-in-Ok-obey-clause-packs : goal.returns-in-Ok-obey-clause-packs
@@ -45,8 +47,8 @@ returns-in-Err-obey-clause-leads_back g c = λ asks none.
     (g.K.Sink.got c.obey.new.out))
     (one_asked _ _ asked.Unpack (sym c.read_words.ensures ∙ c.in-Some.is)
     (sym (ap asked_of c.in-Ok.is) ∙ asks)) c.in-Err-obey.ensures.ends)
-    (completes c.in-Err-obey.fail _ _ _ _ _ c.tell.ensures.status c.in-Err-obey.ensures.reads
-    c.in-Err-obey.ensures.puts none.input_same none.out_same none.input_few none.out_few)
+    (completes g.S.Source g.K.Sink _ _ _ _ c.in-Err-obey.fail _ c.tell.ensures.status
+    c.in-Err-obey.ensures.reads c.in-Err-obey.ensures.puts none)
 
 pub returns-in-Err-obey-clause-faulty : goal.returns-in-Err-obey-clause-faulty
 returns-in-Err-obey-clause-faulty g c = λ other asks is.
@@ -70,36 +72,29 @@ returns-in-Err-obey-clause-write g c = λ other asks is.
     (cut_of c.in-Some.asked _ _ _ _ c.in-Err-obey.fail (sym c.tell.ensures.status ∙ is)
     c.in-Err-obey.ensures.ends)
 
-pub returns-in-Err-obey-clause-nothing_put : goal.returns-in-Err-obey-clause-nothing_put
-returns-in-Err-obey-clause-nothing_put g c = λ is.
-    nothing_of c.in-Some.asked _ _ _ _ c.in-Err-obey.fail _ c.tell.ensures.status is
-    c.in-Err-obey.ensures.ends
+pub returns-in-Err-obey-clause-endings : goal.returns-in-Err-obey-clause-endings
+returns-in-Err-obey-clause-endings g c =
+    ends_early g.S.Source g.K.Sink g.E.Sink c.args.args _ _ _ _ _ _ c.in-Ok.args c.in-Ok.is
+    c.in-Err-obey.fail _ c.tell.ensures.status c.in-Err-obey.ensures.reads
+    c.in-Err-obey.ensures.puts
 
-pub returns-in-Err-obey-clause-counts : goal.returns-in-Err-obey-clause-counts
-returns-in-Err-obey-clause-counts g c =
-    counts_of g.S.Source g.K.Sink c.in-Err-obey.fail _ _ _ _ _ c.tell.ensures.status
-    c.in-Err-obey.ensures.reads c.in-Err-obey.ensures.puts
+pub returns-in-Err-obey-clause-outcomes : goal.returns-in-Err-obey-clause-outcomes
+returns-in-Err-obey-clause-outcomes g c =
+    outcomes_early g.S.Source g.K.Sink g.E.Sink (codes "pack") fault_line c.args.args _ _ _ _ _ _
+    c.in-Ok.args c.in-Ok.is _ c.in-Some.asked
+    (ap asked_of c.in-Ok.is ∙ (sym c.read_words.ensures ∙ c.in-Some.is)) c.in-Err-obey.fail _
+    c.tell.ensures.status c.in-Err-obey.ensures.reads c.in-Err-obey.ensures.puts
+    c.tell.ensures.said
+    (λ is. nothing_of c.in-Some.asked _ _ _ _ c.in-Err-obey.fail _ c.tell.ensures.status is
+    c.in-Err-obey.ensures.ends)
 
 pub returns-in-Err-obey-clause-said : goal.returns-in-Err-obey-clause-said
 returns-in-Err-obey-clause-said g c =
-    says_ending g.E.Sink c.in-Err-obey.fail _ _ _ c.tell.ensures.status c.tell.ensures.said
-    (fails_some c.in-Err-obey.fail _ c.tell.ensures.status)
-    (knows_words c.in-Err-obey.fail _ c.tell.ensures.status)
+    says_early g.E.Sink (codes "pack") fault_line _ _ c.in-Err-obey.fail _ c.tell.ensures.status
+    c.tell.ensures.said
 
-pub returns-in-Err-obey-clause-said_memory : goal.returns-in-Err-obey-clause-said_memory
-returns-in-Err-obey-clause-said_memory g c =
-    rw c.in-Ok.is
-    (said_memory g.E.Sink c.in-Err-obey.fail _ _ _ c.tell.ensures.status c.tell.ensures.said)
-
-pub returns-in-Err-obey-clause-complete : goal.returns-in-Err-obey-clause-complete
-returns-in-Err-obey-clause-complete g c = λ other asks none.
-    inr (completes c.in-Err-obey.fail _ _ _ _ _ c.tell.ensures.status c.in-Err-obey.ensures.reads
-    c.in-Err-obey.ensures.puts none.input_same none.out_same none.input_few none.out_few)
-
-pub returns-in-Err-clause-counts : goal.returns-in-Err-clause-counts
-returns-in-Err-clause-counts g c =
-    ungathered_counts g.S.Source g.K.Sink _ _ _ c.refuse_words.ensures.either
-
-pub returns-in-Err-clause-said : goal.returns-in-Err-clause-said
-returns-in-Err-clause-said g c =
-    ungathered_says g.E.Sink _ _ _ c.refuse_words.ensures.either c.refuse_words.ensures.said
+pub returns-in-Err-clause-endings : goal.returns-in-Err-clause-endings
+returns-in-Err-clause-endings g c =
+    ends_ungathered g.S.Source g.K.Sink g.E.Sink _ c.in-Err.error c.in-Err.is _ _ _ _ _
+    c.refuse_words.ensures.either c.kind.result c.kind.ensures c.refuse_words.ensures.memory
+    c.refuse_words.ensures.other c.refuse_words.ensures.unsaid

@@ -74,9 +74,8 @@ returns-in-Err-clause-obeys g c = record {
       c.in-Err.ensures.ends) c.in-Err.ensures.counts;
   memory = search rules;
   complete = λ other bytes all asks left outcome none.
-      completes c.outcomes_are_sound.ensures.one c.in-Some.asked c.in-Err.fail _ _ _ _ _ bytes all _
-      _
-      _ _ left (subst (λ a. IsOutcome a bytes all)
+      completes c.outcomes_are_sound.ensures.one c.in-Some.asked c.in-Err.fail _ _ _ _ _ bytes all
+      _ _ _ _ left (subst (λ a. IsOutcome a bytes all)
       (one_asked _ other _ asks (sym c.read_words.ensures.asked ∙ c.in-Some.is)) outcome)
       c.in-Err.ensures.ends c.in-Err.ensures.counts c.tell.ensures.status none.input_same
       none.out_same none.input_few none.out_few;
