@@ -4,12 +4,10 @@ from typing import List
 
 from .coder import CUT, GREATEST, Writer
 from .faults import Fault
-from .grid import Node, level, normal, way
+from .grid import Node, level, normal, place, way
 from .past import Seen, next_side
+from .shares import OFF_GRID, Shares
 
-SLOTS = 1 << 20
-NODE_BITS = 50
-OFF_GRID = 1024
 # By field of a coordinate its axis, and 0 for t and 1 for u.
 PLACES = {18: (0, 0), 19: (1, 0), 20: (2, 0), 22: (0, 1), 23: (1, 1), 24: (2, 1)}
 
@@ -23,26 +21,10 @@ class Words(Seen):
 
     def __init__(self, coder: Writer) -> None:
         super().__init__()
-        self.coder, self.slots, self.context = coder, [1 << 31] * SLOTS, 0
+        self.coder, self.shares, self.contexts = coder, Shares(), [0]
 
-    def bit(self, set_: int, place: int, wanted: bool) -> bool:
-        h = 0
-        if (set_ == NODE_BITS or self.context >= OFF_GRID) and place > 511:
-            below = place.bit_length() - 6
-            place = (place >> below) + 64 * (below + 4)
-        for n in (set_, self.context, place):
-            q = ((h + n) & GREATEST) * 2654435761 & GREATEST
-            h = q % 131072 * 32768 + q // 131072
-        slot = self.slots[h % SLOTS]
-        bit = self.coder.choice(max(slot // 65536, 1), wanted)
-        share, count = slot // 1024, slot % 1024
-        part = 131072 // (2 * count + 3)
-        if bit:
-            share += (4194303 - share) * part // 65536
-        else:
-            share -= (share * part + 65535) // 65536
-        self.slots[h % SLOTS] = share * 1024 + min(count + 1, 255)
-        return bit
+    def bit(self, set_: int, place_: int, wanted: bool) -> bool:
+        return self.shares.choice(self.coder, set_, self.contexts, place_, wanted)
 
     def number(self, set_: int, wanted: int) -> int:
         n, top = wanted + 1, 0
@@ -77,7 +59,8 @@ class Words(Seen):
         return (guess + n // 2 + 1 if n % 2 == 0 else guess - n // 2 - 1) % (1 << 32)
 
     def word(self, wanted: int) -> int:
-        self.context = self.kind()
+        detail = self.detail()
+        self.contexts = [self.kind(), detail] if detail else [self.kind()]
         word = self.guessed(self.firsts(), self.guess(), wanted)
         self.take(word)
         return word
@@ -109,6 +92,29 @@ class Words(Seen):
         edge = self.edge()
         turns = 36 * outer + 6 * self.turn(edge) + self.turn(self.across(edge))
         return 4 * turns + min(max(t.width, u.width), 3)
+
+    def detail(self) -> int:
+        f = self.field
+        if f in PLACES:
+            return 1024 * (self.gap_before().bit_length() + 2) + self.place_kind() % 1024
+        if f == 17:
+            return 2048 + min(self.split().width, 255)
+        if f == 26:
+            return 2048 + len(self.ring)
+        if not 26 < f < 31:
+            return 0
+        a, b = self.input(self.edge()), self.input(self.across(self.edge()))
+        if f == 30:
+            return 2048 + 2 * abs(a - b).bit_length() + (a < b)
+        order = a % 2 + 2 * (b % 2) + 4 * (a < b) + 8 * (abs(a - b) == 1)
+        return 1024 * (order + 2) + self.corner_kind()
+
+    def gap_before(self) -> int:
+        """How far t is from s: for t along the axes before, for u along the same."""
+        axis, child = PLACES[self.field]
+        axes = [axis] if child else range(axis)
+        split = self.split()
+        return sum(abs(place(split[i]) - place(self.last[18 + i])) for i in axes)
 
     def turn(self, side: int) -> int:
         return side % 3 * 2 + self.input(side) % 2

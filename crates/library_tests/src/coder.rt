@@ -127,7 +127,7 @@ fn slots_learn(rt: HostRuntime) -> Result<(), Fail> {
     for bit in [true, true, false, true] {
         slot = slot_learned(slot, bit);
     }
-    assert!(rt; slot == 3101922308);
-    assert!(rt; [slot_share(NEW_SLOT), slot_share(slot), slot_share(255)] == [32768, 47331, 1]);
+    assert!(rt; slot == 3006467076);
+    assert!(rt; [slot_share(NEW_SLOT), slot_share(slot), slot_share(255)] == [32768, 45875, 1]);
     Ok(())
 }

@@ -1,4 +1,4 @@
--- A slot: 1,024 times the share of `true` in 2^22nds, and how many bits it learnt, 255 at most.
+-- A slot: 1,024 times the share of `true` in 2^22nds, and how many bits it learnt, 127 at most.
 use Rattle.std.specs.Prelude.{ℕ, ◌+◌, ◌-◌, ◌*◌, ◌/◌, ◌%◌, Bool, max, min, if◌then◌else◌}
 
 -- The share in 65,536ths, at least 1.
@@ -15,7 +15,7 @@ fallen share part = share - (share * part + 65535) / 65536
 
 -- The part of the way that a share goes, by how many bits came before.
 abbrev pub part_by : ℕ → ℕ
-part_by count = 131072 / (2 * count + 3)
+part_by count = 65536 / (count + 2)
 
 -- A slot after a bit.
 abbrev pub slot_learned : ℕ → Bool → ℕ
@@ -23,4 +23,4 @@ slot_learned slot bit =
     (if bit
     then risen (slot / 1024) (part_by (slot % 1024))
     else fallen (slot / 1024) (part_by (slot % 1024))) * 1024
-    + min (slot % 1024 + 1) 255
+    + min (slot % 1024 + 1) 127

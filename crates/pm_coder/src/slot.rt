@@ -24,13 +24,13 @@ pub fn slot_learned(slot: u32, bit: bool) -> u32
 {
     let share = slot / 1024;
     let count = slot % 1024;
-    let part = 131_072 / (2 * count + 3);
+    let part = 65_536 / (count + 2);
     let moved = if bit {
         risen(share, part)
     } else {
         fallen(share, part)
     };
-    moved * 1024 + (count + 1).min(255)
+    moved * 1024 + (count + 1).min(127)
 }
 
 // The share that went a part, in 65,536ths, of its way to the greatest one.

@@ -146,7 +146,7 @@ missed-other g n lg ln =
 
 -- The answers for a word.
 pub answers-hit : (g : Guess) (w : ℕ) → g.word ≡ w
-    → word_answers g w ≡ answer (question g.set (g.context ∷ []) 0) true ∷ []
+    → word_answers g w ≡ answer (question g.set (g.kind ∷ g.detail ∷ []) 0) true ∷ []
 unfolding word_answers
 answers-hit g w e =
     elim (eqb_tells g.word w) [
@@ -156,8 +156,8 @@ answers-hit g w e =
 
 pub answers-miss : (g : Guess) (w : ℕ) → g.word ≢ w
     → word_answers g w
-    ≡ answer (question g.set (g.context ∷ []) 0) false
-    ∷ number_answers (g.set + 1) (g.context ∷ []) (miss g.word w)
+    ≡ answer (question g.set (g.kind ∷ g.detail ∷ []) 0) false
+    ∷ number_answers (g.set + 1) (g.kind ∷ g.detail ∷ []) (miss g.word w)
 unfolding word_answers
 answers-miss g w other =
     elim (eqb_tells g.word w) [
@@ -167,32 +167,32 @@ answers-miss g w other =
 
 -- What was told of the parts was told of the word.
 pub hit-tells : {P : Type 0} (k : predictor.Ghosts P) (p new : P) (from to : Coding) (g : Guess)
-    → May from (choice true (k.share p (question g.set (g.context ∷ []) 0)))
-    → k.share p (question g.set (g.context ∷ []) 0) < 65536
-    → to ≡ made from (choice true (k.share p (question g.set (g.context ∷ []) 0)))
-    → new ≡ k.learned p (question g.set (g.context ∷ []) 0) true
+    → May from (choice true (k.share p (question g.set (g.kind ∷ g.detail ∷ []) 0)))
+    → k.share p (question g.set (g.kind ∷ g.detail ∷ []) 0) < 65536
+    → to ≡ made from (choice true (k.share p (question g.set (g.kind ∷ g.detail ∷ []) 0)))
+    → new ≡ k.learned p (question g.set (g.kind ∷ g.detail ∷ []) 0) true
     → Tells k p from (word_answers g g.word) new to
 hit-tells k p new from to g may fit e l =
     rw (answers-hit g g.word refl)
-    (tells-more k p new new from to to (question g.set (g.context ∷ []) 0) true [] may fit e l
+    (tells-more k p new new from to to (question g.set (g.kind ∷ g.detail ∷ []) 0) true [] may fit e l
     (tells-none k new to))
 
 pub miss-tells : {P : Type 0} (k : predictor.Ghosts P) (p mid new : P) (from on to : Coding)
     (g : Guess) (n : ℕ) → g.word < 4294967296 → n < 4294967295
-    → May from (choice false (k.share p (question g.set (g.context ∷ []) 0)))
-    → k.share p (question g.set (g.context ∷ []) 0) < 65536
-    → on ≡ made from (choice false (k.share p (question g.set (g.context ∷ []) 0)))
-    → mid ≡ k.learned p (question g.set (g.context ∷ []) 0) false
-    → Tells k mid on (number_answers (g.set + 1) (g.context ∷ []) n) new to
+    → May from (choice false (k.share p (question g.set (g.kind ∷ g.detail ∷ []) 0)))
+    → k.share p (question g.set (g.kind ∷ g.detail ∷ []) 0) < 65536
+    → on ≡ made from (choice false (k.share p (question g.set (g.kind ∷ g.detail ∷ []) 0)))
+    → mid ≡ k.learned p (question g.set (g.kind ∷ g.detail ∷ []) 0) false
+    → Tells k mid on (number_answers (g.set + 1) (g.kind ∷ g.detail ∷ []) n) new to
     → Tells k p from (word_answers g (missed g.word n)) new to
 miss-tells k p mid new from on to g n lg ln may fit e l t =
     let other = missed-other g.word n lg ln in
     rw (answers-miss g (missed g.word n) (other.0), miss-missed g.word n lg ln)
-    (tells-more k p mid new from on to (question g.set (g.context ∷ []) 0) false _ may fit e l t)
+    (tells-more k p mid new from on to (question g.set (g.kind ∷ g.detail ∷ []) 0) false _ may fit e l t)
 
 -- Where the parts can't be told, the word can't.
 pub bit-untold : {P : Type 0} (k : predictor.Ghosts P) (p : P) (a : Coding) (g : Guess)
-    → ((bit : Bool) → ¬ May a (choice bit (k.share p (question g.set (g.context ∷ []) 0))))
+    → ((bit : Bool) → ¬ May a (choice bit (k.share p (question g.set (g.kind ∷ g.detail ∷ []) 0))))
     → (w : ℕ) → ¬ Can a (told k p (word_answers g w))
 bit-untold k p a g none w can =
     elim (eqb_tells g.word w) [
@@ -204,21 +204,21 @@ bit-untold k p a g none w can =
 
 pub miss-untold : {P : Type 0} (k : predictor.Ghosts P) (p mid : P) (a on : Coding) (g : Guess)
     → g.word < 4294967296
-    → May a (choice false (k.share p (question g.set (g.context ∷ []) 0)))
-    → on ≡ made a (choice false (k.share p (question g.set (g.context ∷ []) 0)))
-    → mid ≡ k.learned p (question g.set (g.context ∷ []) 0) false
+    → May a (choice false (k.share p (question g.set (g.kind ∷ g.detail ∷ []) 0)))
+    → on ≡ made a (choice false (k.share p (question g.set (g.kind ∷ g.detail ∷ []) 0)))
+    → mid ≡ k.learned p (question g.set (g.kind ∷ g.detail ∷ []) 0) false
     → ((n : ℕ) → n < 4294967295
-    → ¬ Can on (told k mid (number_answers (g.set + 1) (g.context ∷ []) n)))
+    → ¬ Can on (told k mid (number_answers (g.set + 1) (g.kind ∷ g.detail ∷ []) n)))
     → (w : ℕ) → w < 4294967296 → ¬ Can a (told k p (word_answers g w))
 miss-untold k p mid a on g lg may e l none w lw can =
     elim (eqb_tells g.word w) [
       | inl same ↦
-          elim (one_choice a true false (k.share p (question g.set (g.context ∷ []) 0))
+          elim (one_choice a true false (k.share p (question g.set (g.kind ∷ g.detail ∷ []) 0))
           (can-first a _ _ (rw (answers-hit g w (same.1), told-more) at can)) may) [
             | inl writes ↦
                 none 0 (omega arith)
                 (writer-can _ on (rw e (made-writing a
-                (choice false (k.share p (question g.set (g.context ∷ []) 0))) writes)))
+                (choice false (k.share p (question g.set (g.kind ∷ g.detail ∷ []) 0))) writes)))
             | inr equal ↦ absurd (true≢false equal)
           ]
       | inr other ↦
@@ -236,7 +236,7 @@ misses-differ g w v lg lw lv ow ov other e =
 pub words-differ : (g : Guess) (w v : ℕ) → g.word < 4294967296 → w < 4294967296
     → v < 4294967296 → w ≢ v → Differ (word_answers g w) (word_answers g v)
 words-differ g w v lg lw lv other =
-    let q = question g.set (g.context ∷ []) 0 in
+    let q = question g.set (g.kind ∷ g.detail ∷ []) 0 in
     elim (eqb_tells g.word w) [
       | inl hit ↦
           elim (eqb_tells g.word v) [
@@ -253,7 +253,7 @@ words-differ g w v lg lw lv other =
             | inr miss' ↦
                 rw (answers-miss g w (miss.1), answers-miss g v (miss'.1))
                 (differ_on q false _ _
-                (numbers-differ (g.set + 1) (g.context ∷ []) _ _
+                (numbers-differ (g.set + 1) (g.kind ∷ g.detail ∷ []) _ _
                 (miss-small g.word w lg lw (miss.1)) (miss-small g.word v lg lv (miss'.1))
                 (misses-differ g.word w v lg lw lv (miss.1) (miss'.1) other)))
           ]

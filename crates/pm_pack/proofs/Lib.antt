@@ -7,3 +7,4 @@ pub mod PackLaws
 pub mod UnpackLaws
 pub mod JudgeLaws
 pub mod EndLaws
+pub mod MixingLaws

@@ -32,13 +32,13 @@ missed guessed n = moved_ahead guessed (unfolded n)
 -- The answers for a word: whether it is as guessed, and else which other it is.
 unfoldable pub word_answers : Guess → ℕ → List Answer
 word_answers g word =
-    if g.word == word then answer (question g.set (g.context ∷ []) 0) true ∷ []
-    else answer (question g.set (g.context ∷ []) 0) false
-    ∷ number_answers (g.set + 1) (g.context ∷ []) (miss g.word word)
+    if g.word == word then answer (question g.set (g.kind ∷ g.detail ∷ []) 0) true ∷ []
+    else answer (question g.set (g.kind ∷ g.detail ∷ []) 0) false
+    ∷ number_answers (g.set + 1) (g.kind ∷ g.detail ∷ []) (miss g.word word)
 
 -- The question whether a word is a guess of which so many are left.
 abbrev pub asks : Guess → ℕ → Question
-asks g left = question g.set (g.context ∷ []) left
+asks g left = question g.set (g.kind ∷ g.detail ∷ []) left
 
 -- The answers for a word by more guesses: for each in turn whether it is the word, up to the first
 -- that is, and else the answers by the last guess.

@@ -5,16 +5,23 @@ use Rattle.std.specs.Prelude.{if◌then◌else◌}
 use Rattle.std.specs.Int.Count.{count_leading_zeros}
 use Rattle.pm_coder.specs.Questions.{Question}
 use Rattle.pm_coder.specs.Slots.{slot_share, slot_learned}
+use Rattle.pm_pack.specs.declared.mixing.Weights.{Weights}
+use Rattle.pm_pack.specs.Mixing.{weights, mixed_share, weights_learned}
 
 -- A hash with one more number in it (after Knuth, by the golden ratio), below 2^32.
 unfoldable pub mixed : ℕ → ℕ → ℕ
 mixed hash n = (hash + n) % 4294967296 * 2654435761 % 4294967296 % 131072 * 32768
     + (hash + n) % 4294967296 * 2654435761 % 4294967296 / 131072
 
--- The first of the contexts.
-abbrev pub first_context : List ℕ → ℕ
-first_context [] = 0
-first_context (c ∷ cs) = c
+-- The first of the contexts, which is the kind, and the second, which is the detail.
+abbrev pub kind_in : List ℕ → ℕ
+kind_in [] = 0
+kind_in (kind ∷ more) = kind
+
+abbrev pub detail_in : List ℕ → ℕ
+detail_in [] = 0
+detail_in (kind ∷ []) = 0
+detail_in (kind ∷ detail ∷ more) = detail
 
 -- A place by its six upper bits and how many follow.
 unfoldable pub rough : ℕ → ℕ
@@ -28,22 +35,57 @@ unfoldable pub hashed_place : ℕ → ℕ → ℕ → ℕ
 hashed_place set context place =
     if (set == 50 || nat_le 1024 context) && nat_lt 511 place then rough place else place
 
--- The slot of a question in a table of so many.
-unfoldable pub slot_of : ℕ → Question → ℕ
-slot_of size q =
-    mixed (mixed (mixed 0 q.set) (first_context q.contexts))
-    (hashed_place q.set (first_context q.contexts) q.place)
-    % size
+-- The slot of a set, a context and a place in a table of so many.
+unfoldable pub slot_of : ℕ → ℕ → ℕ → ℕ → ℕ
+slot_of size set context place =
+    mixed (mixed (mixed 0 set) context) (hashed_place set context place) % size
 
--- A table whose slots have learnt nothing.
-unfoldable pub fresh_slots : ℕ → List ℕ
-fresh_slots size = replicate size 2147483648
+-- The slots, and by set the weights of two of them.
+pub record Table : Type 0 where
+  pub slots : List ℕ
+  pub weights : List Weights
 
--- The share that a table gives, and the table that has learnt a bit.
-unfoldable pub share_in : List ℕ → Question → ℕ
-share_in slots q = slot_share (get_or slots (slot_of (length slots) q) 0)
+-- A table that has learnt nothing.
+unfoldable pub fresh_slots : ℕ → Table
+fresh_slots size = record {
+  slots = replicate size 2147483648;
+  weights = replicate 102 (weights 16384 16384);
+}
 
-unfoldable pub learned_in : List ℕ → Question → Bool → List ℕ
-learned_in slots q bit =
-    slice_set slots (slot_of (length slots) q)
-    (slot_learned (get_or slots (slot_of (length slots) q) 0) bit)
+-- The slots of a question, by the kind and by the detail.
+unfoldable pub kind_slot : Table → Question → ℕ
+kind_slot t q = slot_of (length t.slots) q.set (kind_in q.contexts) q.place
+
+unfoldable pub detail_slot : Table → Question → ℕ
+detail_slot t q = slot_of (length t.slots) q.set (detail_in q.contexts) q.place
+
+-- The share of a slot, and the weights of a set.
+abbrev pub share_at : Table → ℕ → ℕ
+share_at t i = slot_share (get_or t.slots i 0)
+
+abbrev pub weights_at : Table → ℕ → Weights
+weights_at t set = get_or t.weights set (weights 16384 16384)
+
+-- The share that a table gives: by the kind where there is no detail, else by both.
+unfoldable pub share_in : Table → Question → ℕ
+share_in t q =
+    if detail_in q.contexts == 0 then share_at t (kind_slot t q)
+    else mixed_share (weights_at t q.set) (share_at t (kind_slot t q))
+    (share_at t (detail_slot t q))
+
+-- The slots after one of them has learnt a bit.
+unfoldable pub learned_at : List ℕ → ℕ → Bool → List ℕ
+learned_at slots i bit = slice_set slots i (slot_learned (get_or slots i 0) bit)
+
+-- The table that has learnt a bit.
+unfoldable pub learned_in : Table → Question → Bool → Table
+learned_in t q bit =
+    if detail_in q.contexts == 0
+    then record { slots = learned_at t.slots (kind_slot t q) bit; weights = t.weights }
+    else record {
+      slots = learned_at (learned_at t.slots (kind_slot t q) bit) (detail_slot t q) bit;
+      weights =
+        slice_set t.weights q.set
+        (weights_learned (weights_at t q.set) (share_at t (kind_slot t q))
+        (share_at t (detail_slot t q)) (share_in t q) bit);
+    }

@@ -10,7 +10,8 @@ use Rattle.pm_pack.specs.Planes.{node, node_at, way_to, normal, level}
 use Rattle.pm_pack.specs.Rings.{next_side, input_at}
 use Rattle.pm_pack.specs.Pasts.{Seen, word_at, split_node, has_leaf, first_child, second_child}
 use Rattle.pm_pack.specs.Pasts.{own_child, other_child, beyond, corner_at, edge}
-use Rattle.pm_pack.specs.Kinds.{context_of}
+use Rattle.pm_pack.specs.Kinds.{kind_of}
+use Rattle.pm_pack.specs.Details.{detail_of}
 
 -- The input word of the first leaf to which the sides of a ring lead, and another word where none
 -- does.
@@ -113,7 +114,8 @@ unfoldable pub guess_of : Seen → Guess
 guess_of seen = record {
   word = capped (word_guess seen);
   set = 3 * min seen.spot.field 33;
-  context = context_of seen;
+  kind = kind_of seen;
+  detail = detail_of seen;
 }
 
 -- The corners of the faces on the edge: under the own child, under the other, and the two opposite.

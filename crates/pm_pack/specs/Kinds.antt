@@ -59,8 +59,8 @@ face_kind seen =
 
 -- The kind of the next word: how many leaves the split node has, roughly, and its first child where
 -- that is known, but for coordinates, corners and input words of faces.
-unfoldable pub context_of : Seen → ℕ
-context_of seen =
+unfoldable pub kind_of : Seen → ℕ
+kind_of seen =
     if nat_lt seen.spot.field 17 then 0 else
     if seen.spot.field == 17 then width_class (split_node seen).width else
     if nat_lt 17 seen.spot.field && nat_lt seen.spot.field 21

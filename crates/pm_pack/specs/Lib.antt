@@ -1,4 +1,5 @@
 pub mod Fields
+pub mod Mixing
 pub mod Hashes
 pub mod Guesses
 pub mod Grids
@@ -7,6 +8,7 @@ pub mod Planes
 pub mod Pasts
 pub mod Units
 pub mod Kinds
+pub mod Details
 pub mod Hints
 pub mod Texts
 pub mod Packed

@@ -7,7 +7,7 @@ use Rattle.pm_coder.specs.RoundTrips.{first}
 use Rattle.pm_forest.specs.Forest.{Hierarchy}
 use Rattle.pm_format.specs.Words.{words_of}
 use Rattle.pm_format.specs.Standing.{IsText}
-use Rattle.pm_pack.specs.Hashes.{share_in, learned_in, fresh_slots}
+use Rattle.pm_pack.specs.Hashes.{Table, share_in, learned_in, fresh_slots}
 use Rattle.pm_pack.specs.Texts.{Known, nothing_seen, words_choices}
 
 -- The bytes that a packed text begins with: its magic, and its version.
@@ -22,10 +22,10 @@ pub record Says {P : Type 0} (k : predictor.Ghosts P) (known : Known P) (code wo
   pub all : length end.bytes ≡ 4
 
 -- Shares come from a table of 2^20 slots that have learnt nothing.
-abbrev pub slots : predictor.Ghosts (List ℕ)
+abbrev pub slots : predictor.Ghosts Table
 slots = record { share = share_in; learned = learned_in }
 
-unfoldable pub at_first : Known (List ℕ)
+unfoldable pub at_first : Known Table
 at_first = record { learnt = fresh_slots 1048576; seen = nothing_seen }
 
 -- A text is the stream text of a hierarchy of the right shape.

@@ -4,6 +4,7 @@
 mod fault;
 mod fields;
 mod grid;
+mod mixing;
 mod next;
 mod past;
 mod plane;

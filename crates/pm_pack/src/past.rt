@@ -8,6 +8,7 @@ ghost use Rattle.pm_pack.specs.Hints.{guess_of};
 ghost use Rattle.pm_pack.specs.Texts.{nothing_seen};
 
 mod corners;
+mod details;
 mod guessing;
 mod kinds;
 mod units;
@@ -124,7 +125,8 @@ impl Past {
         Guess {
             word: self.word_guess(),
             set: 3 * self.spot.field.min(33),
-            context: self.context(),
+            kind: self.kind(),
+            detail: self.detail(),
         }
     }
 

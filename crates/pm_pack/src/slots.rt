@@ -1,10 +1,14 @@
 //! A table of slots, one for all questions that have one hash.
-ghost use Rattle.std.specs.Prelude.{◌≡◌, ◌<◌, IfOk, length};
+ghost use Rattle.std.specs.Prelude.{◌≡◌, ◌<◌, ◌≤◌, IfOk, length};
+ghost use Rattle.std.specs.Prelude.{get_or, slice_set};
 ghost use Rattle.pm_coder.specs.Questions.{question};
-ghost use Rattle.pm_pack.specs.Hashes.{mixed, first_context, slot_of, fresh_slots};
-ghost use Rattle.pm_pack.specs.Hashes.{rough, hashed_place};
+ghost use Rattle.pm_coder.specs.Slots.{slot_share};
+ghost use Rattle.pm_pack.specs.Mixing.{weights};
+ghost use Rattle.pm_pack.specs.Hashes.{mixed, kind_in, detail_in, slot_of, fresh_slots};
+ghost use Rattle.pm_pack.specs.Hashes.{rough, hashed_place, learned_at};
 
 use crate::OutOfMemory;
+use crate::mixing::Weights;
 use pm_coder::{NEW_SLOT, Predictor, slot_learned, slot_share};
 use std::alloc::Global;
 use std::marker::Model;
@@ -14,18 +18,29 @@ const NODE_BITS: u32 = 50;
 
 const OFF_GRID: u32 = 1024;
 
-/// Two questions may have one slot; that costs bits and nothing else.
+// How many sets there are, and how their slots weigh at first.
+const SETS: usize = 102;
+
+const HALVES: Weights = Weights {
+    kind: 16_384,
+    detail: 16_384,
+};
+
+/// Two questions may have one slot; that costs bits and nothing else. A word with a detail has two
+/// slots for each bit, of which the set has the weights.
 #[derive(Drop)]
 pub struct Slots {
     slots: Vec<u32>,
+    weights: Vec<Weights>,
 }
 
 impl Model for Slots {
-    ghost use Rattle.std.specs.Prelude.{◌<◌, ℕ, List, length};
+    ghost use Rattle.std.specs.Prelude.{◌<◌, length};
+    ghost use Rattle.pm_pack.specs.Hashes.{Table};
 
-    ghost Value = { List ℕ };
+    ghost Value = { Table };
 
-    ghost view = { λ s. s.slots.items };
+    ghost view = { λ s. record { slots = s.slots.items; weights = s.weights.items } };
 
     ghost invariant = { λ s. 0 < length s.slots.items };
 }
@@ -38,7 +53,8 @@ impl Slots {
         ensures { IfOk result (λ s. s ≡ fresh_slots size) }
     {
         let slots = vec![in alloc; NEW_SLOT; size as usize]?;
-        Ok(Slots { slots })
+        let weights = vec![in alloc; HALVES; SETS]?;
+        Ok(Slots { slots, weights })
     }
 }
 
@@ -49,26 +65,84 @@ impl Predictor for Slots {
 
     ghost learned = { learned_in };
 
-    #[tactic(auto, unfolding(crate::specs::Hashes::share_in))]
+    #[tactic(auto, unfolding(crate::specs::Hashes::share_in, crate::specs::Hashes::kind_slot,
+        crate::specs::Hashes::detail_slot))]
     fn predict(&mut self, set: u32, contexts: &[u32], place: u32) -> u16 {
-        slot_share(self.slots[slot_of(self.slots.len(), set, contexts, place)])
+        let size = self.slots.len();
+        let kind = share_at(&self.slots, slot_of(size, set, kind_in(contexts), place));
+        let detail = detail_in(contexts);
+        if detail == 0 {
+            return kind;
+        }
+        let detail = share_at(&self.slots, slot_of(size, set, detail, place));
+        weights_at(&self.weights, set as usize).share(kind, detail)
     }
 
-    #[tactic(auto, unfolding(crate::specs::Hashes::learned_in))]
+    #[tactic(auto, unfolding(crate::specs::Hashes::learned_in, crate::specs::Hashes::share_in,
+        crate::specs::Hashes::kind_slot, crate::specs::Hashes::detail_slot))]
     fn learn(&mut self, set: u32, contexts: &[u32], place: u32, bit: bool) {
-        let i = slot_of(self.slots.len(), set, contexts, place);
-        self.slots[i] = slot_learned(self.slots[i], bit);
+        let size = self.slots.len();
+        let by_kind = slot_of(size, set, kind_in(contexts), place);
+        let detail = detail_in(contexts);
+        if detail != 0 {
+            let by_detail = slot_of(size, set, detail, place);
+            let (kind, detail) = (
+                share_at(&self.slots, by_kind),
+                share_at(&self.slots, by_detail),
+            );
+            let weights = weights_at(&self.weights, set as usize);
+            let share = weights.share(kind, detail);
+            let learned = weights.learned(kind, detail, share, bit);
+            set_weights(&mut self.weights, set as usize, learned);
+            learn_at(&mut self.slots, by_kind, bit);
+            learn_at(&mut self.slots, by_detail, bit);
+        } else {
+            learn_at(&mut self.slots, by_kind, bit);
+        }
     }
 }
 
-// The slot of a question in a table of so many.
+// The share of a slot.
+fn share_at(slots: &[u32], i: usize) -> u16
+    ensures share { result ≡ slot_share (get_or slots.now i 0) }
+    ensures some { 1 ≤ result }
+{
+    slot_share(if i < slots.len() { slots[i] } else { 0 })
+}
+
+// A slot learns a bit.
+#[tactic(auto, unfolding(crate::specs::Hashes::learned_at))]
+fn learn_at(slots: &mut Vec<u32>, i: usize, bit: bool)
+    ensures learned { slots.new.items ≡ learned_at slots.old.items i bit }
+    ensures size { length slots.new.items ≡ length slots.old.items }
+{
+    if i < slots.len() {
+        slots[i] = slot_learned(slots[i], bit);
+    }
+}
+
+// The weights of a set.
+fn weights_at(all: &[Weights], set: usize) -> Weights
+    ensures { result ≡ get_or all.now set (weights 16384 16384) }
+{
+    if set < all.len() { all[set] } else { HALVES }
+}
+
+fn set_weights(all: &mut Vec<Weights>, set: usize, learned: Weights)
+    ensures { all.new.items ≡ slice_set all.old.items set learned }
+{
+    if set < all.len() {
+        all[set] = learned;
+    }
+}
+
+// The slot of a set, a context and a place in a table of so many.
 #[tactic(auto, unfolding(crate::specs::Hashes::slot_of))]
-fn slot_of(size: usize, set: u32, contexts: &[u32], place: u32) -> usize
+fn slot_of(size: usize, set: u32, context: u32, place: u32) -> usize
     requires { 0 < size }
-    ensures slot { result ≡ slot_of size (question set contexts.now place) }
+    ensures slot { result ≡ slot_of size set context place }
     ensures within { result < size }
 {
-    let context = first_context(contexts);
     let hash = mixed(
         mixed(mixed(0, set), context),
         hashed_place(set, context, place),
@@ -98,12 +172,23 @@ fn hashed_place(set: u32, context: u32, place: u32) -> u32
     }
 }
 
-fn first_context(contexts: &[u32]) -> u32
-    ensures { result ≡ first_context contexts.now }
+// The first of the contexts, and the second.
+fn kind_in(contexts: &[u32]) -> u32
+    ensures { result ≡ kind_in contexts.now }
 {
     match contexts {
         [] => 0,
-        [first, ..] => *first,
+        [kind, ..] => *kind,
+    }
+}
+
+fn detail_in(contexts: &[u32]) -> u32
+    ensures { result ≡ detail_in contexts.now }
+{
+    match contexts {
+        [] => 0,
+        [_] => 0,
+        [_, detail, ..] => *detail,
     }
 }
 

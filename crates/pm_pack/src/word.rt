@@ -11,12 +11,13 @@ const MOST: u32 = u32::MAX;
 
 const HALF: u32 = 0x8000_0000;
 
-/// What a word may be, and the set and the context of the choices that tell it.
+/// What a word may be, and the set and the contexts of the choices that tell it.
 #[derive(Clone, Copy)]
 pub(crate) struct Guess {
     pub(crate) word: u32,
     pub(crate) set: u32,
-    pub(crate) context: u32,
+    pub(crate) kind: u32,
+    pub(crate) detail: u32,
 }
 
 /// A word by guesses of it: whether it is the first, the second and so on of `firsts`, and else by
@@ -42,7 +43,7 @@ pub(crate) fn code_guessed<P: Predictor, C: Coder>(
     match firsts {
         [] => code_word(predictor, coder, near, wanted),
         [first, rest @ ..] => {
-            let contexts = [near.context];
+            let contexts = [near.kind, near.detail];
             let left = firsts.len() as u32;
             if guess(
                 predictor,
@@ -78,7 +79,7 @@ fn code_word<P: Predictor, C: Coder>(
     ensures cut { IfErr result (λ e. e ≡ Fault.Cut → (w : ℕ) → w < 4294967296
         → ¬ Can (C.coding coder.old) (told P.Predictor predictor.old (word_answers near w))) }
 {
-    let contexts = [near.context];
+    let contexts = [near.kind, near.detail];
     if guess(
         predictor,
         coder,

@@ -2,16 +2,16 @@
 ghost use Rattle.std.specs.Prelude.{◌≡◌, ◌≤◌};
 ghost use Rattle.pm_pack.specs.Kinds.{width_class, place_kind};
 ghost use Rattle.pm_pack.specs.Kinds.{coordinate_kind, corner_kind, is_outer, outer_place, turn};
-ghost use Rattle.pm_pack.specs.Kinds.{most_leaves, face_kind, context_of};
+ghost use Rattle.pm_pack.specs.Kinds.{most_leaves, face_kind, kind_of};
 
 use super::Past;
 use crate::grid::Axis;
 
 impl Past {
     /// The kind of the next word.
-    #[tactic(auto, unfolding(crate::specs::Kinds::context_of))]
-    pub(super) fn context(&self) -> u32
-        ensures { result ≡ context_of self.now }
+    #[tactic(auto, unfolding(crate::specs::Kinds::kind_of))]
+    pub(super) fn kind(&self) -> u32
+        ensures { result ≡ kind_of self.now }
     {
         let field = self.spot.field;
         if field < 17 {
@@ -30,7 +30,7 @@ impl Past {
     }
 
     #[tactic(auto, unfolding(crate::specs::Kinds::coordinate_kind))]
-    fn coordinate_kind(&self, field: u32) -> u32
+    pub(super) fn coordinate_kind(&self, field: u32) -> u32
         ensures { result ≡ coordinate_kind self.now field }
     {
         let (first, second) = (self.word(17), self.second_child().width);
@@ -51,7 +51,7 @@ impl Past {
 
     // How many leaves the children have, and how the faces on the edge are turned.
     #[tactic(auto, unfolding(crate::specs::Kinds::corner_kind))]
-    fn corner_kind(&self) -> u32
+    pub(super) fn corner_kind(&self) -> u32
         ensures { result ≡ corner_kind self.now }
     {
         let (own, other) = (

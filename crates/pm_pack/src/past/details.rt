@@ -1,0 +1,121 @@
+//! What is known of the next word beside its kind.
+ghost use Rattle.std.specs.Prelude.{◌≡◌, ◌≤◌, ◌+◌};
+ghost use Rattle.pm_pack.specs.Details.{bits, gap, place_gap, gap_before, coordinate_detail};
+ghost use Rattle.pm_pack.specs.Details.{order_of, edge_input, beyond_input, corner_detail};
+ghost use Rattle.pm_pack.specs.Details.{face_detail, detail_of};
+
+use super::Past;
+use crate::grid::place_of;
+
+impl Past {
+    /// The detail of the next word, 0 for none.
+    #[tactic(auto, unfolding(crate::specs::Details::detail_of))]
+    pub(super) fn detail(&self) -> u32
+        ensures { result ≡ detail_of self.now }
+    {
+        let field = self.spot.field;
+        if field == 17 {
+            2048 + self.split_node().width.min(255)
+        } else if field > 17 && field < 21 || field > 21 && field < 25 {
+            self.coordinate_detail(field)
+        } else if field == 26 {
+            2048 + self.ring.as_slice().len() as u32
+        } else if field > 26 && field < 30 {
+            self.corner_detail()
+        } else if field == 30 {
+            self.face_detail()
+        } else {
+            0
+        }
+    }
+
+    fn coordinate_detail(&self, field: u32) -> u32
+        ensures { result ≡ coordinate_detail self.now field }
+    {
+        1024 * (bits(self.gap_before(field)) + 2) + self.coordinate_kind(field) % 1024
+    }
+
+    // How far t is from s along the axes before that of a coordinate of t, along the same one for
+    // u.
+    #[tactic(auto, unfolding(crate::specs::Details::gap_before))]
+    fn gap_before(&self, field: u32) -> u32
+        ensures { result ≡ gap_before self.now field }
+    {
+        let split = self.split_node();
+        let x = place_gap(split.x, self.word(18));
+        if field == 18 {
+            0
+        } else if field == 20 {
+            x + place_gap(split.y, self.word(19))
+        } else if field == 23 {
+            place_gap(split.y, self.word(19))
+        } else if field == 24 {
+            place_gap(split.z, self.word(20))
+        } else {
+            x
+        }
+    }
+
+    fn edge_input(&self) -> u32
+        ensures { result ≡ edge_input self.now }
+    {
+        self.faces.input(self.edge())
+    }
+
+    fn beyond_input(&self) -> u32
+        ensures { result ≡ beyond_input self.now }
+    {
+        self.faces.input(self.faces.beyond(self.edge()))
+    }
+
+    fn corner_detail(&self) -> u32
+        ensures { result ≡ corner_detail self.now }
+    {
+        let order = order_of(self.edge_input(), self.beyond_input());
+        1024 * (order + 2) + self.corner_kind() % 1024
+    }
+
+    // Which of the input words of the faces on the edge is less, and by how many bits.
+    #[tactic(auto, unfolding(crate::specs::Details::face_detail))]
+    fn face_detail(&self) -> u32
+        ensures { result ≡ face_detail self.now }
+    {
+        let (edge, beyond) = (self.edge_input(), self.beyond_input());
+        let less = if edge < beyond { 2049 } else { 2048 };
+        2 * bits(gap(edge, beyond)) + less
+    }
+}
+
+// How many bits a number has.
+fn bits(n: u32) -> u32
+    ensures value { result ≡ bits n }
+    ensures most { result ≤ 32 }
+{
+    32u32.saturating_sub(n.leading_zeros())
+}
+
+// How far two numbers are apart.
+fn gap(a: u32, b: u32) -> u32
+    ensures { result ≡ gap a b }
+{
+    a.max(b).saturating_sub(a.min(b))
+}
+
+fn place_gap(a: u32, b: u32) -> u32
+    ensures value { result ≡ place_gap a b }
+    ensures most { result ≤ 65535 }
+{
+    gap(place_of(a), place_of(b))
+}
+
+// How two input words stand to each other: which are odd, whether the first is less, and whether
+// they are next to each other.
+#[tactic(auto, unfolding(crate::specs::Details::order_of))]
+fn order_of(a: u32, b: u32) -> u32
+    ensures value { result ≡ order_of a b }
+    ensures most { result ≤ 15 }
+{
+    let less = if a < b { 4 } else { 0 };
+    let next = if gap(a, b) == 1 { 8 } else { 0 };
+    a % 2 + 2 * (b % 2) + less + next
+}
