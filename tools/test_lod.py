@@ -14,7 +14,8 @@ TOP = TOOLS.parent
 sys.path.insert(0, str(TOOLS))
 
 from lods.levels import distance_up, levels_of  # noqa: E402
-from dressing.materials import PNG, Picture  # noqa: E402
+from dressing.materials import PNG, Picture, pictures_for  # noqa: E402
+from dressing.textured import read  # noqa: E402
 from lods.gltf import glb, normals  # noqa: E402
 from lods.shown import Grid, Level, Look, script_of  # noqa: E402
 from lods.written import decimals_of, obj, ply, stl  # noqa: E402
@@ -209,6 +210,30 @@ class Program(unittest.TestCase):
             for i in range(count):
                 self.assertAlmostEqual(points[3 * i] / 7200, spots[2 * i], delta=0.01)
                 self.assertAlmostEqual(1 - points[3 * i + 1] / 7200, spots[2 * i + 1], delta=0.01)
+            self.keeps_them_as_obj(path)
+
+    def keeps_them_as_obj(self, path: Path) -> None:
+        out, words = path.with_name("o"), ("--levels", "2", "--out")
+        done = self.lod(str(path), *words, str(out))
+        self.assertEqual(done.returncode, 0, done.stderr.decode())
+        self.assertEqual(out.with_name("o-0.png").read_bytes(), PNG + b"all of it")
+        for number in range(2):
+            found = path.with_name(f"o-{number}.obj")
+            told = read(found.read_bytes())
+            assert told is not None
+            self.assertEqual((told.libraries, told.pages), (["o.mtl"], ["page-0"]))
+            (picture,) = pictures_for(found, told.pages, told.libraries)
+            self.assertEqual((picture.data, picture.missing), (PNG + b"all of it", ""))
+            for face in told.faces:
+                self.assertEqual(face.corners, face.spots)
+            for place, spot in zip(told.places, told.spots):
+                self.assertAlmostEqual(place[0] / 7200, spot[0], delta=0.01)
+                self.assertAlmostEqual(place[1] / 7200, spot[1], delta=0.01)
+        out.with_suffix(".mtl").write_bytes(b"another")
+        done = self.lod(str(path), *words, str(out))
+        self.assertIn(b"o.mtl is there, and another", done.stderr)
+        done = self.lod(str(path), "--bare", *words, str(out))
+        self.assertNotIn(b"vt", found.read_bytes())
 
     def test_a_faulty_file_is_told_by_line(self) -> None:
         with tempfile.TemporaryDirectory() as room:

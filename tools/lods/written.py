@@ -3,12 +3,14 @@ import math
 import struct
 from typing import Callable, Dict, List, Sequence
 
+from dressing.materials import Picture
 from vectors import unit
 
 from .gltf import glb, normal_of
 from .shown import Grid, Level
 
 _PARTS = ("red", "green", "blue")
+_ENDINGS = {"image/png": "png", "image/jpeg": "jpg", "image/webp": "webp"}
 
 
 def decimals_of(grid: Grid) -> int:
@@ -18,14 +20,49 @@ def decimals_of(grid: Grid) -> int:
     return max(0, math.ceil(-math.log10(grid.unit)) + 2)
 
 
+def _vertex_lines(level: Level) -> List[str]:
+    decimals = decimals_of(level.grid)
+    return [
+        "v " + " ".join(f"{c:.{decimals}f}" for c in level.grid.at(p)) for p in level.places
+    ]
+
+
 def obj(level: Level) -> bytes:
     """With the colours of vertices behind their coordinates, as MeshLab has them."""
-    decimals, colours = decimals_of(level.grid), level.look.colours
-    lines = ["v " + " ".join(f"{c:.{decimals}f}" for c in level.grid.at(p)) for p in level.places]
-    for number, colour in enumerate(colours):
+    lines = _vertex_lines(level)
+    for number, colour in enumerate(level.look.colours):
         lines[number] += "".join(f" {part / 255:.4f}" for part in colour)
     lines += ["f " + " ".join(str(corner + 1) for corner in face) for face in level.faces]
     return "".join(line + "\n" for line in lines).encode("ascii")
+
+
+def obj_with_materials(level: Level, library: str) -> bytes:
+    """With texture coordinates, which have the numbers of the vertices, and the materials of a file
+    of this name."""
+    lines = [f"mtllib {library}", *_vertex_lines(level)]
+    lines += [f"vt {u:.6f} {v:.6f}" for u, v in level.look.spots]
+    for page in range(len(level.look.pictures)):
+        lines += _page_lines(level, page)
+    return "".join(line + "\n" for line in lines).encode("utf-8")
+
+
+def _page_lines(level: Level, page: int) -> List[str]:
+    faces = [face for face, own in zip(level.faces, level.look.pages) if own == page]
+    both = (" ".join(f"{corner + 1}/{corner + 1}" for corner in face) for face in faces)
+    return [f"usemtl page-{page}", *(f"f {one}" for one in both)] if faces else []
+
+
+def materials(pictures: Sequence[Picture], stem: str) -> Dict[str, bytes]:
+    """The file of materials of an OBJ file, and the pictures that it names, by their names."""
+    files: Dict[str, bytes] = {}
+    lines: List[str] = []
+    for page, picture in enumerate(pictures):
+        lines += [f"newmtl page-{page}", "Kd " + " ".join(f"{c:.4f}" for c in picture.colour)]
+        if picture.kind in _ENDINGS:
+            name = f"{stem}-{page}.{_ENDINGS[picture.kind]}"
+            files[name] = picture.data
+            lines.append(f"map_Kd {name}")
+    return {f"{stem}.mtl": "".join(line + "\n" for line in lines).encode("utf-8"), **files}
 
 
 def ply(level: Level) -> bytes:
