@@ -29,7 +29,7 @@ MAGIC, PACKED = b"VDPM", b"VDPK"
 SECONDS_BETWEEN_NEWS = 5
 MOST_DIGITS = 4
 # What of a text isn't shown, by how its lines begin, in words as those of `prepare`.
-PASSED_OVER = {"texture places": rb"^vt\s", "materials": rb"^usemtl\s"}
+PASSED_OVER = {"texture coordinates": rb"^vt\s", "materials": rb"^usemtl\s"}
 # A fault that another number of decimals may cure: a nonzero digit past the first D.
 TOO_MANY_DECIMALS = "fault 5 "
 _passed_on: Set[str] = set()  # notices, which each run of a program gives again
@@ -277,7 +277,7 @@ def _fitting(text: bytes, given: bytes, programs: Programs) -> Fitting:
 
 def passed_over(text: bytes) -> Tuple[str, ...]:
     return tuple(
-        f"{what} passed over" for what, looks in PASSED_OVER.items()
+        f"{what} ignored" for what, looks in PASSED_OVER.items()
         if re.search(looks, text, re.MULTILINE)
     )
 

@@ -47,9 +47,9 @@ class Files(Case):
 
     def test_what_is_not_shown_of_a_fit_obj_is_told(self) -> None:
         text = b"mtllib a.mtl\n" + (EXAMPLES / "octahedron.obj").read_bytes() + b"vt 0 0\n"
-        for more, notes in ((b"", ()), (b"usemtl a\n", ("materials passed over",))):
+        for more, notes in ((b"", ()), (b"usemtl a\n", ("materials ignored",))):
             made = looked_at(self.written("a.obj", text + more))
-            self.assertEqual(made.notes, ("texture places passed over", *notes))
+            self.assertEqual(made.notes, ("texture coordinates ignored", *notes))
             self.assertFalse(made.prepared)
 
     def test_an_obj_that_is_not_fit_is_prepared(self) -> None:
