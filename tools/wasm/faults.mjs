@@ -57,7 +57,7 @@ export class NotOpen extends Error {
 }
 
 export const STATUS = {
-  DONE: 0, FAULTY: 1, NO_MEMORY: 5, NOT_SO: 6, NO_ROOM: 7, NO_SUCH: 8, QUIT: 9,
+  DONE: 0, FAULTY: 1, OUT_OF_RANGE: 2, NO_MEMORY: 5, NOT_SO: 6, NO_ROOM: 7, NO_SUCH: 8, QUIT: 9,
 };
 
 /**
@@ -69,6 +69,7 @@ export function check(status, place = null) {
   if (status === STATUS.DONE || status === STATUS.QUIT) return;
   if (status === STATUS.NO_MEMORY) throw new OutOfMemory();
   if (status === STATUS.NOT_SO) throw new NotOpen();
+  if (status === STATUS.OUT_OF_RANGE) throw new RangeError("a number is out of its range");
   if (status === STATUS.NO_SUCH) throw new RangeError("there is no node or leaf of this number");
   throw new Fault(status, place, OF_STREAM);
 }

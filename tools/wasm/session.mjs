@@ -246,6 +246,40 @@ export class Session {
     });
   }
 
+  /**
+   * What all nodes have of numbers by vertex of the complete mesh, as 65,536 times u and v of a
+   * texture: in each channel that of the linear map which fits those below a node best, at its
+   * place. Throws RangeError where they aren't numbers of all vertices, or one is out of range.
+   * @param {Int32Array} byVertex in the order of the text that the stream was made of
+   * @param {number} channels how many numbers a vertex has
+   * @returns {Int32Array} by node
+   */
+  fits(byVertex, channels = 1) {
+    const { memory, handle } = this, count = channels * this.counts().nodes;
+    const bytes = new Uint8Array(byVertex.buffer, byVertex.byteOffset, byVertex.byteLength);
+    return memory.within([4 * count], (to) => memory.holding(bytes, (from) => {
+      const numbers = [numberTo(MOST, channels, "channels"), from, byVertex.length];
+      check(memory.functions.vdpm_fits(handle, ...numbers, to, count));
+      return memory.signed(to, count);
+    }));
+  }
+
+  /** Which vertex of that text a node of one leaf is, 0xffffffff for another node, and which face
+   * of it a face is: both from 0.
+   * @returns {{ byNode: Uint32Array, byFace: Uint32Array }} */
+  inputs() {
+    const { memory, handle } = this, { nodes } = this.counts();
+    const { vdpm_inputs: told } = memory.functions;
+    return memory.within([4, 4 * nodes], (faces, byNode) => {
+      const status = told(handle, byNode, nodes, byNode, 0, faces), count = memory.number(faces);
+      if (status !== STATUS.NO_ROOM) check(status);
+      return memory.within([4 * count], (byFace) => {
+        check(told(handle, byNode, nodes, byFace, count, faces));
+        return { byNode: memory.numbers(byNode, nodes), byFace: memory.numbers(byFace, count) };
+      });
+    });
+  }
+
   /** @param {string} name @param {number} node @returns {number | null} */
   record(name, node) {
     const record = this.told(name, numberTo(MOST, node, "node"));
