@@ -1,6 +1,7 @@
 -- The items that leave or stay, as one list of items that are shown, each once.
 use Rattle.std.proofs.Common.{◌≡◌, ◌≢◌, ℕ, ◌+◌, ◌-◌, ◌<◌, ◌≤◌, ◌==◌, ◌⊎◌, ◌++◌, List, length, take}
-use Rattle.std.proofs.Common.{Bool, true, false, inl, inr, refl, sym, ap, subst, ◌∙◌, arith, length-append}
+use Rattle.std.proofs.Common.{Bool, true, false, inl, inr, refl, sym, ap, subst, ◌∙◌, arith}
+use Rattle.std.proofs.Common.{length-append}
 use Rattle.std.specs.List.{AllPairs, list_any}
 use Rattle.std.proofs.lemmas.Bool.{cases_lt}
 use Rattle.std.proofs.lemmas.Bool.Decides.{nat_tests}
@@ -42,10 +43,11 @@ shown_yes entries x shown =
 
 pub yes_shown : (entries : List ℕ) (x : ℕ) → is_shown entries x ≡ true → Shows entries x
 yes_shown entries x is_one =
-    let any = Any-from_list_any (λ e. e == x) entries (and_parts (is_item x) (list_any (λ e. e == x) entries) is_one).1 in (
+    let parts = and_parts (is_item x) (list_any (λ e. e == x) entries) is_one in
+    let any = Any-from_list_any (λ e. e == x) entries parts.1 in (
       any.0,
       record {
-        is_item = yes_item x (and_parts (is_item x) (list_any (λ e. e == x) entries) is_one).0;
+        is_item = yes_item x parts.0;
         there = get_or_default entries any.0 EMPTY any.1 any.2
             ∙ (any.3 ∙ yes_same any.1 x any.4);
       },
@@ -86,7 +88,8 @@ cases_either old gone put place next count stays is low =
 pairs_of : (xs : List ℕ) → IsOnce xs → AllPairs (λ x y. x ≢ y) xs
 pairs_of xs once i j d before low e =
     once i j before low
-    (get_or_default xs i EMPTY d (omega (arith, before, low)) ∙ (e ∙ get_or_default xs j d EMPTY low))
+    (get_or_default xs i EMPTY d (omega (arith, before, low))
+    ∙ (e ∙ get_or_default xs j d EMPTY low))
 
 staying_once : (entries put : List ℕ) → IsOnce put → IsOnce (staying entries put)
 staying_once entries put once j k before low =

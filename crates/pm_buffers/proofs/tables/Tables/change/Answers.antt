@@ -22,7 +22,8 @@ loop-place-preserved c =
     let so = done.written in
     let change = c.requires.change in
     let few = c.requires.sound.few in
-    let room : k < length slots = omega (arith, c.loop-place-test.true, c.requires.room, done.room) in
+    let room : k < length slots =
+    omega (arith, c.loop-place-test.true, c.requires.room, done.room) in
     let low : k < c.args.count = c.loop-place-test.true in
     elim c.match-slot_at.branch [
       | in-Some w ↦
