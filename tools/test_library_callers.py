@@ -4,6 +4,7 @@ The header is compiled as each C and C++ that it promises, and against what prog
 (abi.c), and the programs of tools/library_callers and examples/library run under the sanitizers and
 valgrind, and on threads with little stack.
 """
+import math
 import os
 import re
 import shutil
@@ -71,6 +72,15 @@ def caller(name: str, *more: str) -> Path:
              str(made)]
     subprocess.run(words, check=True)
     return made
+
+
+def flight(count: int) -> Iterator[str]:
+    """Views from a circle round a model, closer and closer, and one from afar at last."""
+    for i in range(count):
+        turn, far = 2 * math.pi * i / 20, 60000 - 600 * i
+        x, y = round(far * math.cos(turn)), round(far * math.sin(turn))
+        yield f"v {x} {y} 20000 1000 {3 + i % 4}"
+    yield "v 0 0 9000000 1000 20"
 
 
 def has_sanitizers() -> bool:
@@ -183,6 +193,16 @@ class Callers(unittest.TestCase):
                                    ("means", ["1"], b"1 2 3 4 5 6")):
             made = str(compiled(name, room, *SANITIZERS))
             self.assert_clean([made, str(STREAM), *words], given)
+
+    def test_a_renderer_keeps_its_buffers_by_slots(self) -> None:
+        stream, script = Path(folder.name) / "flown.vdpm", "\n".join(flight(60)) + "\n"
+        stream.write_bytes(vdpm.simplify(vdpm.prepare(TORUS.read_bytes()).text))
+        more = SANITIZERS if has_sanitizers() else ()
+        done = subprocess.run([str(caller("renderer", *more)), str(stream)], capture_output=True,
+                              input=script.encode(), check=False)
+        self.assertEqual((done.returncode, done.stderr), (0, b""), done.stdout)
+        written, whole = (int(number) for number in done.stdout.split(b" of "))
+        self.assertTrue(0 < written < whole, done.stdout)
 
     def test_valgrind_finds_nothing(self) -> None:
         if shutil.which("valgrind") is None:

@@ -120,6 +120,25 @@ static void views_by_numbers(vdpm_viewer *viewer) {
     told("nothing told", moved.moves, 7);
 }
 
+/* Slots of no items, and a change of nothing. */
+static void slots_of_nothing(void) {
+    vdpm_slots slots = VDPM_CLOSED;
+    vdpm_slots_sizes sizes = {7, 7};
+    const uint32_t none = 0;
+    told("vdpm_slots_of", vdpm_slots_of(&slots, NULL, 0, NULL, 0), VDPM_NOT_SO);
+    told("vdpm_slots_open", vdpm_slots_open(0, &slots), VDPM_DONE);
+    told("vdpm_slots_open again", vdpm_slots_open(0, &slots), VDPM_NOT_SO);
+    told("vdpm_slots_change", vdpm_slots_change(&slots, NULL, 0, &none, 1, NULL, 0, &sizes),
+         VDPM_OUT_OF_RANGE);
+    told("nothing told", sizes.written, 7);
+    told("vdpm_slots_change", vdpm_slots_change(&slots, NULL, 0, NULL, 0, NULL, 0, &sizes),
+         VDPM_DONE);
+    told("none written", sizes.written | sizes.length, 0);
+    told("vdpm_slots_of", vdpm_slots_of(&slots, NULL, 0, NULL, 0), VDPM_DONE);
+    vdpm_slots_close(&slots);
+    vdpm_slots_close(&slots);
+}
+
 static void views_of_nothing(vdpm_viewer *viewer) {
     vdpm_sizes sizes;
     vdpm_change_sizes changes;
@@ -160,6 +179,7 @@ int main(void) {
     size_t length = 0;
     uint8_t *stream = empty_stream(&length);
     texts_of_nothing();
+    slots_of_nothing();
     scales();
     told("vdpm_open", vdpm_open(NULL, 0, 0, &viewer, &place), 22);
     told("vdpm_line", vdpm_line(&viewer, NULL, 0), VDPM_NOT_SO);

@@ -21,11 +21,12 @@ from .way import Way
 
 # The kit lowers programs alone, and of a program what its main leads to.
 MAIN = """
+use crate::buffer_slot::BufferSlot;
 use crate::made_slot::MadeSlot;
 use crate::slot::Slot;
 use crate::tables::{
-    ChangeCounts, Counts, DecimalTold, ExtentTold, Handle, LevelTold, Look, MadeHandle, Moved,
-    NO_FAULT, ScaleTold,
+    BufferHandle, ChangeCounts, Counts, DecimalTold, ExtentTold, Handle, LevelTold, Look,
+    MadeHandle, Moved, NO_FAULT, ScaleTold, SlotSizes,
 };
 use std::rt::HostRuntime;
 
@@ -85,6 +86,13 @@ fn main(rt: HostRuntime) {
     scale::vdpm_made_scale(alloc, &mut made, &mut scale);
     making::vdpm_made_close(alloc, &mut made);
     let MadeHandle { slot: _made_slot, open: _made_open } = made;
+    let mut buffer = BufferHandle { slot: BufferSlot::empty(alloc), open: 0 };
+    let mut told = SlotSizes { written: 0, length: 0 };
+    buffers::vdpm_slots_open(alloc, 0, &mut buffer);
+    buffers::vdpm_slots_change(alloc, &mut buffer, &a, &b, &mut c, &mut told);
+    buffers::vdpm_slots_of(alloc, &mut buffer, &a, &mut b);
+    buffers::vdpm_slots_close(alloc, &mut buffer);
+    let BufferHandle { slot: _buffer_slot, open: _buffer_open } = buffer;
 }
 """
 EXPORT = re.compile(r'define internal (?:noundef )?(i32|void) @"vdpm_c::\w+::(vdpm_\w+)"')

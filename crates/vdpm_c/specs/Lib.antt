@@ -4,3 +4,5 @@ pub mod Looking
 pub mod Making
 pub mod Packing
 pub mod Scales
+pub mod Buffering
+pub mod Frames

@@ -2,11 +2,14 @@
 ghost use Rattle.std.specs.Prelude.{◌≡◌, Some, None, IsSome};
 ghost use Rattle.vdpm_c.specs.Border.{Has};
 ghost use Rattle.vdpm_c.specs.Making.{HasMade};
+ghost use Rattle.vdpm_c.specs.Buffering.{HasBuffer};
 
+use crate::buffer_slot::BufferSlot;
 use crate::loose::Loose;
 use crate::made_slot::MadeSlot;
 use crate::slot::Slot;
-use crate::tables::{Handle, MadeHandle};
+use crate::tables::{BufferHandle, Handle, MadeHandle};
+use pm_buffers::Slots;
 use pm_making::Made;
 use pm_viewer::Viewer;
 use std::alloc::Global;
@@ -69,5 +72,35 @@ pub(crate) fn put_made(handle: &mut MadeHandle, it: Box<Made>)
     ensures { HasMade handle.new it.value }
 {
     handle.slot = MadeSlot::of(Loose::of(it));
+    handle.open = 1;
+}
+
+// Takes out what a slot for a buffer has, and leaves it with nothing.
+fn vacate_buffer(alloc: Global, slot: &mut BufferSlot) -> BufferSlot
+    ensures taken { result.value ≡ slot.old.value }
+    ensures empty { slot.new.value ≡ None }
+{
+    let empty = BufferSlot::empty(alloc);
+    replace(slot, empty)
+}
+
+// Takes the slots of a buffer out of an open handle, which isn't open then.
+pub(crate) fn take_buffer(alloc: Global, handle: &mut BufferHandle) -> Box<Slots>
+    requires { IsSome handle.old.slot.value }
+    ensures buffer { handle.old.slot.value ≡ Some result.value }
+    ensures closed { handle.new.open ≡ 0 }
+    ensures empty { handle.new.slot.value ≡ None }
+{
+    handle.open = 0;
+    let slot = vacate_buffer(alloc, &mut handle.slot);
+    let loose = slot.into_loose();
+    loose.into_box()
+}
+
+// Puts the slots of a buffer into a handle, which is open then.
+pub(crate) fn put_buffer(handle: &mut BufferHandle, slots: Box<Slots>)
+    ensures { HasBuffer handle.new slots.value }
+{
+    handle.slot = BufferSlot::of(Loose::of(slots));
     handle.open = 1;
 }

@@ -1,13 +1,16 @@
-//! The viewer and the builder for C: a thin layer of exported functions over `pm_viewer` and
-//! `pm_making`. `libvdpm.h` tells of each to its callers.
+//! The viewer, the builder and the slots of a buffer for C: a thin layer of exported functions over
+//! `pm_viewer`, `pm_making` and `pm_buffers`. `libvdpm.h` tells of each to its callers.
 #![tactic(auto)]
 
+mod buffer_slot;
+mod buffers;
 mod changes;
 mod exports;
 mod fits;
 mod holding;
 mod inputs;
 mod inside;
+mod laws;
 mod looking;
 mod loose;
 mod made;

@@ -1,4 +1,5 @@
 //! What crosses to C beside numbers and arrays of them.
+use crate::buffer_slot::BufferSlot;
 use crate::made_slot::MadeSlot;
 use crate::slot::Slot;
 
@@ -116,6 +117,25 @@ pub struct ScaleTold {
     /// Into how many steps the extent is divided; 0, and all others too, where positions are the
     /// coordinates.
     pub steps: u32,
+}
+
+/// The slots of a renderer's buffer as C holds them: all zero before they are opened and once they
+/// are closed.
+#[repr(C)]
+pub struct BufferHandle {
+    pub slot: BufferSlot,
+    /// 1 where a buffer's slots stand in the slot, and 0 where none do.
+    pub open: u32,
+}
+
+/// What a change of slots came to.
+#[repr(C)]
+#[derive(Clone, Copy)]
+pub struct SlotSizes {
+    /// How many slots are to be written.
+    pub written: u32,
+    /// How many slots the buffer has.
+    pub length: u32,
 }
 
 /// The fault of a text.

@@ -1,7 +1,8 @@
 //! The functions of C, each over one that takes slices and references.
 
 use super::tables::{
-    ChangeCounts, Counts, ExtentTold, FaultTold, Handle, LevelTold, Look, MadeHandle, Moved,
+    BufferHandle, ChangeCounts, Counts, ExtentTold, FaultTold, Handle, LevelTold, Look, MadeHandle,
+    Moved, ScaleTold, SlotSizes,
 };
 use crate::rattle_std::alloc::Global;
 
