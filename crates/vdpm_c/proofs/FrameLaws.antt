@@ -1,10 +1,9 @@
 -- The lists of a change lead the slots of a buffer from what one front shows to what another does.
-use Rattle.std.proofs.Common.{◌≡◌, ◌≢◌, ℕ, suc, zero, ◌+◌, ◌<◌, ◌≤◌, ◌&&◌, ◌||◌, not, ◌⊎◌, List, []}
+use Rattle.std.proofs.Common.{◌≡◌, ◌≢◌, ℕ, suc, zero, ◌<◌, ◌≤◌, ◌&&◌, ◌||◌, not, ◌⊎◌, List, []}
 use Rattle.std.proofs.Common.{◌∷◌, length, map, Bool, true, false, inl, inr, refl, sym, ap, subst}
 use Rattle.std.proofs.Common.{◌∙◌, arith}
 use Rattle.std.specs.List.{All, AllPairs, filter}
 use Rattle.std.proofs.lemmas.Bool.{cond_both}
-use Rattle.std.proofs.lemmas.List.{get_or_default}
 use Rattle.std.proofs.lemmas.List.Elements.{All-filter, filter_passes}
 use Rattle.std.proofs.lemmas.List.FromFn.{get_or-range_with_len, length-range_with_len}
 use Rattle.std.proofs.lemmas.List.Kept.{AllPairs-filter}
@@ -17,7 +16,7 @@ use Rattle.pm_front.specs.Shown.{active_nodes, kept_faces}
 use Rattle.pm_morph.specs.Laws.{shown_face_at}
 use Rattle.pm_change.specs.Shown.{node_number, face_number, shown_node_at}
 use Rattle.pm_change.specs.Changes.{is_gone, is_new_node, is_put, has_moved_corner, gone_nodes}
-use Rattle.pm_change.specs.Changes.{new_nodes, gone_faces, put_faces}
+use Rattle.pm_change.specs.Changes.{gone_faces}
 use Rattle.pm_buffers.specs.Buffers.{at, Buffer, IsBuffer}
 use Rattle.pm_buffers.specs.Changes.{Has, IsOnce, IsChange, AreChanged}
 use Rattle.pm_buffers.specs.declared.tables.TheConstants.{EMPTY}

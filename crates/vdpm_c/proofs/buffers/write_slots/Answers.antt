@@ -1,4 +1,4 @@
-use Rattle.std.proofs.Common.{ℕ, length, drop, inl, inr, sym, subst, ap, ◌∙◌, arith}
+use Rattle.std.proofs.Common.{ℕ, length, inl, inr, sym, subst, ap, ◌∙◌, arith}
 use Rattle.std.proofs.Common.{length-set}
 use Rattle.std.proofs.lemmas.Bool.{cases_eq}
 use Rattle.std.proofs.lemmas.List.{drop-set-lt, get_or_default}
