@@ -20,6 +20,7 @@ sys.path[:0] = [str(TOP / "tools"), str(HERE)]
 
 from plain_rust import webassembly  # noqa: E402
 from plain_rust.package import package, write  # noqa: E402
+import three_page  # noqa: E402
 from told_cases import all_cases  # noqa: E402
 
 LEAST_NODE = 18
@@ -80,6 +81,19 @@ class Module(unittest.TestCase):
         words = ["node", "--test", str(HERE / "methods.mjs")]
         done = subprocess.run(words, capture_output=True, env=settings, check=False)
         self.assertEqual(done.returncode, 0, done.stdout.decode() + done.stderr.decode())
+
+    def test_three_js_draws_a_model(self) -> None:
+        reason = three_page.missing()
+        if reason:
+            print(f"LEFT OUT: the example with three.js, {reason}", flush=True)
+            self.skipTest(reason)
+        folder = Path(room.name) / "three"
+        folder.mkdir()
+        told = three_page.drawn(module, folder, folder / "picture.png")
+        # (what is far off is shown by fewer faces)
+        self.assertTrue(0 < told["far"] < told["near"], told)
+        self.assertEqual(told["shown"], told["near"])
+        self.assertTrue(0.1 < told["lit"] < 0.8, told)
 
 
 if __name__ == "__main__":
