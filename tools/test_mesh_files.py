@@ -238,12 +238,13 @@ class Obj(WithFolder):
 
     def test_other_files_are_named_for_what_they_look_like(self) -> None:
         for data, said in (
-            (b"glTF\2\0\0\0", "looks like a GLB"), (b'{"asset":{}}', "a glTF file"),
+            (b"glTF\2\0\0\0", "looks like a GLB"), (b'{ "asset":{}}', "perhaps glTF"),
             (b"%PDF-1.4", "a PDF"), (b"<html>", "HTML"), (b"\x1f\x8b\x08\0", "gunzip$"),
             (b"ncols 9\n", "height field: cut it by tools/world.py"), (b"", "^it is empty$"),
             (bytes(range(32)) * 9, "is no text"), (b"\x01\x02 x\n", "is no text"),
             (b"X" * 60 + bytes(10), "byte 70: the data end before the 84 bytes"),
             (b"1 2.5 -3\n4 5 6\n", "rows of numbers and no faces: points alone"),
+            (b"{x\n", "^it has no faces$"), (b" " * 83 + b'{"', "^it has no faces$"),
         ):
             self.refused(data, said)
 

@@ -15,8 +15,10 @@ _OTHERS = (
     (b"\x89PNG", "a PNG picture"), (b"\xff\xd8\xff", "a JPEG picture"), (b"GIF8", "a GIF picture"),
     (b"II*\0", "a TIFF picture"), (b"MM\0*", "a TIFF picture"), (b"II+\0", "a TIFF picture"),
     (b"%PDF", "a PDF document"), (b"Kaydara FBX", "an FBX file"), (b"MM", "a 3DS file"),
-    (b"<", "a text of HTML or XML"), (b"{", "a glTF file"), (b"VDPM", "a stream of this project"),
+    (b"<", "a text of HTML or XML"), (b"VDPM", "a stream of this project"),
 )  # fmt: skip
+# An object of JSON begins, by as many bytes as tell `prepare` the format.
+_OBJECT, _TOLD_BY = re.compile(rb'[ \t\n\f\r]*\{[ \t\n\f\r]*"'), 84
 # What makes a file of those that are read here of one that isn't, by its first bytes.
 _CURES = (
     (b"\x1f\x8b", "a file compressed by gzip: unpack it by gunzip"),
@@ -45,6 +47,8 @@ def kind_of(head: bytes, size: int) -> str:
     for begin, name in _OTHERS:
         if head.startswith(begin):
             raise MeshFault(f"it looks like {name}: an OBJ, PLY or STL file is read here")
+    if _OBJECT.match(head[:_TOLD_BY]):
+        raise MeshFault("it looks like JSON, perhaps glTF: an OBJ, PLY or STL file is read here")
     for begin, told in _CURES:
         if head.startswith(begin):
             raise MeshFault(f"it looks like {told}")

@@ -1,5 +1,5 @@
-"""Height fields as meshes: one of few enough points is an OBJ text of whole numbers, as world.py cuts
-it, with a first line as `prepare` writes it, which leads back to the file's coordinates."""
+"""Height fields as meshes: one of few enough points is an OBJ text of whole numbers, as world.py
+cuts it, with a first line as `prepare` writes it, which leads back to the file's coordinates."""
 import tempfile
 from pathlib import Path
 from typing import Callable, NamedTuple

@@ -1,9 +1,10 @@
 -- Which format a file has, by its first bytes. Byte 35 is `#`; 255, 254 begin a text of 16 bits a
 -- letter.
 use Rattle.std.specs.Prelude.{ℕ, ◌-◌, ◌==◌, Bool, false, ◌&&◌, ◌||◌, List, [], ◌∷◌, ◌++◌, length}
-use Rattle.std.specs.Prelude.{nat_lt, nat_eq, take, slice_index_or, Option, Some, None, codes}
+use Rattle.std.specs.Prelude.{nat_lt, nat_eq, take, drop, slice_index_or, Option, Some, None, codes}
 use Rattle.std.specs.Prelude.{if◌then◌else◌}
-use Rattle.std.specs.List.{starts_with}
+use Rattle.std.specs.Char.{is_ascii_whitespace}
+use Rattle.std.specs.List.{starts_with, prefix_len}
 use Rattle.std.specs.Str.{str_eq_ignore_ascii_case}
 use Rattle.mesh_scan.specs.declared.format.TheConstants.{FIRST_BYTES}
 use Rattle.mesh_scan.specs.declared.format.Foreign.{Foreign}
@@ -43,6 +44,7 @@ scene_of bytes =
     else if begins bytes (codes "OFF") then Some foreign.Off
     else if begins bytes (codes "Kaydara") then Some foreign.Fbx
     else if begins bytes (80 ∷ 75 ∷ 3 ∷ 4 ∷ []) then Some foreign.Zip
+    else if begins bytes (31 ∷ 139 ∷ []) then Some foreign.Gzip
     else if begins bytes (codes "%PDF") then Some foreign.Pdf
     else None
 
@@ -65,13 +67,31 @@ or_picture bytes None = picture_of bytes
 unfoldable pub foreign_of : List ℕ → Option Foreign
 foreign_of bytes = or_picture bytes (scene_of bytes)
 
+abbrev pub after_white : List ℕ → List ℕ
+after_white bytes = drop (prefix_len is_ascii_whitespace bytes) bytes
+
+abbrev pub opens_object : List ℕ → Bool
+opens_object (byte ∷ rest) = byte == 123 && begins (after_white rest) (34 ∷ [])
+opens_object [] = false
+
+-- An object of JSON begins, as in a glTF text: `{` and `"`, with nothing but white space before
+-- them.
+unfoldable pub is_json : List ℕ → Bool
+is_json bytes = opens_object (after_white bytes)
+
+-- The format without a name at the front: `solid`, or a count of facets; JSON; else OBJ.
+unfoldable pub text_by : List ℕ → Format
+text_by bytes =
+    if begins_solid bytes || is_binary_stl bytes then formats.Stl
+    else if is_json bytes then formats.Foreign foreign.Json
+    else formats.Obj
+
 abbrev pub or_mesh : List ℕ → Option Foreign → Format
 or_mesh bytes (Some kind) = formats.Foreign kind
-or_mesh bytes None =
-    if begins_solid bytes || is_binary_stl bytes then formats.Stl else formats.Obj
+or_mesh bytes None = text_by bytes
 
 -- The format by the first bytes: a comment of an OBJ text or a text of 16 bits a letter, which is
--- refused as an OBJ text; `ply`; a kind that isn't read; `solid`, or a count of facets; else OBJ.
+-- refused as an OBJ text; `ply`; a name of a kind that isn't read; and else what `text_by` says.
 unfoldable pub format_by : List ℕ → Format
 format_by bytes =
     if begins bytes (codes "#") || is_wide bytes then formats.Obj

@@ -1,7 +1,10 @@
 //! Which format a file has, by its first bytes.
-ghost use Rattle.std.specs.Prelude.{◌≡◌};
+ghost use Rattle.std.specs.Prelude.{◌≡◌, ◌≤◌, length};
+ghost use Rattle.std.specs.Char.{is_ascii_whitespace};
+ghost use Rattle.std.specs.List.{prefix_len};
 ghost use Rattle.mesh_scan.specs.Formats.{begins, begins_solid, is_binary_stl, is_ply, is_wide};
-ghost use Rattle.mesh_scan.specs.Formats.{is_solid, scene_of, picture_of, foreign_of, format_by};
+ghost use Rattle.mesh_scan.specs.Formats.{is_solid, scene_of, picture_of, foreign_of, after_white};
+ghost use Rattle.mesh_scan.specs.Formats.{is_json, text_by, format_by};
 
 /// So many bytes tell the format: as many as a binary STL file has before its first facet.
 pub const FIRST_BYTES: usize = 84;
@@ -20,11 +23,15 @@ pub enum Foreign {
     ThreeDs,
     /// A ZIP archive.
     Zip,
+    /// A file compressed by gzip.
+    Gzip,
     Png,
     Jpeg,
     Gif,
     Tiff,
     Pdf,
+    /// A text that begins with an object of JSON, as a glTF text does.
+    Json,
 }
 
 /// The format of a file.
@@ -94,6 +101,8 @@ fn scene_of(bytes: &[u8]) -> Option<Foreign>
         Some(Foreign::Fbx)
     } else if begins(bytes, b"PK\x03\x04") {
         Some(Foreign::Zip)
+    } else if begins(bytes, b"\x1f\x8b") {
+        Some(Foreign::Gzip)
     } else if begins(bytes, b"%PDF") {
         Some(Foreign::Pdf)
     } else {
@@ -131,6 +140,45 @@ fn foreign_of(bytes: &[u8]) -> Option<Foreign>
     }
 }
 
+// How many bytes at the front are white space.
+fn white_len(bytes: &[u8]) -> usize
+    ensures value { result ≡ prefix_len is_ascii_whitespace bytes.now }
+    ensures within { result ≤ length bytes.now }
+{
+    bytes.iter().take_while(|b| b.is_ascii_whitespace()).count()
+}
+
+fn after_white(bytes: &[u8]) -> &[u8]
+    ensures { result.now ≡ after_white bytes.now }
+{
+    &bytes[white_len(bytes)..]
+}
+
+// Whether an object of JSON begins that has a name in it. No line of an OBJ text is like that.
+#[tactic(auto, unfolding(crate::specs::Formats::is_json))]
+fn is_json(bytes: &[u8]) -> bool
+    ensures { result ≡ is_json bytes.now }
+{
+    match after_white(bytes) {
+        [b'{', rest @ ..] => begins(after_white(rest), b"\""),
+        _ => false,
+    }
+}
+
+// The format of a file that has no name at its front.
+#[tactic(auto, unfolding(crate::specs::Formats::text_by))]
+fn text_by(bytes: &[u8]) -> Format
+    ensures { result ≡ text_by bytes.now }
+{
+    if begins_solid(bytes) || is_binary_stl(bytes) {
+        Format::Stl
+    } else if is_json(bytes) {
+        Format::Foreign(Foreign::Json)
+    } else {
+        Format::Obj
+    }
+}
+
 /// The format of a file that begins with these bytes, which are `FIRST_BYTES`, or all that it has.
 #[tactic(auto, unfolding(crate::specs::Formats::format_by))]
 pub fn format_by(bytes: &[u8]) -> Format
@@ -145,9 +193,5 @@ pub fn format_by(bytes: &[u8]) -> Format
     if let Some(kind) = foreign_of(bytes) {
         return Format::Foreign(kind);
     }
-    if begins_solid(bytes) || is_binary_stl(bytes) {
-        Format::Stl
-    } else {
-        Format::Obj
-    }
+    text_by(bytes)
 }

@@ -72,11 +72,13 @@ foreign_reason foreign.Off = codes "an OFF file, which isn't read"
 foreign_reason foreign.Fbx = codes "an FBX file, which isn't read"
 foreign_reason foreign.ThreeDs = codes "a 3DS file, which isn't read"
 foreign_reason foreign.Zip = codes "a ZIP archive: unpack it"
+foreign_reason foreign.Gzip = codes "a gzip file: unpack it by gunzip"
 foreign_reason foreign.Png = codes "a PNG picture, no mesh"
 foreign_reason foreign.Jpeg = codes "a JPEG picture, no mesh"
 foreign_reason foreign.Gif = codes "a GIF picture, no mesh"
 foreign_reason foreign.Tiff = codes "a TIFF picture, no mesh"
 foreign_reason foreign.Pdf = codes "a PDF document, no mesh"
+foreign_reason foreign.Json = codes "JSON, perhaps glTF, which isn't read"
 
 abbrev pub file_reason : MeshFault → List ℕ
 file_reason (files.Obj e n) = scan_reason e

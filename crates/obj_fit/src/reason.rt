@@ -94,11 +94,13 @@ fn foreign_reason(kind: Foreign) -> &'static [u8]
         Foreign::Fbx => b"an FBX file, which isn't read",
         Foreign::ThreeDs => b"a 3DS file, which isn't read",
         Foreign::Zip => b"a ZIP archive: unpack it",
+        Foreign::Gzip => b"a gzip file: unpack it by gunzip",
         Foreign::Png => b"a PNG picture, no mesh",
         Foreign::Jpeg => b"a JPEG picture, no mesh",
         Foreign::Gif => b"a GIF picture, no mesh",
         Foreign::Tiff => b"a TIFF picture, no mesh",
         Foreign::Pdf => b"a PDF document, no mesh",
+        Foreign::Json => b"JSON, perhaps glTF, which isn't read",
     }
 }
 

@@ -68,7 +68,8 @@ class Fields(Case):
                 model_of(self.written(name, data), programs_of(program()))
 
     def test_a_text_that_was_scaled_leads_back(self) -> None:
-        text = b"# coordinate = 2.5 / 10 * place + (1 2 3)\n" + (EXAMPLES / "torus.obj").read_bytes()
+        head = b"# coordinate = 2.5 / 10 * place + (1 2 3)\n"
+        text = head + (EXAMPLES / "torus.obj").read_bytes()
         scale = model_of(self.written("scaled.obj", text), programs_of(program())).scale
         self.assertEqual(scale, (0.25, (1.0, 2.0, 3.0)))
         assert scale is not None
