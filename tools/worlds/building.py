@@ -143,12 +143,14 @@ def _build_level(build: Build, tiles: List[Tile]) -> None:
 
 
 def _side_by_side(build: Build, tiles: List[Tile], one: Callable[[Tile], None]) -> None:
-    """Does something with each tile; no more are begun once one has a fault."""
+    """Does something with each tile; no more are begun once one has a fault, or the user stops."""
     with ThreadPoolExecutor(build.jobs) as pool:
         tasks: List["Future[None]"] = [pool.submit(one, tile) for tile in tiles]
-        done, waiting = wait(tasks, return_when=FIRST_EXCEPTION)
-        for task in waiting:
-            task.cancel()
+        try:
+            wait(tasks, return_when=FIRST_EXCEPTION)
+        finally:
+            for task in tasks:
+                task.cancel()
     faults = [str(task.exception()) for task in tasks if not task.cancelled() and task.exception()]
     if faults:
         raise WorldFault("\n".join(faults))

@@ -107,11 +107,29 @@ def write_world(world: World) -> None:
         told = {"form": PACKED_FORM, "packed": True}
     told.update(unit=world.unit, origin=world.origin, outline=world.outline)
     told["tiles"] = [asdict(tile) for tile in world.tiles.values()]
-    part = world.folder / "world.json.part"
-    part.write_text(json.dumps(told, indent=1) + "\n", encoding="ascii")
-    part.replace(world.folder / "world.json")
+    write_whole(world.folder / "world.json", json.dumps(told, indent=1) + "\n")
+    before = world.folder / BEFORE
+    if before.is_file():
+        before.unlink()
 
 
+def write_whole(path: Path, text: str) -> None:
+    """Writes a file that has its name only once it is whole."""
+    part = path.with_name(f"{path.name}.part")
+    part.write_text(text, encoding="ascii")
+    part.replace(path)
+
+
+def set_aside(folder: Path) -> None:
+    """Takes the name of what stands in a folder, since tiles of another cut are written there: what
+    is of two cuts is never taken for a world."""
+    file = folder / "world.json"
+    if file.is_file():
+        file.replace(folder / BEFORE)
+
+
+JOURNAL = "cut.journal"  # of a cut that is under way, or was stopped
+BEFORE = "world.json.before"  # of the cut before one that is under way
 OUTLINE = "outline.txt"  # the border sides beside which no other tile stands
 OPENED = "opened.txt"  # the edges that several tiles have, at which all are cut open
 
@@ -148,6 +166,8 @@ def read_world(path: Path) -> World:
             raise TypeError(f"packed is {packed}")
         world = World(file.parent, told["unit"], (x, y, z), told["outline"], packed=packed)
     except OSError as fault:
+        if any(file.with_name(name).is_file() for name in (JOURNAL, BEFORE)):
+            raise WorldFault(f"{file.parent} isn't cut whole: go on by the same `cut`") from fault
         raise WorldFault(f"{file} can't be read: {fault.strerror}") from fault
     except (ValueError, KeyError, TypeError) as fault:
         raise WorldFault(f"{file} is no world.json: {fault}") from fault
@@ -155,11 +175,13 @@ def read_world(path: Path) -> World:
 
 
 def is_packed(folder: Path) -> bool:
-    """Whether a world with packed streams stands in a folder."""
-    try:
-        return read_world(folder).packed
-    except WorldFault:
-        return False
+    """Whether a world with packed streams stands in a folder, or did before a cut that stopped."""
+    for name in ("world.json", BEFORE):
+        try:
+            return read_world(folder / name).packed
+        except WorldFault:
+            pass
+    return False
 
 
 def tile_of(words: Dict[str, Any]) -> Tile:

@@ -21,6 +21,7 @@ _WORDS = {
     "nodata_value",
 }
 _BLOCK = 1 << 20  # bytes
+_MOST_DIGITS = 9  # of a number in a picture's head
 
 
 class Rows(NamedTuple):
@@ -33,6 +34,11 @@ class Rows(NamedTuple):
     columns: int
     rows: int
     rise: float = 1.0
+
+    @property
+    def size(self) -> int:
+        """How many bytes a number has."""
+        return array(self.letter).itemsize
 
     def part(self, row: int, first: int, last: int) -> "array[float]":
         """The heights of a row, counted from the south, from one column to another."""
@@ -241,16 +247,26 @@ def _read_grid(file: BinaryIO) -> Heights:
 
 
 def _pgm_number(file: BinaryIO) -> int:
-    """The next number of the head: comments go from `#` to the end of their line."""
+    """The next number of the head, with the blank after it: comments go from `#` to the end of
+    their line."""
     text = b""
     while True:
         byte = file.read(1)
         if byte == b"#":
             file.readline()
-        elif byte.isdigit():
+        elif byte.isdigit() and len(text) < _MOST_DIGITS:
             text += byte
-        elif text or not byte:
-            return int(text or b"0")
+        elif text and byte.isspace():
+            return int(text)
+        elif not byte.isspace():
+            raise WorldFault(f"line {_line_of(file)}: the head of a picture has three numbers")
+
+
+def _line_of(file: BinaryIO) -> int:
+    """The line of the byte that was read last."""
+    end = file.tell()
+    file.seek(0)
+    return 1 + file.read(max(0, end - 1)).count(b"\n")
 
 
 def _pgm_head(file: BinaryIO) -> Tuple[int, int, int]:
@@ -266,11 +282,11 @@ def _pgm_head(file: BinaryIO) -> Tuple[int, int, int]:
 def _read_pgm(file: BinaryIO, spacing: float, rise: float) -> Heights:
     columns, rows, greatest = _pgm_head(file)
     found = Rows(file, file.tell(), "H" if greatest > 255 else "B", columns, rows, rise)
+    whole = (os.fstat(file.fileno()).st_size - found.start) // (found.size * columns)
+    if whole < rows:
+        raise WorldFault(f"the picture is cut off after {whole:,} of {rows:,} rows")
     known = _Range()
     for row in reversed(range(rows)):
-        heights = found.part(row, 0, columns - 1)
-        if len(heights) != columns:
-            raise WorldFault(f"the picture is cut off after {rows - 1 - row} rows")
-        known.add(heights)
+        known.add(found.part(row, 0, columns - 1))
     low, high = known.told()
     return Heights(columns, rows, 0.0, 0.0, spacing, spacing, low, high, found)

@@ -1,6 +1,6 @@
 """What is cut: a height field or a mesh, in whole numbers of the world's unit."""
 from functools import partial
-from math import inf
+from math import inf, isfinite
 from pathlib import Path
 from typing import Callable, Container, Iterable, List, NamedTuple, Tuple
 
@@ -43,9 +43,17 @@ def _nice(least: float) -> float:
 
 
 def _unit(asked: Asked, extent: float) -> float:
+    if not isfinite(extent):
+        raise WorldFault("the input is wider or higher than the largest number")
     if asked.unit > 0:
         return asked.unit
     return _nice(extent / LONGEST_SPAN) if extent > 0 else 1.0
+
+
+def _refuse_far(farthest: float, unit: float) -> None:
+    """WorldFault where a place can't be counted in units."""
+    if not isfinite(farthest / unit):
+        raise WorldFault(f"{farthest:g} is too far in units of {unit:g}: take a larger unit")
 
 
 class Cut(NamedTuple):
@@ -76,6 +84,7 @@ def _cut_heights(asked: Asked, say: Say, work: Work) -> Cut:
         refuse_degrees(grid, asked.source, _extent_of(field, high - low))
     extent = max((field.columns - 1) * field.across, (field.rows - 1) * field.along, high - low)
     unit = _unit(asked, extent)
+    _refuse_far(extent, unit)
     if min(field.across, field.along) < unit:
         raise WorldFault(f"points {field.across:g} apart are nearer than a unit of {unit:g}")
     origin = (field.west, field.south, low)
@@ -112,6 +121,7 @@ def _cut_mesh(asked: Asked, say: Say, work: Work) -> Cut:
     lows, highs = _box(soup)
     step, middle = _scale_of(asked.source)
     unit = _unit(asked, step * max(b - a for a, b in zip(lows, highs))) / step
+    _refuse_far(max(map(abs, lows + highs)), unit)
     # A whole number of units, so that coordinates which are whole numbers of units stay so.
     x, y, z = (unit * round(low / unit) for low in lows)
     origin = (step * x + middle[0], step * y + middle[1], step * z + middle[2])

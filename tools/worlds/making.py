@@ -12,8 +12,8 @@ from typing import Dict, Iterable, List, Set
 
 from .cutting import Half, parts_for
 from .form import (
-    FORM, MOST_FACES, OPENED, OUTLINE, Place, Side, Tile, World, WorldFault, box_of, fits,
-    is_packed, middle, write_sides, write_world,
+    FORM, JOURNAL, MOST_FACES, OPENED, OUTLINE, Place, Side, Tile, World, WorldFault, box_of, fits,
+    is_packed, middle, set_aside, write_sides, write_world,
 )
 from .inputs import RASTER, Asked, Cut, cut_of
 from .journal import Journal, Recorded
@@ -153,7 +153,7 @@ def _cut_leaves(cut: Cut, world: World, asked: Asked, work: Work) -> _Leaves:
     identity = [FORM, str(source), told.st_size, told.st_mtime_ns, asked.faces]
     identity += [cut.unit, *cut.origin]
     world.folder.mkdir(parents=True, exist_ok=True)
-    journal = Journal(world.folder / "cut.journal", identity)
+    journal = Journal(world.folder / JOURNAL, identity)
     leaves, is_whole = _Leaves(), False
     about = parts_for(cut.faces, asked.faces)
     work.begin(f"cuts tile 1 of about {about}", cut.faces)
@@ -165,6 +165,7 @@ def _cut_leaves(cut: Cut, world: World, asked: Asked, work: Work) -> _Leaves:
             if half.piece is None:
                 found = journal.known(half.name)
             else:
+                set_aside(world.folder)
                 found = _leaf(world, half)
                 journal.add(half.name, found)
             leaves.add(found)

@@ -10,6 +10,7 @@ from typing import Dict, Iterable, List, NamedTuple, Set, Tuple
 
 from .form import (
     GREATEST_COORDINATE, OPENED, Corners, Place, Side, Tile, World, WorldFault, sides_of,
+    write_whole,
 )
 from .fronts import frames_of, places_in_world, splits, stream_of
 from .making import write_mesh
@@ -137,5 +138,5 @@ def make_parent(vdpm: Path, world: World, tile: Tile, most: int) -> Made:
     made = Made(len(mesh.places), len(mesh.faces), error)
     write_mesh(world.mesh(tile), mesh, tile.offset)
     world.mesh(tile).touch()  # one that says the same is as new as what it was made of
-    told_path(world, tile).write_text(json.dumps(made._asdict()) + "\n", encoding="ascii")
+    write_whole(told_path(world, tile), json.dumps(made._asdict()) + "\n")
     return made

@@ -2,13 +2,17 @@
 import io
 import os
 import random
+import threading
 import time
+from concurrent.futures import Future
+from dataclasses import replace
+from typing import List
 from unittest import mock
 
-from .. import making, progress
+from .. import building, making, progress
 from ..building import Build, build_world
 from ..checking import check_world
-from ..form import World, WorldFault
+from ..form import Tile, World, WorldFault, read_world, write_world
 from ..parents import within_reach
 from ..mending import Mesh
 from ..progress import Work, left_of
@@ -68,6 +72,18 @@ class GoingOn(WithWorld):
         self.check_tiles(world, 60)
         self.assertEqual(max(tile.high[0] for tile in world.level(0)), 320)
 
+    def test_what_is_of_two_cuts_is_no_world(self) -> None:
+        self.stopped_after(1)
+        with self.assertRaisesRegex(WorldFault, "world isn't cut whole: go on by the same `cut`"):
+            read_world(self.room / "world")
+        write_world(replace(self.cut(self.source, 60), packed=True))
+        self.source.write_text(self.source.read_text().replace("cellsize 10", "cellsize 20"))
+        self.stopped_after(1)
+        with self.assertRaisesRegex(WorldFault, "isn't cut whole"):
+            read_world(self.room / "world" / "world.json")
+        self.assertTrue(self.cut(self.source, 60).packed)
+        self.assertEqual(list((self.room / "world").glob("*.before")), [])
+
     def test_a_tile_that_says_the_same_stays(self) -> None:
         world = self.cut(self.source, 60)
         before = {t.name: world.mesh(t).stat().st_mtime_ns for t in world.level(0)}
@@ -88,9 +104,9 @@ class Building(WithWorld):
         field = random_field(random.Random(12), 9, 9)
         self.world = self.cut(self.file("field.asc", grid_text(field, 10)), 32)
 
-    def build(self, world: World) -> int:
+    def build(self, world: World, jobs: int = 2) -> int:
         work = Work(self.said.append)
-        return build_world(Build(world, SIMPLIFY, VDPM, 40, 2, work))
+        return build_world(Build(world, SIMPLIFY, VDPM, 40, jobs, work))
 
     def test_what_is_fresh_stays(self) -> None:
         self.assertEqual([self.build(self.world), self.build(self.world)], [5, 0])
@@ -100,6 +116,27 @@ class Building(WithWorld):
         os.utime(self.world.mesh(self.world.tiles["t"]), (1, 1))
         self.world.stream(self.world.tiles["t10"]).unlink()
         self.assertEqual(self.build(self.world), 2)  # the tile and its parent
+
+    def test_a_build_that_is_stopped_begins_no_more_tiles(self) -> None:
+        begun: List[str] = []
+        over = threading.Event()
+
+        def stopped(tasks: "List[Future[None]]", **_: object) -> None:
+            if tasks:
+                tasks[-1].add_done_callback(lambda _: over.set())
+                tasks[0].result()
+                raise KeyboardInterrupt
+
+        def begin(_: Build, tile: Tile) -> None:
+            begun.append(tile.name)
+            if len(begun) > 1:
+                self.assertTrue(over.wait(60))  # until the last one was cancelled
+
+        with mock.patch.object(building, "build_tile", begin):
+            with mock.patch.object(building, "wait", stopped):
+                with self.assertRaises(KeyboardInterrupt):
+                    self.build(self.world, 1)
+        self.assertLessEqual(len(begun), 2)
 
     def test_a_fault_is_told_with_its_cure(self) -> None:
         path = self.world.mesh(self.world.tiles["t01"])
@@ -140,9 +177,50 @@ class Scales(WithWorld):
                 self.assertAlmostEqual(a, b, delta=world.unit)
 
 
+class Screen(io.StringIO):
+    """Where lines are shown; `seen` once something is."""
+
+    def __init__(self, is_terminal: bool) -> None:
+        super().__init__()
+        self.is_terminal, self.seen = is_terminal, threading.Event()
+
+    def isatty(self) -> bool:
+        return self.is_terminal
+
+    def write(self, text: str) -> int:
+        self.seen.set()
+        return super().write(text)
+
+
+@mock.patch.object(progress, "_BETWEEN_LOOKS", 0.001)
+@mock.patch.object(progress, "_BETWEEN_LINES", 0.0)
+class Shown(WithWorld):
+    def test_a_terminal_has_one_line_which_goes(self) -> None:
+        screen = Screen(True)
+        with Work(self.said.append, screen) as work:
+            work.begin("cuts tile 3 of about 12", 0)
+            self.assertTrue(screen.seen.wait(60))
+        lines = screen.getvalue().split("\r\x1b[K")
+        self.assertEqual({lines[0], lines[-1]}, {""})
+        self.assertEqual(set(lines[1:-1]), {"cuts tile 3 of about 12"})
+        self.assertEqual(self.said, [])
+
+    def test_a_pipe_has_lines(self) -> None:
+        screen, told = Screen(False), threading.Event()
+
+        def say(line: str) -> None:
+            self.said.append(line)
+            told.set()
+
+        with Work(say, screen) as work:
+            work.begin("cuts tile 3 of about 12", 0)
+            self.assertTrue(told.wait(60))
+        self.assertEqual((set(self.said), screen.getvalue()), ({"cuts tile 3 of about 12"}, ""))
+
+
 class Told(WithWorld):
     @mock.patch.object(progress.time, "monotonic", lambda: 1000.0)
-    def test_a_pipe_has_lines_and_a_terminal_one_line(self) -> None:
+    def test_a_line_tells_how_far_work_is(self) -> None:
         work = Work(self.said.append, io.StringIO())
         work.begin("cuts tile 3 of about 12", 200)
         self.assertEqual(work.line(), "cuts tile 3 of about 12")

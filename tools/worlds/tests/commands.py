@@ -2,6 +2,9 @@
 import random
 import subprocess
 import sys
+from unittest import mock
+
+import world
 
 from ..form import read_world
 from .common import SIMPLIFY, TOP, VDPM, WithWorld, grid_text, needs_simplify, random_field
@@ -43,6 +46,15 @@ class Commands(WithWorld):
             done = called(*words)
             self.assertEqual(done.returncode, status, done.stderr)
             self.assertIn(said, done.stderr)
+
+    def test_one_who_stops_is_told_how_to_go_on(self) -> None:
+        words = ["world.py", "cut", str(self.source), str(self.folder)]
+        with mock.patch.object(world, "make_world", side_effect=KeyboardInterrupt):
+            with mock.patch.object(sys, "argv", words), mock.patch.object(
+                world, "say", self.said.append
+            ):
+                self.assertEqual(world.main(), 130)
+        self.assertEqual(self.said, ["stopped; the same command goes on"])
 
     @needs_simplify
     def test_a_world_is_made_by_the_script(self) -> None:

@@ -138,6 +138,17 @@ class Hostile(WithPieces):
                 self.cut(self.file("bad.obj", text + line + "\n"), 4)
         with self.assertRaisesRegex(WorldFault, "units across: take a larger unit"):
             self.cut(self.file("far.obj", text + "v 1e12 0 0\nf 1 2 10\n"), 4)
+        for coordinate, unit, said in (
+            ("1e308 0 0\nv -1e308", 1.0, "wider or higher than the largest number"),
+            ("1e308", 0.001, r"1e\+308 is too far in units of 0.001: take a larger unit"),
+        ):
+            far = f"v {coordinate} 0 0\nf 1 2 10\n"
+            with self.assertRaisesRegex(WorldFault, said):
+                self.cut(self.file("far.obj", text + far), 4, unit=unit)
+        field = "ncols 2\nnrows 2\ncellsize 1\n1e308 2\n3 "
+        for last, unit, said in (("-1e308", 0.0, "largest number"), ("4", 1e-3, "too far in units")):
+            with self.assertRaisesRegex(WorldFault, said):
+                self.cut(self.file("far.asc", field + last), 4, unit=unit)
 
     def test_random_surfaces_in_random_tiles(self) -> None:
         chance = random.Random(13)

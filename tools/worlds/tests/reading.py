@@ -52,8 +52,23 @@ class Reading(WithWorld):
         path.write_bytes(b"P5\n1 2\n255\n\x07\xff")
         self.assertEqual([read_heights(path, 1, 1).at(row, 0) for row in range(2)], [255, 7])
         path.write_bytes(b"P5\n2 2\n255\n\x07\xff\x01")
-        with self.assertRaisesRegex(WorldFault, "cut off after 1 rows"):
+        with self.assertRaisesRegex(WorldFault, "cut off after 1 of 2 rows"):
             read_heights(path, 1, 1)
+
+    def test_faults_of_a_picture_are_named(self) -> None:
+        path = self.room / "a.pgm"
+        for text, said in (
+            (b"P2\n2 2\n255\n1 2 3 4\n", "a.pgm: the file is no binary PGM"),
+            (b"P5\n2 -2\n255\n1234", "line 2: the head of a picture has three numbers"),
+            (b"P5 # x\n2 2\nmost\n1234", "line 3: the head of a picture has three numbers"),
+            (b"P5\n2 2", "line 2: the head"), (b"P5\n2 0\n255\n", "the head tells 2 by 0 points"),
+            (b"P5\n2 2\n65536\n12345678", "2 by 2 points of at most 65536"),
+            (b"P5\n999999999 2\n255\n1234", "cut off after 0 of 2 rows"),
+            (b"P5\n9999999999 2\n255\n1234", "line 2: the head"),
+        ):
+            path.write_bytes(text)
+            with self.assertRaisesRegex(WorldFault, said):
+                read_heights(path, 1, 1)
 
     def test_no_data_may_be_no_number_and_rows_may_be_broken(self) -> None:
         text = HEAD.replace("-1", "nan") + "1 2\n3 4\nnan 6"
