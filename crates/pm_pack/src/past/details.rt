@@ -1,7 +1,7 @@
 //! What is known of the next word beside its kind.
 ghost use Rattle.std.specs.Prelude.{◌≡◌, ◌≤◌, ◌+◌};
 ghost use Rattle.pm_pack.specs.Details.{bits, gap, place_gap, gap_before, coordinate_detail};
-ghost use Rattle.pm_pack.specs.Details.{order_of, edge_input, beyond_input, corner_detail};
+ghost use Rattle.pm_pack.specs.Details.{order_of, corner_detail};
 ghost use Rattle.pm_pack.specs.Details.{face_detail, detail_of};
 
 use super::Past;
@@ -56,22 +56,12 @@ impl Past {
         }
     }
 
-    fn edge_input(&self) -> u32
-        ensures { result ≡ edge_input self.now }
-    {
-        self.faces.input(self.edge())
-    }
-
-    fn beyond_input(&self) -> u32
-        ensures { result ≡ beyond_input self.now }
-    {
-        self.faces.input(self.faces.beyond(self.edge()))
-    }
-
     fn corner_detail(&self) -> u32
         ensures { result ≡ corner_detail self.now }
     {
-        let order = order_of(self.edge_input(), self.beyond_input());
+        let edge = self.edge();
+        let beyond = self.faces.beyond(edge);
+        let order = order_of(self.faces.input(edge), self.faces.input(beyond));
         1024 * (order + 2) + self.corner_kind() % 1024
     }
 
@@ -80,7 +70,9 @@ impl Past {
     fn face_detail(&self) -> u32
         ensures { result ≡ face_detail self.now }
     {
-        let (edge, beyond) = (self.edge_input(), self.beyond_input());
+        let edge = self.edge();
+        let beyond = self.faces.input(self.faces.beyond(edge));
+        let edge = self.faces.input(edge);
         let less = if edge < beyond { 2049 } else { 2048 };
         2 * bits(gap(edge, beyond)) + less
     }
