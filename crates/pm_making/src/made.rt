@@ -19,7 +19,9 @@ impl Model for Made {
     ghost Value = { MadeText };
 
     ghost view = { λ m. record {
-        bytes = m.bytes.items; notes = m.notes.items; scale = m.scale
+      bytes = m.bytes.items;
+      notes = m.notes.items;
+      scale = m.scale;
     } };
 }
 
