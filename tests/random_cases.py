@@ -111,7 +111,7 @@ def words_case(rng: Random) -> Case:
     """Words of the forms in any order, most of which aren't understood. No large demo is asked."""
     known = ["canon", "build", "expand", "check", "view", "live", "--digits", "0", "4", "5", "01"]
     known += ["-1", "", "4294967296", "prepare", "demo 3", "--help", "32768", "--keep-border"]
-    known += ["--unpack"]
+    known += ["--unpack", "--version"]
     words = [rng.choice(known) for _ in range(rng.randint(0, 4))]
     words = rng.choice([words, ["demo", rng.choice(["0", "257", "01", "x"])], ["view", "01"]])
     program = rng.choice(["vdpm", "vdpm", "prepare", "simplify", "pack", "paint"])

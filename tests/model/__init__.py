@@ -26,10 +26,24 @@ with `prepare`, `simplify`, `pack` and `paint`.
     stl, ply   what files of these formats give; files, which format a file has
     prepare    the oriented manifold that is made of it, and what is said of the work
 """
-from typing import List
+from pathlib import Path
+from typing import List, Optional
 
 from . import commands, packed, paint, prepare
 from .faults import Answer
+
+
+USAGES = Path(__file__).resolve().parents[2] / "tools/quick_start/usage"
+VERSION = "1.2.0, of the proved sources; the script beside it tells whether it is proved"
+
+
+def told(program: str, words: List[str]) -> Optional[Answer]:
+    """What a program tells of itself, where that is all that is asked for."""
+    if program not in ("prepare", "pack", "paint"):
+        return None
+    if words == ["--help"]:
+        return Answer(0, (USAGES / program).read_bytes(), "")
+    return Answer(0, f"{program} {VERSION}\n".encode(), "") if words == ["--version"] else None
 
 
 def answer(program: str, words: List[str], data: bytes) -> Answer:
@@ -41,7 +55,7 @@ def answer(program: str, words: List[str], data: bytes) -> Answer:
         "pack": packed.answer,
         "paint": paint.answer,
     }
-    return programs[program](words, data)
+    return told(program, words) or programs[program](words, data)
 
 
 __all__ = ["Answer", "answer"]

@@ -1,12 +1,14 @@
 -- What a status says of how the program ended.
-use Rattle.std.proofs.Common.{◌≡◌, ◌⊎◌, inl, inr, ℕ, ◌-◌, ◌^◌, ◌<◌, List, Option, Some, None}
-use Rattle.std.proofs.Common.{Result, Ok, Err, IfSome, refl, subst, arith}
+use Rattle.std.proofs.Common.{◌≡◌, ◌⊎◌, inl, inr, ℕ, List, Option, Some, None}
+use Rattle.std.proofs.Common.{Result, Ok, Err, IfSome, subst, arith}
 use Rattle.std.specs.Prelude.{codes}
 use Rattle.pm_io.specs.Bytes.{Gains}
 use Rattle.pm_io.specs.Devices.{Tells}
 use Rattle.pm_io.specs.declared.device.Sink as sink
 use Rattle.pm_program.specs.declared.fail.RunFail.{RunFail}
 use Rattle.pm_program.specs.declared.fail.RunFail.TheVariants as fails
+use Rattle.pm_program.specs.declared.request.Request.{Request}
+use Rattle.pm_program.specs.declared.request.Request.TheVariants as requests
 use Rattle.pm_program.specs.Fails.{status_of, fail_line}
 use Rattle.pm_program.specs.Input.{HoldsFront, StopsShort}
 use Rattle.pm_program.proofs.InputLaws.{on_front}
@@ -20,8 +22,9 @@ use Rattle.pack.specs.Ending.{front, Replied, CutShort, EndsOn, Ends}
 use Rattle.pack.specs.FaultLine.{fault_line}
 
 -- What was done with bytes was done with the first ones that were left.
-pub ends_of : (asks : Asked) (r : Result (Unit {0}) (RunFail Fault)) (left now old new : Option (List ℕ))
-    (bytes : List ℕ) → HoldsFront MOST left now bytes → EndsOn asks r bytes old new
+pub ends_of : (asks : Asked) (r : Result (Unit {0}) (RunFail Fault))
+    (left now old new : Option (List ℕ)) (bytes : List ℕ)
+    → HoldsFront MOST left now bytes → EndsOn asks r bytes old new
     → Ends asks r left now old new
 unfolding front
 ends_of asks (Ok done) left now old new bytes held ends =
@@ -34,7 +37,8 @@ ends_of asks (Err fails.Write) left now old new bytes held ends =
 ends_of asks (Err fails.OutOfMemory) left now old new bytes held ends = ends
 
 -- The words ask for one thing.
-pub one_asked : (asks : Option Asked) (a b : Asked) → asks ≡ Some a → asks ≡ Some b → a ≡ b
+pub one_asked : (asks : Option (Request Asked)) (a b : Asked) → asks ≡ Some (requests.Work a)
+    → asks ≡ Some (requests.Work b) → a ≡ b
 one_asked asks a b is are = cc
 
 -- How the program ended early, by its status.

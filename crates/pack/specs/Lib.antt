@@ -1,4 +1,5 @@
 pub mod Words
+pub mod Help
 pub mod Making
 pub mod Ending
 pub mod FaultLine

@@ -2,17 +2,20 @@
 ghost use Rattle.std.specs.Prelude.{◌≡◌, false, codes};
 ghost use Rattle.pm_io.specs.Endings.{SaysEnding, NoneFailed};
 ghost use Rattle.pm_program.specs.Endings.{Endings, Outcomes};
+ghost use Rattle.pm_program.specs.Requests.{TellsTexts};
+ghost use Rattle.pack.specs.Help.{help_text};
 ghost use Rattle.pack.specs.declared.words.Asked.{Asked};
 ghost use Rattle.pack.specs.Words.{asked_of, Asks};
 ghost use Rattle.pack.specs.Devices.{Replies, LeadsBack, TellsFault, Breaks};
 ghost use Rattle.pack.specs.Devices.{ReadsFront, Unreached};
 
+use crate::help::help_text;
 use crate::obeying::obey;
 use crate::said::tell;
 use crate::words::{Asked, read_words};
 use pm_io::{Sink, Source};
 use pm_pack::packed_texts_are_sound;
-use pm_program::{Stop, refuse_words, tell_stop};
+use pm_program::{Request, Stop, refuse_words, tell_stop, tell_text, tell_version};
 use std::alloc::Global;
 use std::env::Args;
 use std::io;
@@ -38,13 +41,16 @@ pub fn run<S: Source, K: Sink, E: Sink>(
     ensures outcomes { Outcomes S.Source K.Sink E.Sink (codes "pack") args (asked_of args) result
         input.old input.new out.old out.new err.old err.new }
     ensures said { SaysEnding E.Sink (codes "pack") result err.old err.new }
+    ensures texts { TellsTexts S.Source K.Sink E.Sink (codes "pack") help_text (asked_of args)
+        result input.old input.new out.old out.new err.old err.new }
     // Exactly a packed text of the stream text that was read was put, or with `--unpack` the stream
     // text that the packed text is of; and the input was read to its end.
     ensures packs { Asks args Asked.Pack → result ≡ 0
         → Replies S.Source K.Sink Asked.Pack input.old out.old out.new }
     ensures unpacks { Asks args Asked.Unpack → result ≡ 0
         → Replies S.Source K.Sink Asked.Unpack input.old out.old out.new }
-    ensures read_whole { result ≡ 0 → ReadsFront S.Source input.old input.new }
+    ensures read_whole { (asked : Asked) → Asks args asked → result ≡ 0
+        → ReadsFront S.Source input.old input.new }
     // Where no device failed, a packed text gives back the text that it was made of, unless memory
     // is wanted.
     ensures leads_back { Asks args Asked.Unpack
@@ -64,8 +70,13 @@ pub fn run<S: Source, K: Sink, E: Sink>(
         Ok(args) => args,
         Err(error) => return refuse_words(err, "pack", error.kind()),
     };
-    let Some(asked) = read_words(args) else {
+    let Some(request) = read_words(args) else {
         return tell_stop(err, "pack", Stop::Words);
+    };
+    let asked = match request {
+        Request::Work(asked) => asked,
+        Request::Help => return tell_text(out, err, "pack", help_text()),
+        Request::Version => return tell_version(out, err, "pack"),
     };
     match obey(alloc, asked, input, out) {
         Ok(()) => 0,

@@ -4,9 +4,10 @@ ghost use Rattle.std.specs.String.{string_bytes};
 ghost use Rattle.std.specs.Vec.Iter.{into_iter_items};
 ghost use Rattle.pack.specs.Words.{asked_by};
 
+use pm_program::{Request, text_asked};
 use std::env::Args;
 
-/// What the program is asked for.
+/// What work the program is asked for.
 #[derive(Clone, Copy, Debug, PartialEq, Eq)]
 pub enum Asked {
     /// Pack a stream text.
@@ -16,24 +17,24 @@ pub enum Asked {
 }
 
 // What one word asks for.
-fn asked_with(word: &str) -> Option<Asked>
+fn asked_with(word: &str) -> Option<Request<Asked>>
     ensures { result ≡ asked_by (word.now ∷ []) }
 {
     if word == "--unpack" {
-        Some(Asked::Unpack)
+        Some(Request::Work(Asked::Unpack))
     } else {
-        None
+        text_asked(word)
     }
 }
 
 /// What the words after the program's name ask for; none where they are none of the forms.
-pub fn read_words(args: Args) -> Option<Asked>
+pub fn read_words(args: Args) -> Option<Request<Asked>>
     ensures { result ≡ asked_by (map string_bytes (drop 1 (into_iter_items args))) }
 {
     let mut words = args;
     let _name = words.next();
     let Some(word) = words.next() else {
-        return Some(Asked::Pack);
+        return Some(Request::Work(Asked::Pack));
     };
     if words.next().is_some() {
         return None;

@@ -1,4 +1,5 @@
 pub mod Words
+pub mod Help
 pub mod Coat
 pub mod Texts
 pub mod Lines

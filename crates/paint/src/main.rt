@@ -4,6 +4,7 @@
 
 mod coat;
 mod fault;
+mod help;
 mod judging;
 mod lines;
 mod making;

@@ -1,15 +1,18 @@
 //! The program over any source and sinks.
-ghost use Rattle.std.specs.Prelude.{◌≡◌, Some, false, codes};
+ghost use Rattle.std.specs.Prelude.{◌≡◌, false, codes};
 ghost use Rattle.pm_io.specs.Endings.{SaysEnding, NoneFailed};
 ghost use Rattle.pm_program.specs.Endings.{Endings, Outcomes};
-ghost use Rattle.paint.specs.Words.{asked_of};
+ghost use Rattle.pm_program.specs.Requests.{TellsTexts};
+ghost use Rattle.paint.specs.Help.{help_text};
+ghost use Rattle.paint.specs.Words.{asked_of, Asks};
 ghost use Rattle.paint.specs.Devices.{Replies, Paints, TellsFault, Breaks, ReadsFront, Unreached};
 
+use crate::help::help_text;
 use crate::obeying::obey;
 use crate::said::tell;
 use crate::words::read_words;
 use pm_io::{Sink, Source};
-use pm_program::{Stop, refuse_words, tell_stop};
+use pm_program::{Request, Stop, refuse_words, tell_stop, tell_text, tell_version};
 use std::alloc::Global;
 use std::env::Args;
 use std::io;
@@ -36,12 +39,14 @@ pub fn run<S: Source, K: Sink, E: Sink>(
     ensures outcomes { Outcomes S.Source K.Sink E.Sink (codes "paint") args (asked_of args) result
         input.old input.new out.old out.new err.old err.new }
     ensures said { SaysEnding E.Sink (codes "paint") result err.old err.new }
+    ensures texts { TellsTexts S.Source K.Sink E.Sink (codes "paint") help_text (asked_of args)
+        result input.old input.new out.old out.new err.old err.new }
     // Exactly the lines of the coat that was read were put; and the input was read to its end.
-    ensures lines { result ≡ 0 → Replies S.Source K.Sink input.old out.old out.new }
-    ensures read_whole { result ≡ 0 → ReadsFront S.Source input.old input.new }
+    ensures lines { Asks args → result ≡ 0 → Replies S.Source K.Sink input.old out.old out.new }
+    ensures read_whole { Asks args → result ≡ 0 → ReadsFront S.Source input.old input.new }
     // Where no device failed, the lines of a coat that fits its stream are put, unless memory is
     // wanted.
-    ensures whole { asked_of args ≡ Some tt
+    ensures whole { Asks args
         → NoneFailed S.Source K.Sink input.old input.new out.old out.new
         → Paints S.Source K.Sink result input.old out.old out.new }
     // The input has a fault, which is said: there are no lines to put.
@@ -49,15 +54,20 @@ pub fn run<S: Source, K: Sink, E: Sink>(
     // A read failed before the bytes that decide were all taken.
     ensures unreached { result ≡ 3 → Unreached S.Source input.old input.new }
     // A write failed, and a proper prefix of the lines was put.
-    ensures write { result ≡ 4 → Breaks S.Source K.Sink input.old out.old out.new }
+    ensures write { Asks args → result ≡ 4 → Breaks S.Source K.Sink input.old out.old out.new }
 {
     let args = match args {
         Ok(args) => args,
         Err(error) => return refuse_words(err, "paint", error.kind()),
     };
-    let Some(()) = read_words(args) else {
+    let Some(request) = read_words(args) else {
         return tell_stop(err, "paint", Stop::Words);
     };
+    match request {
+        Request::Work(()) => {}
+        Request::Help => return tell_text(out, err, "paint", help_text()),
+        Request::Version => return tell_version(out, err, "paint"),
+    }
     match obey(alloc, input, out) {
         Ok(()) => 0,
         Err(fail) => tell(err, fail),

@@ -45,3 +45,10 @@ pub record Outcomes {S K E A : Type 0} (s : source.Ghosts S) (k : sink.Ghosts K)
       → Tells e err err_now (program ++ codes ": out of memory\n"))
   pub complete : (a : A) → asked ≡ Some a → NoneFailed s k input input_now out out_now
       → (status ≡ 0) ⊎ ((status ≡ 1) ⊎ (status ≡ 5))
+
+-- What a program of this name says that stops where its input isn't at fault, but for memory.
+pub record SaysStops {E : Type 0} (e : sink.Ghosts E) (program : List ℕ) (status : ℕ)
+    (err err_now : E) : Type 0 where
+  pub said_words : status ≡ 2 → Tells e err err_now (program ++ codes ": words not understood\n")
+  pub said_read : status ≡ 3 → Tells e err err_now (program ++ codes ": read fault\n")
+  pub said_write : status ≡ 4 → Tells e err err_now (program ++ codes ": write fault\n")

@@ -2,3 +2,4 @@ pub mod Stops
 pub mod Fails
 pub mod Input
 pub mod Endings
+pub mod Requests

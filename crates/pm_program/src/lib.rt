@@ -4,8 +4,10 @@
 
 mod fail;
 mod input;
+mod request;
 mod stop;
 
 pub use fail::RunFail;
 pub use input::{InputFail, of_input, read_up_to};
+pub use request::{Request, tell_text, tell_version, text_asked};
 pub use stop::{Stop, refuse_words, say, tell_stop};

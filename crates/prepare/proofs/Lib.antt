@@ -1,3 +1,4 @@
 pub mod EndingLaws
 pub mod FitLaws
 pub mod StayLaws
+pub mod WordLaws

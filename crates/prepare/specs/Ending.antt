@@ -2,15 +2,15 @@
 use Rattle.std.specs.Prelude.{◌≡◌, ℕ, List, ◌++◌, Option, None, Some, IfSome, Ok, codes}
 use Rattle.std.specs.Fmt.{decimal}
 use Rattle.pm_io.specs.Bytes.{Gains, GainsPart}
-use Rattle.pm_io.specs.Causes.{Rose}
 use Rattle.obj_fit.specs.declared.fault.Fault.{Fault}
+use Rattle.obj_fit.specs.declared.fault.InputFail.{InputFail}
 use Rattle.obj_fit.specs.declared.fault.InputFail.TheVariants as input
-use Rattle.prepare.specs.declared.fault.RunFail.{RunFail}
-use Rattle.prepare.specs.declared.fault.RunFail.TheVariants as fails
+use Rattle.pm_program.specs.declared.fail.RunFail.{RunFail}
+use Rattle.pm_program.specs.declared.fail.RunFail.TheVariants as fails
 use Rattle.obj_fit.specs.Outcome.{Done, IsPreparedText}
-use Rattle.obj_fit.specs.Fails.{StopsPreparing, number_of, line_of, byte_of}
+use Rattle.obj_fit.specs.Fails.{HasPreparedFault, PlaceUnreached, number_of, line_of, byte_of}
 use Rattle.obj_fit.specs.Reasons.{reason_of}
-use Rattle.pm_io.specs.Puts.{Said, Stayed}
+use Rattle.pm_io.specs.Puts.{Said}
 
 -- The sink gained the text of what was done, and beside it these notes are to be said.
 pub record Written (size : Option ℕ) (bytes notes : List ℕ) (old new : Option (List ℕ)) : Type 0
@@ -46,24 +46,18 @@ prepare_fault_line f = codes "prepare: fault " ++ decimal (number_of f)
     ++ place_text (codes " line ") (line_of f) ++ place_text (codes " byte ") (byte_of f)
     ++ codes " (" ++ reason_of f ++ codes ")\n"
 
-unfoldable pub prepare_fail_line : RunFail → List ℕ
-prepare_fail_line (fails.Input (input.Faulty f)) = prepare_fault_line f
-prepare_fail_line (fails.Input input.Read) = codes "prepare: read fault\n"
-prepare_fail_line (fails.Input input.OutOfMemory) = codes "prepare: out of memory\n"
-prepare_fail_line fails.Write = codes "prepare: write fault\n"
+-- What the program ends by where nothing is made of the input.
+abbrev pub of_make_fail : InputFail → RunFail Fault
+of_make_fail (input.Faulty f) = fails.Faulty f
+of_make_fail input.Read = fails.Read
+of_make_fail input.OutOfMemory = fails.OutOfMemory
 
-abbrev pub prepare_status_of : RunFail → ℕ
-prepare_status_of (fails.Input (input.Faulty f)) = 1
-prepare_status_of (fails.Input input.Read) = 3
-prepare_status_of (fails.Input input.OutOfMemory) = 5
-prepare_status_of fails.Write = 4
-
--- How the program ends early: only a failed write finds the output changed, and only the device
--- that failed counts it.
-abbrev pub FailsBy : Option ℕ → RunFail → Option (List ℕ) → Option (List ℕ) → ℕ → ℕ
-    → Option (List ℕ) → Option (List ℕ) → ℕ → ℕ → Type 0
-FailsBy size (fails.Input e) left now in_old in_new old new out_old out_new =
-    StopsPreparing size e left now in_old in_new × Stayed old new out_old out_new
-FailsBy size fails.Write left now in_old in_new old new out_old out_new =
+-- How the program ends early: only a failed write finds the output changed.
+abbrev pub FailsBy : Option ℕ → RunFail Fault → Option (List ℕ) → Option (List ℕ)
+    → Option (List ℕ) → Option (List ℕ) → Type 0
+FailsBy size (fails.Faulty f) left now old new =
+    IfSome left (λ bytes. HasPreparedFault size bytes f) × (new ≡ old)
+FailsBy size fails.Read left now old new = PlaceUnreached size left now × (new ≡ old)
+FailsBy size fails.Write left now old new =
     IfSome left (λ bytes. IsPreparedInPart size bytes old new)
-    × ((in_new ≡ in_old) × Rose out_old out_new)
+FailsBy size fails.OutOfMemory left now old new = new ≡ old

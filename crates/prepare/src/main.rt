@@ -2,7 +2,7 @@
 //! standard streams.
 #![tactic(auto)]
 
-mod fault;
+mod help;
 mod run;
 mod say;
 mod words;

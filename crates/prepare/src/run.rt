@@ -1,26 +1,37 @@
 //! The program over any source and sinks.
-ghost use Rattle.std.specs.Prelude.{◌≡◌, ◌≢◌, ◌⊎◌, ◌≤◌, false, None, IfOk, IfErr, IfSome, OnOk};
-ghost use Rattle.std.specs.Prelude.{codes};
+ghost use Rattle.std.specs.Prelude.{◌≡◌, false, IfOk, IfErr, IfSome, OnOk, Err, codes};
 ghost use Rattle.pm_io.specs.Bytes.{AtEnd};
 ghost use Rattle.pm_io.specs.Causes.{Rose};
-ghost use Rattle.pm_io.specs.Devices.{Unread, Unput, Tells};
-ghost use Rattle.pm_io.specs.Endings.{Untouched, CountsFaults, NoneFailed};
+ghost use Rattle.pm_program.specs.Endings.{Endings, Outcomes, SaysStops};
+ghost use Rattle.pm_program.specs.Fails.{PutCounts, ReadCounts};
+ghost use Rattle.pm_program.specs.Requests.{TellsTexts};
 ghost use Rattle.obj_prepare.specs.Placing.{IsSize};
+ghost use Rattle.prepare.specs.Help.{help_text};
 ghost use Rattle.prepare.specs.declared.words.Asked.{Asked};
-ghost use Rattle.std.specs.IoError.{error_kind};
 ghost use Rattle.prepare.specs.Words.{asked_of, Asks};
 ghost use Rattle.prepare.specs.Devices.{Finishes, PutsFitText, LeadsBack, PutsAsItIs, TellsFault};
 ghost use Rattle.prepare.specs.Devices.{Unreached, Breaks};
-ghost use Rattle.prepare.specs.Ending.{Written, FailsBy};
+ghost use Rattle.prepare.specs.Ending.{Written, FailsBy, of_make_fail};
 
-use crate::fault::RunFail;
-use crate::say::{say, tell};
+use crate::help::help_text;
+use crate::say::tell;
 use crate::words::read_words;
-use obj_fit::{make, write_made};
+use obj_fit::{Fault, InputFail, make, write_made};
 use pm_io::{Sink, Source};
+use pm_program::{Request, RunFail, Stop, refuse_words, say, tell_stop, tell_text, tell_version};
 use std::alloc::Global;
 use std::env::Args;
-use std::io::{self, ErrorKind};
+use std::io;
+
+fn of_make(fail: InputFail) -> RunFail<Fault>
+    ensures { result ≡ of_make_fail fail }
+{
+    match fail {
+        InputFail::Faulty(fault) => RunFail::Faulty(fault),
+        InputFail::Read => RunFail::Read,
+        InputFail::OutOfMemory => RunFail::OutOfMemory,
+    }
+}
 
 // Makes a mesh of the input and writes it, and answers what is to be said of it. All memory is
 // taken before the first byte of output.
@@ -29,7 +40,7 @@ fn obey<S: Source, K: Sink>(
     size: Option<u32>,
     input: &mut S,
     out: &mut K,
-) -> Result<Vec<u8>, RunFail>
+) -> Result<Vec<u8>, RunFail<Fault>>
     requires size { IsSize size }
     requires not_ended { S.ended input.old ≡ false }
     ensures written { IfOk result
@@ -39,35 +50,20 @@ fn obey<S: Source, K: Sink>(
         × (K.faults out.new ≡ K.faults out.old)) }
     ensures end { OnOk result (AtEnd (S.left input.new)) }
     ensures err { IfErr result
-        (λ e. FailsBy size e (S.left input.old) (S.left input.new) (S.faults input.old)
-        (S.faults input.new) (K.got out.old) (K.got out.new) (K.faults out.old)
-        (K.faults out.new)) }
+        (λ e. FailsBy size e (S.left input.old) (S.left input.new) (K.got out.old)
+        (K.got out.new)) }
+    ensures reads { IfErr result
+        (λ e. ReadCounts (Err e) (S.faults input.old) (S.faults input.new)) }
+    ensures puts { IfErr result (λ e. PutCounts (Err e) (K.faults out.old) (K.faults out.new)) }
 {
     let made = match make(alloc, size, input) {
         Ok(made) => made,
-        Err(fail) => return Err(RunFail::Input(fail)),
+        Err(fail) => return Err(of_make(fail)),
     };
     match write_made(&made, out) {
         Ok(()) => Ok(made.notes),
         Err(_) => Err(RunFail::Write),
     }
-}
-
-// The status where the words can't be gathered: for want of memory, of which nothing is said, or
-// since one isn't UTF-8 and so no number.
-fn refuse_words<E: Sink>(err: &mut E, kind: ErrorKind) -> u8
-    ensures memory { kind ≡ ErrorKind.OutOfMemory → result ≡ 5 }
-    ensures other { kind ≢ ErrorKind.OutOfMemory → result ≡ 2 }
-    ensures either { (result ≡ 2) ⊎ (result ≡ 5) }
-    ensures unsaid { result ≡ 5 → Unput E.Sink err.old err.new }
-    ensures said { result ≡ 2
-        → Tells E.Sink err.old err.new (codes "prepare: words not understood\n") }
-{
-    if kind == ErrorKind::OutOfMemory {
-        return 5;
-    }
-    say(err, b"prepare: words not understood\n");
-    2
 }
 
 /// Makes a mesh of any OBJ, STL or PLY file that is an oriented manifold of points on the grid, and
@@ -89,22 +85,18 @@ pub fn run<S: Source, K: Sink, E: Sink>(
 ) -> u8
     // The input hasn't ended; once it has, it isn't asked again.
     requires { S.ended input.old ≡ false }
-    ensures statuses { result ≤ 5 }
-    // Other words are refused, and only they; then nothing is read or put.
-    ensures refused { IfOk args (λ _. asked_of args ≡ None → result ≡ 2) }
-    ensures known { result ≡ 2 → asked_of args ≡ None }
-    ensures untouched { result ≡ 2 → Untouched S.Source K.Sink input.old input.new out.old out.new }
-    // Words that can't be gathered are refused too, but for want of memory, of which nothing is
-    // said; and nothing is read.
-    ensures not_text { IfErr args (λ e. error_kind e ≢ ErrorKind.OutOfMemory → result ≡ 2) }
-    ensures no_memory { IfErr args (λ e. error_kind e ≡ ErrorKind.OutOfMemory → result ≡ 5) }
-    ensures unread { IfErr args (λ _. Unread S.Source input.old input.new) }
-    ensures unsaid { IfErr args (λ _. result ≡ 5 → Unput E.Sink err.old err.new) }
+    ensures endings { Endings S.Source K.Sink E.Sink args result input.old input.new out.old out.new
+        err.old err.new }
+    ensures outcomes { Outcomes S.Source K.Sink E.Sink (codes "prepare") args (asked_of args) result
+        input.old input.new out.old out.new err.old err.new }
+    ensures texts { TellsTexts S.Source K.Sink E.Sink (codes "prepare") help_text (asked_of args)
+        result input.old input.new out.old out.new err.old err.new }
     // A mesh was made of the text, exactly its text was put, and what was done is said.
     ensures whole { (asked : Asked) → Asks args asked → result ≡ 0
         → Finishes S.Source K.Sink E.Sink asked.size input.old out.old out.new err.old err.new }
     // What was put is read as an oriented manifold, and prepared again it comes back.
-    ensures fit_text { result ≡ 0 → PutsFitText S.Source K.Sink input.old out.old out.new }
+    ensures fit_text { (asked : Asked) → Asks args asked → result ≡ 0
+        → PutsFitText S.Source K.Sink input.old out.old out.new }
     // Its first line leads from places to within half a step of the points that were read.
     ensures leads_back { (asked : Asked) → Asks args asked → result ≡ 0
         → LeadsBack S.Source K.Sink asked.size input.old out.old out.new }
@@ -113,43 +105,31 @@ pub fn run<S: Source, K: Sink, E: Sink>(
     // without area are said, and how places lead back.
     ensures stays { (asked : Asked) → Asks args asked → result ≡ 0
         → PutsAsItIs S.Source K.Sink E.Sink asked.size input.old out.old out.new err.old err.new }
-    ensures read_whole { result ≡ 0 → AtEnd (S.left input.new) }
+    ensures read_whole { (asked : Asked) → Asks args asked → result ≡ 0
+        → AtEnd (S.left input.new) }
     // The text has a fault, which is said, and nothing was put.
     ensures faulty { (asked : Asked) → Asks args asked → result ≡ 1
         → TellsFault S.Source E.Sink asked.size input.old err.old err.new }
     // A read failed before the bytes that decide the outcome were all taken.
     ensures unreached { (asked : Asked) → Asks args asked → result ≡ 3
         → Unreached S.Source asked.size input.old input.new }
-    // A write failed, and a proper prefix of the text was put; in all other cases but status 0
-    // nothing was.
+    // A write failed, and a proper prefix of the text was put.
     ensures write { (asked : Asked) → Asks args asked → result ≡ 4
         → Rose (K.faults out.old) (K.faults out.new)
         × Breaks S.Source K.Sink asked.size input.old out.old out.new }
-    ensures nothing_put { (result ≡ 1) ⊎ ((result ≡ 3) ⊎ (result ≡ 5))
-        → K.got out.new ≡ K.got out.old }
-    // The count of a device that failed rose, and no other did, so status 5 and a count that rose
-    // exclude each other.
-    ensures counts { CountsFaults S.Source K.Sink result input.old input.new out.old out.new }
-    ensures said_words { result ≡ 2
-        → Tells E.Sink err.old err.new (codes "prepare: words not understood\n") }
-    ensures said_read { result ≡ 3 → Tells E.Sink err.old err.new (codes "prepare: read fault\n") }
-    ensures said_write { result ≡ 4
-        → Tells E.Sink err.old err.new (codes "prepare: write fault\n") }
-    ensures said_memory { IfOk args (λ _. result ≡ 5
-        → Tells E.Sink err.old err.new (codes "prepare: out of memory\n")) }
-    // Where no device failed and the words are understood, the work is done, or the input has a
-    // fault, or memory is wanted.
-    ensures complete { (asked : Asked) → Asks args asked
-        → NoneFailed S.Source K.Sink input.old input.new out.old out.new
-        → (result ≡ 0) ⊎ ((result ≡ 1) ⊎ (result ≡ 5)) }
+    ensures said { SaysStops E.Sink (codes "prepare") result err.old err.new }
 {
     let args = match args {
         Ok(args) => args,
-        Err(error) => return refuse_words(err, error.kind()),
+        Err(error) => return refuse_words(err, "prepare", error.kind()),
     };
-    let Some(asked) = read_words(args) else {
-        say(err, b"prepare: words not understood\n");
-        return 2;
+    let Some(request) = read_words(args) else {
+        return tell_stop(err, "prepare", Stop::Words);
+    };
+    let asked = match request {
+        Request::Work(asked) => asked,
+        Request::Help => return tell_text(out, err, "prepare", help_text()),
+        Request::Version => return tell_version(out, err, "prepare"),
     };
     match obey(alloc, asked.size, input, out) {
         Ok(notes) => {

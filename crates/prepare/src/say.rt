@@ -1,19 +1,12 @@
 //! What is said on the error sink.
-ghost use Rattle.std.specs.Prelude.{◌≡◌, ◌+◌, ◌≤◌, ◌++◌, length};
-ghost use Rattle.prepare.specs.Ending.{place_text, prepare_fault_line, prepare_fail_line};
-ghost use Rattle.prepare.specs.Ending.{prepare_status_of};
+ghost use Rattle.std.specs.Prelude.{◌≡◌, ◌+◌, ◌≤◌, ◌++◌, length, codes};
 ghost use Rattle.pm_io.specs.Devices.{Tells};
+ghost use Rattle.pm_program.specs.Fails.{status_of, fail_line};
+ghost use Rattle.prepare.specs.Ending.{place_text, prepare_fault_line};
 
-use crate::fault::RunFail;
-use obj_fit::{Fault, InputFail};
-use pm_io::{Line, Sink, put_all};
-
-/// Puts text on the error sink. That it fails changes nothing.
-pub fn say<E: Sink>(err: &mut E, text: &[u8])
-    ensures { Tells E.Sink err.old err.new text.now }
-{
-    let _ = put_all(err, text);
-}
+use obj_fit::Fault;
+use pm_io::{Line, Sink};
+use pm_program::{RunFail, Stop, say, tell_stop};
 
 // Adds the line or the byte that has a fault, where one has.
 fn add_place(line: &mut Line, what: &[u8], place: Option<u32>)
@@ -43,31 +36,29 @@ fn put_fault(line: &mut Line, fault: Fault)
     line.add(b")\n");
 }
 
-#[tactic(auto, unfolding(crate::specs::Ending::prepare_fail_line))]
-fn put_fail(line: &mut Line, fail: RunFail)
-    ensures { line.new ≡ prepare_fail_line fail }
+// Says which fault the input has.
+fn say_fault<E: Sink>(err: &mut E, fault: Fault)
+    ensures { Tells E.Sink err.old err.new (prepare_fault_line fault) }
 {
-    line.clear();
-    match fail {
-        RunFail::Input(InputFail::Faulty(fault)) => put_fault(line, fault),
-        RunFail::Input(InputFail::Read) => line.add(b"prepare: read fault\n"),
-        RunFail::Input(InputFail::OutOfMemory) => line.add(b"prepare: out of memory\n"),
-        RunFail::Write => line.add(b"prepare: write fault\n"),
-    }
+    let mut line = Line::new();
+    put_fault(&mut line, fault);
+    say(err, line.as_slice());
 }
 
 /// Says why the program ended early, and answers its status.
-pub fn tell<E: Sink>(err: &mut E, fail: RunFail) -> u8
-    ensures status { result ≡ prepare_status_of fail }
-    ensures said { Tells E.Sink err.old err.new (prepare_fail_line fail) }
+#[tactic(auto, unfolding(pm_program::specs::Fails::fail_line))]
+pub fn tell<E: Sink>(err: &mut E, fail: RunFail<Fault>) -> u8
+    ensures status { result ≡ status_of fail }
+    ensures said { Tells E.Sink err.old err.new
+        (fail_line (codes "prepare") prepare_fault_line fail) }
 {
-    let mut line = Line::new();
-    put_fail(&mut line, fail);
-    say(err, line.as_slice());
     match fail {
-        RunFail::Input(InputFail::Faulty(_)) => 1,
-        RunFail::Input(InputFail::Read) => 3,
-        RunFail::Input(InputFail::OutOfMemory) => 5,
-        RunFail::Write => 4,
+        RunFail::Faulty(fault) => {
+            say_fault(err, fault);
+            1
+        }
+        RunFail::Read => tell_stop(err, "prepare", Stop::Read),
+        RunFail::Write => tell_stop(err, "prepare", Stop::Write),
+        RunFail::OutOfMemory => tell_stop(err, "prepare", Stop::OutOfMemory),
     }
 }

@@ -1,4 +1,4 @@
-use Rattle.std.proofs.Common.{Err, IfSome, refl, sym, ap, ◌∙◌, subst}
+use Rattle.std.proofs.Common.{Err, Some, IfSome, refl, sym, ap, ◌∙◌, subst}
 use Rattle.std.specs.Prelude.{codes}
 use Rattle.pack.specs.declared.words.Asked.{Asked}
 use Rattle.pack.specs.declared.words.Asked.TheVariants as asked
@@ -16,7 +16,8 @@ returns-in-Ok-obey-clause-packs g c = λ asks is.
     subst (λ (a : Asked). IfSome (g.S.Source.left c.args.input.now)
     (λ bytes. Replied a (front bytes) (g.K.Sink.got c.args.out.now)
     (g.K.Sink.got c.obey.new.out)))
-    (one_asked _ _ asked.Pack (sym c.read_words.ensures ∙ c.in-Some.is)
+    (one_asked _ _ asked.Pack (sym c.read_words.ensures
+    ∙ (c.in-Some.is ∙ ap (λ r. Some r) c.in-Work.is))
     (sym (ap asked_of c.in-Ok.is) ∙ asks)) c.in-Ok-obey.ensures.ends.0
 
 pub returns-in-Ok-obey-clause-unpacks : goal.returns-in-Ok-obey-clause-unpacks
@@ -24,7 +25,8 @@ returns-in-Ok-obey-clause-unpacks g c = λ asks is.
     subst (λ (a : Asked). IfSome (g.S.Source.left c.args.input.now)
     (λ bytes. Replied a (front bytes) (g.K.Sink.got c.args.out.now)
     (g.K.Sink.got c.obey.new.out)))
-    (one_asked _ _ asked.Unpack (sym c.read_words.ensures ∙ c.in-Some.is)
+    (one_asked _ _ asked.Unpack (sym c.read_words.ensures
+    ∙ (c.in-Some.is ∙ ap (λ r. Some r) c.in-Work.is))
     (sym (ap asked_of c.in-Ok.is) ∙ asks)) c.in-Ok-obey.ensures.ends.0
 
 pub returns-in-Ok-obey-clause-leads_back : goal.returns-in-Ok-obey-clause-leads_back
@@ -33,11 +35,12 @@ returns-in-Ok-obey-clause-leads_back g c = λ asks none.
     (subst (λ (a : Asked). IfSome (g.S.Source.left c.args.input.now)
     (λ bytes. Replied a (front bytes) (g.K.Sink.got c.args.out.now)
     (g.K.Sink.got c.obey.new.out)))
-    (one_asked _ _ asked.Unpack (sym c.read_words.ensures ∙ c.in-Some.is)
+    (one_asked _ _ asked.Unpack (sym c.read_words.ensures
+    ∙ (c.in-Some.is ∙ ap (λ r. Some r) c.in-Work.is))
     (sym (ap asked_of c.in-Ok.is) ∙ asks)) c.in-Ok-obey.ensures.ends.0)
 
 pub returns-in-Ok-obey-clause-read_whole : goal.returns-in-Ok-obey-clause-read_whole
-returns-in-Ok-obey-clause-read_whole g c = λ is. c.in-Ok-obey.ensures.ends.1
+returns-in-Ok-obey-clause-read_whole g c = λ other asks is. c.in-Ok-obey.ensures.ends.1
 
 pub returns-in-Err-obey-clause-leads_back : goal.returns-in-Err-obey-clause-leads_back
 returns-in-Err-obey-clause-leads_back g c = λ asks none.
@@ -45,21 +48,23 @@ returns-in-Err-obey-clause-leads_back g c = λ asks none.
     (subst (λ (a : Asked). Ends a (Err c.in-Err-obey.fail) (g.S.Source.left c.args.input.now)
     (g.S.Source.left c.obey.new.input) (g.K.Sink.got c.args.out.now)
     (g.K.Sink.got c.obey.new.out))
-    (one_asked _ _ asked.Unpack (sym c.read_words.ensures ∙ c.in-Some.is)
+    (one_asked _ _ asked.Unpack (sym c.read_words.ensures
+    ∙ (c.in-Some.is ∙ ap (λ r. Some r) c.in-Work.is))
     (sym (ap asked_of c.in-Ok.is) ∙ asks)) c.in-Err-obey.ensures.ends)
     (completes g.S.Source g.K.Sink _ _ _ _ c.in-Err-obey.fail _ c.tell.ensures.status
     c.in-Err-obey.ensures.reads c.in-Err-obey.ensures.puts none)
 
 pub returns-in-Err-obey-clause-faulty : goal.returns-in-Err-obey-clause-faulty
 returns-in-Err-obey-clause-faulty g c = λ other asks is.
-    told_fault g.E.Sink c.in-Some.asked other _ _ _ _ c.in-Err-obey.fail _ _
-    (one_asked _ _ other (sym c.read_words.ensures ∙ c.in-Some.is)
+    told_fault g.E.Sink c.in-Work.asked other _ _ _ _ c.in-Err-obey.fail _ _
+    (one_asked _ _ other (sym c.read_words.ensures
+    ∙ (c.in-Some.is ∙ ap (λ r. Some r) c.in-Work.is))
     (sym (ap asked_of c.in-Ok.is) ∙ asks)) (sym c.tell.ensures.status ∙ is)
     c.in-Err-obey.ensures.ends c.tell.ensures.said
 
 pub returns-in-Err-obey-clause-unreached : goal.returns-in-Err-obey-clause-unreached
 returns-in-Err-obey-clause-unreached g c = λ is.
-    read_of c.in-Some.asked _ _ _ _ c.in-Err-obey.fail (sym c.tell.ensures.status ∙ is)
+    read_of c.in-Work.asked _ _ _ _ c.in-Err-obey.fail (sym c.tell.ensures.status ∙ is)
     c.in-Err-obey.ensures.ends
 
 pub returns-in-Err-obey-clause-write : goal.returns-in-Err-obey-clause-write
@@ -67,9 +72,10 @@ returns-in-Err-obey-clause-write g c = λ other asks is.
     subst (λ (a : Asked). IfSome (g.S.Source.left c.args.input.now)
     (λ bytes. CutShort a (front bytes) (g.K.Sink.got c.args.out.now)
     (g.K.Sink.got c.obey.new.out)))
-    (one_asked _ _ other (sym c.read_words.ensures ∙ c.in-Some.is)
+    (one_asked _ _ other (sym c.read_words.ensures
+    ∙ (c.in-Some.is ∙ ap (λ r. Some r) c.in-Work.is))
     (sym (ap asked_of c.in-Ok.is) ∙ asks))
-    (cut_of c.in-Some.asked _ _ _ _ c.in-Err-obey.fail (sym c.tell.ensures.status ∙ is)
+    (cut_of c.in-Work.asked _ _ _ _ c.in-Err-obey.fail (sym c.tell.ensures.status ∙ is)
     c.in-Err-obey.ensures.ends)
 
 pub returns-in-Err-obey-clause-endings : goal.returns-in-Err-obey-clause-endings
@@ -81,11 +87,11 @@ returns-in-Err-obey-clause-endings g c =
 pub returns-in-Err-obey-clause-outcomes : goal.returns-in-Err-obey-clause-outcomes
 returns-in-Err-obey-clause-outcomes g c =
     outcomes_early g.S.Source g.K.Sink g.E.Sink (codes "pack") fault_line c.args.args _ _ _ _ _ _
-    c.in-Ok.args c.in-Ok.is _ c.in-Some.asked
+    c.in-Ok.args c.in-Ok.is _ c.in-Some.request
     (ap asked_of c.in-Ok.is ∙ (sym c.read_words.ensures ∙ c.in-Some.is)) c.in-Err-obey.fail _
     c.tell.ensures.status c.in-Err-obey.ensures.reads c.in-Err-obey.ensures.puts
     c.tell.ensures.said
-    (λ is. nothing_of c.in-Some.asked _ _ _ _ c.in-Err-obey.fail _ c.tell.ensures.status is
+    (λ is. nothing_of c.in-Work.asked _ _ _ _ c.in-Err-obey.fail _ c.tell.ensures.status is
     c.in-Err-obey.ensures.ends)
 
 pub returns-in-Err-obey-clause-said : goal.returns-in-Err-obey-clause-said

@@ -9,14 +9,14 @@ use Rattle.paint.proofs.EndingLaws.{paints_fails}
 use Rattle.paint.proofs.run.run.Goals as goal
 
 pub returns-in-Ok-obey-clause-lines : goal.returns-in-Ok-obey-clause-lines
-returns-in-Ok-obey-clause-lines g c = λ is. c.in-Ok-obey.ensures.ends.0
+returns-in-Ok-obey-clause-lines g c = λ asks is. c.in-Ok-obey.ensures.ends.0
 
 pub returns-in-Ok-obey-clause-whole : goal.returns-in-Ok-obey-clause-whole
 returns-in-Ok-obey-clause-whole g c = λ asks none.
     paints_done 0 _ _ _ refl c.in-Ok-obey.ensures.ends.0
 
 pub returns-in-Ok-obey-clause-read_whole : goal.returns-in-Ok-obey-clause-read_whole
-returns-in-Ok-obey-clause-read_whole g c = λ is. c.in-Ok-obey.ensures.ends.1
+returns-in-Ok-obey-clause-read_whole g c = λ asks is. c.in-Ok-obey.ensures.ends.1
 
 pub returns-in-Err-obey-clause-whole : goal.returns-in-Err-obey-clause-whole
 returns-in-Err-obey-clause-whole g c = λ asks none.
@@ -35,7 +35,7 @@ returns-in-Err-obey-clause-unreached g c = λ is.
     c.in-Err-obey.ensures.ends
 
 pub returns-in-Err-obey-clause-write : goal.returns-in-Err-obey-clause-write
-returns-in-Err-obey-clause-write g c = λ is.
+returns-in-Err-obey-clause-write g c = λ asks is.
     cut_of _ _ _ _ c.in-Err-obey.fail (sym c.tell.ensures.status ∙ is)
     c.in-Err-obey.ensures.ends
 
@@ -48,7 +48,7 @@ returns-in-Err-obey-clause-endings g c =
 pub returns-in-Err-obey-clause-outcomes : goal.returns-in-Err-obey-clause-outcomes
 returns-in-Err-obey-clause-outcomes g c =
     outcomes_early g.S.Source g.K.Sink g.E.Sink (codes "paint") fault_line c.args.args _ _ _ _ _ _
-    c.in-Ok.args c.in-Ok.is _ tt
+    c.in-Ok.args c.in-Ok.is _ c.in-Some.request
     (ap asked_of c.in-Ok.is ∙ (sym c.read_words.ensures ∙ c.in-Some.is)) c.in-Err-obey.fail _
     c.tell.ensures.status c.in-Err-obey.ensures.reads c.in-Err-obey.ensures.puts
     c.tell.ensures.said
