@@ -1,5 +1,5 @@
 -- What a status says of how the program ended.
-use Rattle.std.proofs.Common.{◌≡◌, ◌⊎◌, inl, inr, ℕ, ◌-◌, ◌^◌, ◌<◌, List, Option, Some, None}
+use Rattle.std.proofs.Common.{◌≡◌, ◌⊎◌, inl, inr, ℕ, List, Option, Some, None}
 use Rattle.std.proofs.Common.{Result, Ok, Err, IfSome, subst, arith}
 use Rattle.std.specs.Prelude.{codes}
 use Rattle.pm_io.specs.Bytes.{Gains}
