@@ -67,8 +67,10 @@ class Shares:
     def choice(
         self, coder: Writer, set_: int, contexts: List[int], place: int, wanted: bool
     ) -> bool:
-        """A choice with these contexts: the kind, and the detail if there is one."""
-        at = [slot_of(set_, context, place) for context in contexts]
+        """A choice with these contexts: the kind, and the detail if there is one. The bits below
+        the top one of a number have only the kind."""
+        counted = contexts[:1] if set_ % 3 == 2 else contexts
+        at = [slot_of(set_, context, place) for context in counted]
         shares = [max(self.slots[i] // 65536, 1) for i in at]
         weights = self.weights[set_]
         share = shares[0] if len(at) == 1 else mixed(weights, shares)

@@ -23,6 +23,10 @@ detail_in [] = 0
 detail_in (kind ∷ []) = 0
 detail_in (kind ∷ detail ∷ more) = detail
 
+-- The detail that counts: none for the bits of a number below its top one.
+abbrev pub counted_detail : ℕ → List ℕ → ℕ
+counted_detail set contexts = if set % 3 == 2 then 0 else detail_in contexts
+
 -- A place by its six upper bits and how many follow.
 unfoldable pub rough : ℕ → ℕ
 rough place =
@@ -57,7 +61,7 @@ unfoldable pub kind_slot : Question → ℕ
 kind_slot q = slot_of q.set (kind_in q.contexts) q.place
 
 unfoldable pub detail_slot : Question → ℕ
-detail_slot q = slot_of q.set (detail_in q.contexts) q.place
+detail_slot q = slot_of q.set (counted_detail q.set q.contexts) q.place
 
 -- The share of a slot, and the weights of a set.
 abbrev pub share_at : Table → ℕ → ℕ
@@ -69,7 +73,7 @@ weights_at t set = get_or t.weights set (weights 16384 16384)
 -- The share that a table gives: by the kind where there is no detail, else by both.
 unfoldable pub share_in : Table → Question → ℕ
 share_in t q =
-    if detail_in q.contexts == 0 then share_at t (kind_slot q)
+    if counted_detail q.set q.contexts == 0 then share_at t (kind_slot q)
     else mixed_share (weights_at t q.set) (share_at t (kind_slot q))
     (share_at t (detail_slot q))
 
@@ -80,7 +84,7 @@ learned_at slots i bit = slice_set slots i (slot_learned (get_or slots i 0) bit)
 -- The table that has learnt a bit.
 unfoldable pub learned_in : Table → Question → Bool → Table
 learned_in t q bit =
-    if detail_in q.contexts == 0
+    if counted_detail q.set q.contexts == 0
     then record { slots = learned_at t.slots (kind_slot q) bit; weights = t.weights }
     else record {
       slots = learned_at (learned_at t.slots (kind_slot q) bit) (detail_slot q) bit;

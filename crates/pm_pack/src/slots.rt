@@ -4,7 +4,8 @@ ghost use Rattle.std.specs.Prelude.{get_or, slice_set};
 ghost use Rattle.pm_coder.specs.Questions.{question};
 ghost use Rattle.pm_coder.specs.Slots.{slot_share};
 ghost use Rattle.pm_pack.specs.Mixing.{weights};
-ghost use Rattle.pm_pack.specs.Hashes.{mixed, kind_in, detail_in, slot_of, fresh_slots};
+ghost use Rattle.pm_pack.specs.Hashes.{mixed, kind_in, detail_in, counted_detail};
+ghost use Rattle.pm_pack.specs.Hashes.{slot_of, fresh_slots};
 ghost use Rattle.pm_pack.specs.Hashes.{rough, hashed_place, learned_at};
 
 use crate::OutOfMemory;
@@ -65,7 +66,7 @@ impl Predictor for Slots {
         crate::specs::Hashes::detail_slot))]
     fn predict(&mut self, set: u32, contexts: &[u32], place: u32) -> u16 {
         let kind = share_at(&self.slots, slot_of(set, kind_in(contexts), place));
-        let detail = detail_in(contexts);
+        let detail = counted_detail(set, contexts);
         if detail == 0 {
             return kind;
         }
@@ -77,7 +78,7 @@ impl Predictor for Slots {
         crate::specs::Hashes::kind_slot, crate::specs::Hashes::detail_slot))]
     fn learn(&mut self, set: u32, contexts: &[u32], place: u32, bit: bool) {
         let by_kind = slot_of(set, kind_in(contexts), place);
-        let detail = detail_in(contexts);
+        let detail = counted_detail(set, contexts);
         if detail != 0 {
             let by_detail = slot_of(set, detail, place);
             let (kind, detail) = (
@@ -179,6 +180,17 @@ fn detail_in(contexts: &[u32]) -> u32
         [] => 0,
         [_] => 0,
         [_, detail, ..] => *detail,
+    }
+}
+
+// The detail that counts: none for the bits of a number below its top one.
+fn counted_detail(set: u32, contexts: &[u32]) -> u32
+    ensures { result ≡ counted_detail set contexts.now }
+{
+    if set % 3 == 2 {
+        0
+    } else {
+        detail_in(contexts)
     }
 }
 
