@@ -89,7 +89,7 @@ learned_in t q bit =
     else record {
       slots = learned_at (learned_at t.slots (kind_slot q) bit) (detail_slot q) bit;
       weights =
-        slice_set t.weights q.set
-        (weights_learned (weights_at t q.set) (share_at t (kind_slot q))
-        (share_at t (detail_slot q)) (share_in t q) bit);
+          slice_set t.weights q.set
+          (weights_learned (weights_at t q.set) (share_at t (kind_slot q))
+          (share_at t (detail_slot q)) (share_in t q) bit);
     }

@@ -86,8 +86,7 @@ fn power(n: u32) -> u64
     u64::from(1024 + n % 1024) * u64::from(two_to(n / 1024))
 }
 
-#[tactic(auto, using(crate::proofs::MixingLaws::two_few,
-    pm_coder::proofs::NumberLaws::power_shifted))]
+#[tactic(auto, using(crate::proofs::MixingLaws::two_few, pm_coder::proofs::NumberLaws::power_shifted))]
 fn two_to(n: u32) -> u32
     requires { n ≤ 15 }
     ensures value { result ≡ 2 ^ n }

@@ -62,8 +62,7 @@ impl Predictor for Slots {
 
     ghost learned = { learned_in };
 
-    #[tactic(auto, unfolding(crate::specs::Hashes::share_in, crate::specs::Hashes::kind_slot,
-        crate::specs::Hashes::detail_slot))]
+    #[tactic(auto, unfolding(crate::specs::Hashes::share_in, crate::specs::Hashes::kind_slot, crate::specs::Hashes::detail_slot))]
     fn predict(&mut self, set: u32, contexts: &[u32], place: u32) -> u16 {
         let kind = share_at(&self.slots, slot_of(set, kind_in(contexts), place));
         let detail = counted_detail(set, contexts);
@@ -74,8 +73,7 @@ impl Predictor for Slots {
         weights_at(&self.weights, set as usize).share(kind, detail)
     }
 
-    #[tactic(auto, unfolding(crate::specs::Hashes::learned_in, crate::specs::Hashes::share_in,
-        crate::specs::Hashes::kind_slot, crate::specs::Hashes::detail_slot))]
+    #[tactic(auto, unfolding(crate::specs::Hashes::learned_in, crate::specs::Hashes::share_in, crate::specs::Hashes::kind_slot, crate::specs::Hashes::detail_slot))]
     fn learn(&mut self, set: u32, contexts: &[u32], place: u32, bit: bool) {
         let by_kind = slot_of(set, kind_in(contexts), place);
         let detail = counted_detail(set, contexts);
@@ -187,11 +185,7 @@ fn detail_in(contexts: &[u32]) -> u32
 fn counted_detail(set: u32, contexts: &[u32]) -> u32
     ensures { result ≡ counted_detail set contexts.now }
 {
-    if set % 3 == 2 {
-        0
-    } else {
-        detail_in(contexts)
-    }
+    if set % 3 == 2 { 0 } else { detail_in(contexts) }
 }
 
 // A hash with one more number in it.
