@@ -62,7 +62,7 @@ enum {
     VDPM_NO_RECORD = 31  /* the line names a record that isn't there; nothing was done */
 };
 
-/* What is told in place of a record, a vertex, an item or a slot where there is none. */
+/* What is told in place of a record, a vertex or a slot where there is none. */
 #define VDPM_NONE UINT32_C(0xFFFFFFFF)
 
 /* A viewer. Its fields are the library's own. */
