@@ -89,24 +89,24 @@ test("nodes know their records, and leaves the nodes that show them", () => with
   assert.throws(() => session.ancestor(leaves), RangeError);
 }));
 
-test("numbers by vertex are told by node, and what nodes and faces were", () => within((session) => {
-  const { nodes, leaves } = session.counts(), { byNode, byFace } = session.inputs();
+test("numbers by vertex are told by node, and which nodes and faces were", () => within((it) => {
+  const { nodes, leaves } = it.counts(), { byNode, byFace } = it.inputs();
   const vertices = [...byNode].filter((vertex) => vertex < leaves);
   const all = (/** @type {number} */ count) => [...Array(count).keys()];
   assert.deepEqual(vertices.sort((a, b) => a - b), all(leaves));
   assert.deepEqual([...byFace].sort((a, b) => a - b), all(byFace.length));
   const numbers = Int32Array.from({ length: 2 * leaves }, (_, i) => 65536 * (i % 5) - 9);
-  const fits = session.fits(numbers, 2);
+  const fits = it.fits(numbers, 2);
   assert.equal(fits.length, 2 * nodes);
   byNode.forEach((vertex, node) => {
     if (vertex >= leaves) return;
     const own = [...numbers.slice(2 * vertex, 2 * vertex + 2)];
     assert.deepEqual([...fits.slice(2 * node, 2 * node + 2)], own);
   });
-  const even = session.fits(new Int32Array(leaves).fill(7));
+  const even = it.fits(new Int32Array(leaves).fill(7));
   assert.ok(even.every((number) => number === 7));
-  assert.throws(() => session.fits(numbers.subarray(1), 2), RangeError);
-  assert.throws(() => session.fits(new Int32Array(leaves).fill(2 ** 30)), RangeError);
+  assert.throws(() => it.fits(numbers.subarray(1), 2), RangeError);
+  assert.throws(() => it.fits(new Int32Array(leaves).fill(2 ** 30)), RangeError);
 }));
 
 test("a ray meets a face or none, and strips have all corners", () => within((session) => {
