@@ -245,6 +245,7 @@ class Obj(WithFolder):
             (b"X" * 60 + bytes(10), "byte 70: the data end before the 84 bytes"),
             (b"1 2.5 -3\n4 5 6\n", "rows of numbers and no faces: points alone"),
             (b"{x\n", "^it has no faces$"), (b" " * 83 + b'{"', "^it has no faces$"),
+            (b"v".ljust(84, b"\0"), "^it is an STL file without a triangle$"),
         ):
             self.refused(data, said)
 

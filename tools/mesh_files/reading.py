@@ -74,6 +74,8 @@ def without_faces(head: bytes) -> MeshFault:
     """What is said of a file in which there are no faces, by the first of its bytes."""
     if not head:
         return MeshFault("it is empty")
+    if stl.is_binary(head, len(head)):
+        return MeshFault("it is an STL file without a triangle")
     if _CONTROLS.search(head):
         return MeshFault("it is no text, and no PLY or STL file that is whole")
     if _ROW_OF_NUMBERS.match(head):

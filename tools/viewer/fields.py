@@ -29,13 +29,19 @@ def is_field(path: Path) -> bool:
     return path.suffix.lower() in FIELDS or is_raster(path)
 
 
+def without_name(path: Path, fault: WorldFault) -> str:
+    """What is wrong with a file, which is named by who tells it."""
+    name, told = f"{path}: ", str(fault)
+    return told[len(name) :] if told.startswith(name) else told
+
+
 def field_text(path: Path, steps: Steps, say: Callable[[str], None]) -> bytes:
     """The text of a field; ProgramEnded where it has a fault, or is too large for one mesh."""
     with tempfile.TemporaryDirectory(prefix="field-") as room:
         try:
             world = make_world(Asked(path, Path(room), MOST_FACES, 0.0, *steps), say)
         except WorldFault as fault:
-            raise ProgramEnded(str(fault)) from None
+            raise ProgramEnded(without_name(path, fault)) from None
         tiles = world.level(0)
         if len(tiles) > 1:
             faces = sum(tile.faces for tile in tiles)

@@ -16,7 +16,7 @@ from worlds.making import make_world
 from worlds.progress import Work
 from worlds.rasters import is_raster
 
-from .fields import CUT, Steps, is_field
+from .fields import CUT, Steps, is_field, without_name
 from .model import Programs, is_built, tell
 from .program import ProgramEnded
 
@@ -96,5 +96,5 @@ def _world_of(path: Path, programs: Programs, steps: Steps) -> Path:
         with Work(tell) as work:
             build_world(Build(world, programs.simplify, programs.vdpm, FACES, jobs, work))
     except WorldFault as fault:
-        raise ProgramEnded(str(fault)) from None
+        raise ProgramEnded(without_name(path, fault)) from None
     return folder / WORLD

@@ -99,10 +99,11 @@ def said_last(text: bytes) -> str:
 
 
 def end_of(said: str, status: int, heading: str) -> ProgramEnded:
-    """How a program ended, by its last line and its status."""
+    """How a program ended, by its last line, and its status where that names no fault."""
     if said:
         cure = manual.cure_of(said, heading, status)
-        return ProgramEnded(f"the program ended with status {status}: {said}", cure)
+        ended = "" if " fault " in said else f"the program ended with status {status}: "
+        return ProgramEnded(f"{ended}{said}", cure)
     if status < 0:
         return ProgramEnded(f"the program was ended by signal {-status}")
     return ProgramEnded(f"the program ended with status {status} and said nothing")

@@ -61,7 +61,7 @@ class Fields(Case):
 
     def test_a_fault_of_a_field_is_told(self) -> None:
         for name, data, said in (
-            ("a.asc", GRID[:-4], "2 rows of 3 heights are 6, and the grid has 5"),
+            ("a.asc", GRID[:-4], "^2 rows of 3 heights are 6, and the grid has 5"),
             ("a.asc", b"ncols 3\n", "doesn't tell `nrows`"), ("a.pgm", b"P2\n", "no binary PGM"),
         ):
             with self.assertRaisesRegex(ProgramEnded, said):

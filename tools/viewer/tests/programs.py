@@ -64,7 +64,7 @@ class Running(Case):
     def test_its_fault_line_is_told_with_the_cure(self) -> None:
         with self.assertRaises(ProgramEnded) as caught:
             self.program.ask("v 0 0 0 70000 1\n")  # the line before is the `m` at the start
-        self.assertIn("status 1: vdpm: fault 30 line 2", caught.exception.reason)
+        self.assertIn("vdpm: fault 30 line 2", caught.exception.reason)
         self.assertIn("one space between fields", caught.exception.cure)
         with self.assertRaisesRegex(ProgramEnded, "fault 30"):
             self.program.ask("w\n")

@@ -98,7 +98,7 @@ class Serving(WithWindow):
         path.write_bytes(path.read_bytes()[:-9])
         told = self.asked(server, "stream/t000")
         self.assertEqual(told.status, 502)
-        self.assertIn(b"t000: the program ended with status 1: pack: fault 35", told.read())
+        self.assertIn(b"t000: pack: fault 35", told.read())
 
     def test_programs_are_ended_where_memory_is_short(self) -> None:
         names = [tile.name for tile in self.world.level(0)]
