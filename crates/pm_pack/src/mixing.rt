@@ -1,5 +1,5 @@
-//! One share by two slots: each speaks for `true` or for `false` as strongly as the logarithm of its
-//! odds tells, and weighs more the more it helped (as in PAQ, Matt Mahoney).
+//! One share by two slots: each speaks for `true` or for `false` as strongly as the logarithm of
+//! its odds tells, and weighs more the more it helped (as in PAQ, Matt Mahoney).
 ghost use Rattle.std.specs.Prelude.{◌≡◌, ◌≤◌, ◌^◌};
 ghost use Rattle.pm_pack.specs.Mixing.{log, for_true, for_false, power, weighed, lead, share_by};
 ghost use Rattle.pm_pack.specs.Mixing.{mixed_share, weight_after, weight_learned};

@@ -146,7 +146,8 @@ class Hostile(WithPieces):
             with self.assertRaisesRegex(WorldFault, said):
                 self.cut(self.file("far.obj", text + far), 4, unit=unit)
         field = "ncols 2\nnrows 2\ncellsize 1\n1e308 2\n3 "
-        for last, unit, said in (("-1e308", 0.0, "largest number"), ("4", 1e-3, "too far in units")):
+        for last, unit, said in (("-1e308", 0.0, "largest number"),
+                                 ("4", 1e-3, "too far in units")):
             with self.assertRaisesRegex(WorldFault, said):
                 self.cut(self.file("far.asc", field + last), 4, unit=unit)
 
