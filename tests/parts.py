@@ -38,7 +38,10 @@ DOCUMENTS = (
     "docs/commands/view.md", *(f"docs/commands/{name}.md" for name in PROGRAMS),
 )  # fmt: skip
 # What is tried over cargo's library too.
-LIBRARY_TESTS = ("", "_making", "_means", "_fits", "_inputs", "_sizes", "_views", "_packed")
+LIBRARY_TESTS = (
+    "", "_making", "_means", "_fits", "_inputs", "_sizes", "_views", "_packed", "_slots",
+    "_buffers",
+)  # fmt: skip
 SEED, RANDOM_CASES = "1", "300"
 
 

@@ -4,7 +4,7 @@
  *     ./draw torus.vdpm 100 > torus.ppm
  *
  * Nodes never move, so each has its place in a vertex buffer from the start, by its number. A step
- * writes the index buffer alone, from the first to the last face that changed.
+ * writes the index buffer alone, in which a face keeps its slot while it is shown (vdpm_slots).
  */
 #include "libvdpm.h"
 
@@ -40,13 +40,11 @@ static void *grown(void *at, size_t count) {
     return at;
 }
 
-/* The faces shown, in no order: a face that comes goes to the end, and the last one takes the place
- * of one that goes. */
+/* The index buffer: by slot three nodes, which are all 0 where no face is. */
 typedef struct faces {
-    uint32_t *corners, *numbers; /* by place: three nodes, and the face's number */
-    uint32_t *places;            /* by face: its place plus 1, 0 where it isn't shown */
-    uint32_t count, room, known;
-    uint32_t from, to;           /* the places that are to be uploaded */
+    vdpm_slots slots;
+    uint32_t *corners, *writes;
+    uint32_t length, room, most; /* slots that there are, that have room, and that one writes */
 } faces;
 
 /* What a change is written into. */
@@ -56,37 +54,43 @@ typedef struct change {
     vdpm_change_sizes sizes, rooms;
 } change;
 
-static void touch(faces *it, uint32_t place) {
-    if (place < it->from) it->from = place;
-    if (place >= it->to) it->to = place + 1;
+/* Lets faces go, puts others in, and tells in it->writes the slots that have other corners then. */
+static uint32_t change_faces(faces *it, const uint32_t *gone, uint32_t gone_length,
+                             const uint32_t *put, const uint32_t *corners, uint32_t put_length) {
+    vdpm_slots_sizes sizes;
+    if (gone_length + put_length > it->most)
+        it->writes = grown(it->writes, it->most = gone_length + put_length);
+    uint32_t status = vdpm_slots_change(&it->slots, gone, gone_length, put, put_length, it->writes,
+                                        it->most, &sizes);
+    if (status != VDPM_DONE) stop("vdpm_slots_change", status);
+    it->length = sizes.length;
+    if (it->length > it->room) {
+        it->room = 2 * it->length;
+        it->corners = grown(it->corners, 3 * (size_t)it->room);
+    }
+    for (uint32_t i = 0; i < sizes.written; i++) {
+        uint32_t *slot = it->corners + 3 * (size_t)it->writes[i];
+        if (i < put_length) memcpy(slot, corners + 3 * (size_t)i, 3 * sizeof(uint32_t));
+        else memset(slot, 0, 3 * sizeof(uint32_t));
+    }
+    return sizes.written;
 }
 
-static void take_out(faces *it, uint32_t face) {
-    uint32_t place = it->places[face] - 1, last = --it->count;
-    memcpy(it->corners + 3 * place, it->corners + 3 * last, 3 * sizeof(uint32_t));
-    it->numbers[place] = it->numbers[last];
-    it->places[it->numbers[place]] = place + 1;
-    it->places[face] = 0;
-    touch(it, place);
-}
-
-static void put_in(faces *it, uint32_t face, const uint32_t *corners) {
-    if (face >= it->known) {
-        it->places = grown(it->places, 2 * (size_t)face + 1);
-        memset(it->places + it->known, 0, (2 * (size_t)face + 1 - it->known) * sizeof(uint32_t));
-        it->known = 2 * face + 1;
+/* Brings the index buffer after a change: all where it has become longer, or else from the first
+ * to the last of the slots that were written. */
+static void upload_faces(const faces *it, uint32_t room, uint32_t written) {
+    const size_t slot = 3 * sizeof(uint32_t);
+    uint32_t from = UINT32_MAX, to = 0;
+    for (uint32_t i = 0; i < written; i++) {
+        if (it->writes[i] < from) from = it->writes[i];
+        if (it->writes[i] >= to) to = it->writes[i] + 1;
     }
-    if (!it->places[face]) {
-        if (it->count == it->room) {
-            it->room = 2 * it->room + 1024;
-            it->corners = grown(it->corners, 3 * (size_t)it->room);
-            it->numbers = grown(it->numbers, it->room);
-        }
-        it->numbers[it->count] = face;
-        it->places[face] = ++it->count;
-    }
-    memcpy(it->corners + 3 * (it->places[face] - 1), corners, 3 * sizeof(uint32_t));
-    touch(it, it->places[face] - 1);
+    if (room != it->room)
+        glBufferData(GL_ELEMENT_ARRAY_BUFFER, (GLsizeiptr)(it->room * slot), it->corners,
+                     GL_DYNAMIC_DRAW);
+    else if (written)
+        glBufferSubData(GL_ELEMENT_ARRAY_BUFFER, (GLintptr)(from * slot),
+                        (GLsizeiptr)((to - from) * slot), it->corners + 3 * (size_t)from);
 }
 
 static uint32_t ask_change(vdpm_viewer *viewer, change *it) {
@@ -112,10 +116,14 @@ static void fetch_change(vdpm_viewer *viewer, change *it) {
     if (status != VDPM_DONE) stop("vdpm_change", status);
 }
 
-/* Puts in the base mesh, which is shown, and marked, at first. */
+/* Opens the slots, and puts in the base mesh, which is shown, and marked, at first. */
 static void put_base(vdpm_viewer *viewer, faces *shown) {
     vdpm_sizes sizes;
+    uint32_t all = 0;
     if (vdpm_counts(viewer, &sizes) != VDPM_DONE) stop("vdpm_counts", VDPM_NOT_SO);
+    /* (it has no room, but tells how many faces there are in all) */
+    vdpm_inputs(viewer, NULL, 0, NULL, 0, &all);
+    if (vdpm_slots_open(all, &shown->slots) != VDPM_DONE) stop("vdpm_slots_open", VDPM_NO_MEMORY);
     size_t v = sizes.shown_nodes, f = sizes.shown_faces;
     uint32_t *nodes = grown(NULL, v), *numbers = grown(NULL, f);
     uint32_t *corners = grown(NULL, 3 * f), *corner_nodes = grown(NULL, 3 * f);
@@ -123,9 +131,8 @@ static void put_base(vdpm_viewer *viewer, faces *shown) {
     uint32_t status = vdpm_frame(viewer, nodes, v, places, 3 * v, numbers, f, corners, 3 * f,
                                  corner_nodes, 3 * f);
     if (status != VDPM_DONE) stop("vdpm_frame", status);
-    for (size_t i = 0; i < f; i++) put_in(shown, numbers[i], corner_nodes + 3 * i);
-    glBufferData(GL_ELEMENT_ARRAY_BUFFER, (GLsizeiptr)(3 * sizeof(uint32_t) * shown->room),
-                 shown->corners, GL_DYNAMIC_DRAW);
+    change_faces(shown, NULL, 0, numbers, corner_nodes, sizes.shown_faces);
+    upload_faces(shown, 0, sizes.shown_faces);
     free(nodes);
     free(numbers);
     free(corners);
@@ -135,26 +142,14 @@ static void put_base(vdpm_viewer *viewer, faces *shown) {
 
 /* Goes to a view from the eye, and brings the faces and the index buffer after it. */
 static void look_from(vdpm_viewer *viewer, const int32_t *eye, change *news, faces *shown) {
-    char line[128];
-    int n = snprintf(line, sizeof line, "v %d %d %d %d %d", eye[0], eye[1], eye[2], FOCAL,
-                     TOLERANCE);
-    uint32_t status = vdpm_line(viewer, (const uint8_t *)line, (size_t)n), room = shown->room;
-    if (status != VDPM_DONE) stop("vdpm_line", status);
+    const vdpm_look look = {{eye[0], eye[1], eye[2]}, FOCAL, TOLERANCE, TOLERANCE, VDPM_BY_ERROR};
+    vdpm_moved moved;
+    uint32_t status = vdpm_view(viewer, &look, NULL, 0, &moved), room = shown->room;
+    if (status != VDPM_DONE) stop("vdpm_view", status);
     fetch_change(viewer, news);
-    shown->from = UINT32_MAX;
-    shown->to = 0;
-    for (uint32_t i = 0; i < news->sizes.gone_faces; i++) take_out(shown, news->gone_faces[i]);
-    for (uint32_t i = 0; i < news->sizes.put_faces; i++)
-        put_in(shown, news->put_faces[i], news->put_corners + 3 * (size_t)i);
-    const size_t face = 3 * sizeof(uint32_t);
-    if (shown->to > shown->count) shown->to = shown->count;
-    if (room != shown->room)
-        glBufferData(GL_ELEMENT_ARRAY_BUFFER, (GLsizeiptr)(shown->room * face), shown->corners,
-                     GL_DYNAMIC_DRAW);
-    else if (shown->from < shown->to)
-        glBufferSubData(GL_ELEMENT_ARRAY_BUFFER, (GLintptr)(shown->from * face),
-                        (GLsizeiptr)((shown->to - shown->from) * face),
-                        shown->corners + 3 * (size_t)shown->from);
+    uint32_t written = change_faces(shown, news->gone_faces, news->sizes.gone_faces,
+                                    news->put_faces, news->put_corners, news->sizes.put_faces);
+    upload_faces(shown, room, written);
 }
 
 /* Puts the places of all nodes into a vertex buffer, and tells the number farthest from 0 of those
@@ -303,10 +298,11 @@ int main(int argc, char **argv) {
         int32_t eye[3] = {(int32_t)(far * 0.8f * cosf(turn)), (int32_t)(far * 0.8f * sinf(turn)),
                           (int32_t)(far * 0.5f)};
         look_from(&viewer, eye, &news, &shown);
-        draw(program, eye, reach, shown.count);
+        draw(program, eye, reach, shown.length);
     }
     write_picture();
-    fprintf(stderr, "draw: %u faces shown\n", (unsigned)shown.count);
+    fprintf(stderr, "draw: %u slots of faces\n", (unsigned)shown.length);
+    vdpm_slots_close(&shown.slots);
     vdpm_close(&viewer);
     return glGetError() == GL_NO_ERROR ? 0 : 1;
 }

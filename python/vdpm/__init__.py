@@ -14,7 +14,7 @@ Making: `prepare` makes any OBJ, PLY or STL file fit, `simplify` and `build` mak
 `pack` makes it a sixth as long, and `unpack` gives it back.
 Showing: a `Session` shows a stream, packed or not, `Session.view` adapts it to a view, and
 `Session.frame` and `Session.change` answer arrays: numpy's where numpy is there, else flat
-`array.array`s.
+`array.array`s. `Session.slots` keeps a renderer's buffers, and tells what of them to copy.
 
 Units: coordinates are whole numbers of units of 10 to the power of minus `Session.sizes().digits`;
 `Prepared.scale` gives coordinates back for what `prepare` made. Pixels are those of the picture
@@ -34,8 +34,9 @@ from .library import Version, version
 from .making import Prepared, build, pack, prepare, simplify, unpack
 from .session import Session
 from .shapes import Bounds, Change, Frame, Hit, Inputs, Level, Moved, Shape, Sizes, Strips
+from .slots import Slots, Written, ranges
 
 __all__ = ["Bounds", "Camera", "Change", "Fault", "Frame", "Hit", "Inputs", "Level", "LineFault",
            "Moved", "NO_VERTEX", "NotMesh", "NotOpen", "Prepared", "Session", "Shape", "Sizes",
-           "StreamFault", "Strips", "TextFault", "Version", "build", "camera", "pack",
-           "prepare", "simplify", "unpack", "version"]
+           "Slots", "StreamFault", "Strips", "TextFault", "Version", "Written", "build", "camera",
+           "pack", "prepare", "ranges", "simplify", "unpack", "version"]

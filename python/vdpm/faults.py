@@ -155,4 +155,4 @@ class NotMesh(TextFault):
 
 
 class NotOpen(ValueError):
-    """The session is closed."""
+    """The session is closed, or its slots are."""

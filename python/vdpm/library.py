@@ -169,11 +169,16 @@ def load(path: Optional[str] = None) -> ctypes.CDLL:
         "made_notes": [handle, BYTES, size],
         "made_scale": [handle, ctypes.POINTER(Scale)],
         "made_close": [handle],
+        "slots_open": [number, handle],
+        "slots_change": [handle, NUMBERS, size, NUMBERS, size, NUMBERS, size, NUMBERS],
+        "slots_of": [handle, NUMBERS, size, NUMBERS, size],
+        "slots_close": [handle],
     }
     for name, arguments in types.items():
         function = getattr(library, f"vdpm_{name}")
         function.argtypes, function.restype = arguments, number
-    library.vdpm_close.restype = library.vdpm_made_close.restype = None
+    for name in ("close", "made_close", "slots_close"):
+        getattr(library, f"vdpm_{name}").restype = None
     return library
 
 

@@ -21,15 +21,22 @@ KINDS: Dict[str, Tuple[Any, str, int]] = {
 Room = Tuple[Any, Any]
 
 
+def pointer_to(kind: str, room: Any) -> Any:
+    """A pointer to the first number of an array; None where it has none."""
+    pointed, _, size = KINDS[kind]
+    if len(room) == 0:
+        return None
+    if numpy is not None:
+        return room.ctypes.data_as(pointed)
+    return ctypes.cast((ctypes.c_uint8 * (size * len(room))).from_buffer(room), pointed)
+
+
 def room_for(kind: str, count: int) -> Room:
     """Room for so many numbers, and a pointer to it."""
-    pointed, name, size = KINDS[kind]
-    if numpy is not None:
-        room = numpy.empty(max(count, 1), dtype=name)
-        return room[:count], room.ctypes.data_as(pointed)
-    plain = array.array(kind, bytes(size * count))
-    held = array.array(kind, [0]) if count == 0 else plain
-    return plain, ctypes.cast((ctypes.c_uint8 * (size * max(count, 1))).from_buffer(held), pointed)
+    _, name, size = KINDS[kind]
+    plain = numpy is None
+    room = array.array(kind, bytes(size * count)) if plain else numpy.empty(count, dtype=name)
+    return room, pointer_to(kind, room)
 
 
 def _in_room(kind: str, given: Any, least: int, most: int) -> Tuple[int, Any]:
@@ -77,3 +84,42 @@ def in_threes(arrays: List[Any], places: Sequence[int]) -> List[Any]:
 def copied(room: Any, count: int) -> Any:
     """A copy of the first numbers."""
     return room[:count].copy() if numpy is not None else room[:count]
+
+
+def first(room: Any, count: int) -> Any:
+    """The first numbers, or the whole where it has no more."""
+    return room if len(room) == count else room[:count]
+
+
+def joined(numbers: Any, count: int, number: int = 0) -> Any:
+    """The numbers, and another one so many times after them."""
+    if count == 0:
+        return numbers
+    if numpy is not None:
+        return numpy.append(numbers, numpy.full(count, number, dtype=numbers.dtype))
+    return numbers + array.array(numbers.typecode, [number]) * count
+
+
+def grown(room: Any, count: int) -> Any:
+    """A room of at least so many numbers, with those of another at its front."""
+    more = 0 if count <= len(room) else max(count, 2 * len(room)) - len(room)
+    return joined(room, more)
+
+
+def put_at(room: Any, rows: Any, values: Any, width: int) -> None:
+    """Puts the next `width` of the values into each of these rows of a room."""
+    if numpy is not None:
+        room.reshape(-1, width)[rows] = values.reshape(-1, width)
+        return
+    for at, row in enumerate(rows):
+        room[width * row : width * (row + 1)] = values[width * at : width * (at + 1)]
+
+
+def seen(room: Any, rows: int, width: int) -> Any:
+    """A view of the first rows of so many numbers, which can't be written: a flat `memoryview`
+    where numpy isn't there."""
+    if numpy is None:
+        return memoryview(room)[: rows * width].toreadonly()
+    view = room[: rows * width]
+    view.flags.writeable = False
+    return view if width == 1 else view.reshape(-1, width)

@@ -9,6 +9,7 @@ from .library import (BY_DEVIATION, BY_ERROR, MOST_NUMBER, NO_ROOM, NONE, Finene
 from .making import unpack
 from .rooms import copied, in_threes, room_for, rooms_for_change
 from .shapes import Bounds, Change, Frame, Hit, Level, Moved, Place, Shape, Sizes, Strips
+from .slots import Slots
 from .tables import Tables
 
 # How packed texts begin.
@@ -38,6 +39,8 @@ class Session(Tables):
         if data.startswith(PACKED):
             data = unpack(data, library)
         self._library = load(library)
+        # (how often the front was marked)
+        self._marks = 0
         # (a change is written into these, which grow where one has more)
         self._rooms = rooms_for_change((256, 256, 256, 256))
         place = ctypes.c_uint64()
@@ -77,6 +80,7 @@ class Session(Tables):
         """
         data = bytes_of(text)
         with self._lock:
+            self._marks += data in (b"k", b"d")
             check(self._library.vdpm_line(self._viewer, data, len(data)))
             return self._reply()
 
@@ -170,10 +174,16 @@ class Session(Tables):
                 self._rooms = rooms_for_change(wanted)
                 status = self._fetch_change(sizes)
             check(status)
+            self._marks += 1
             gone_faces, gone_nodes, new_nodes, put_faces = sizes
             counts = (gone_faces, gone_nodes, new_nodes, 3 * new_nodes, put_faces, 3 * put_faces)
             arrays = [copied(room, count) for (room, _), count in zip(self._rooms, counts)]
         return Change(*in_threes(arrays, (3, 5)))
+
+    def slots(self) -> Slots:
+        """Buffers of a renderer that follow what is shown: of vertices, and of triangles as three
+        slots of vertices each. They are empty until their first `update`."""
+        return Slots(self)
 
     def _fetch_change(self, sizes: Any) -> int:
         pairs = [it for (room, at) in self._rooms for it in (at, len(room))]

@@ -9,7 +9,8 @@ Place = Tuple[int, int, int]
 Strips = Tuple[Tuple[int, ...], ...]
 
 
-def _counted(name: str, counts: Iterable[Tuple[int, str]]) -> str:
+def counted(name: str, counts: Iterable[Tuple[int, str]]) -> str:
+    """What an answer is in short."""
     return f"{name}({', '.join(f'{count} {what}' for count, what in counts)})"
 
 
@@ -49,7 +50,7 @@ class Frame(NamedTuple):
     corner_nodes: "NDArray[uint32]"
 
     def __repr__(self) -> str:
-        return _counted("Frame", ((len(self.nodes), "vertices"), (len(self.faces), "faces")))
+        return counted("Frame", ((len(self.nodes), "vertices"), (len(self.faces), "faces")))
 
 
 class Inputs(NamedTuple):
@@ -65,7 +66,7 @@ class Inputs(NamedTuple):
     by_face: "NDArray[uint32]"
 
     def __repr__(self) -> str:
-        return _counted("Inputs", ((len(self.by_node), "nodes"), (len(self.by_face), "faces")))
+        return counted("Inputs", ((len(self.by_node), "nodes"), (len(self.by_face), "faces")))
 
 
 class Change(NamedTuple):
@@ -89,7 +90,7 @@ class Change(NamedTuple):
     put_corners: "NDArray[uint32]"
 
     def __repr__(self) -> str:
-        return _counted("Change", (
+        return counted("Change", (
             (len(self.gone_faces), "faces gone"), (len(self.gone_nodes), "nodes gone"),
             (len(self.new_nodes), "nodes new"), (len(self.put_faces), "faces put")))
 

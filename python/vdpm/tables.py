@@ -69,18 +69,20 @@ class Tables:
         """Which vertices and faces of the text that the stream was made of nodes and faces are. It
         is the same whatever is shown: `names[session.inputs().by_face[frame.faces]]` are the names
         of a frame's faces, where `names` has one for each face of the text."""
-        count = ctypes.c_uint32()
         with self._lock:
             nodes, by_node = room_for("I", self.sizes().nodes)
-            none, nowhere = room_for("I", 0)
-            status = self._library.vdpm_inputs(self._viewer, by_node, len(nodes), nowhere,
-                                               len(none), count)
-            if status != NO_ROOM:
-                check(status)
-            faces, by_face = room_for("I", count.value)
-            check(self._library.vdpm_inputs(self._viewer, by_node, len(nodes), by_face,
-                                            len(faces), count))
+            faces, by_face = room_for("I", self._faces_in_all())
+            check(self._library.vdpm_inputs(self._viewer, by_node, len(nodes), by_face, len(faces),
+                                            ctypes.c_uint32()))
         return Inputs(nodes, faces)
+
+    def _faces_in_all(self) -> int:
+        """How many faces the complete mesh has."""
+        count = ctypes.c_uint32()
+        status = self._library.vdpm_inputs(self._viewer, None, 0, None, 0, count)
+        if status != NO_ROOM:
+            check(status)
+        return count.value
 
     def _room_by_node(self, kind: str, channels: int, count: int) -> Room:
         """Room for what nodes have, where so many numbers are given for the vertices."""

@@ -1,6 +1,6 @@
 """A caller of python/vdpm that tells its types: mypy --strict finds nothing in it."""
 from fractions import Fraction
-from typing import Optional, Tuple
+from typing import List, Optional, Tuple
 
 import vdpm
 
@@ -24,6 +24,13 @@ def shown(stream: bytes) -> Tuple[int, int, float]:
         height: int = session.bounds().greatest[2]
         assert session.level().nodes == session.measure().vertices == session.sizes().shown_nodes
         return moved.moves + height + (hit.face if hit else 0), len(change.put_faces), float(first)
+
+
+def copied(stream: bytes) -> List[Tuple[int, int]]:
+    with vdpm.Session(stream) as session, session.slots() as slots:
+        written: vdpm.Written = slots.update()
+        assert len(slots.vertices) == len(slots.nodes) == len(written.vertex_slots)
+        return list(vdpm.ranges(written.triangle_slots))
 
 
 try:
