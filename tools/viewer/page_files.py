@@ -14,5 +14,5 @@ FILES = (
     "returning.js", "scene.js", "session.js", "shaders.js", "shape.js", "slots.js", "spots.js",
     "steering.js", "stretch.js", "surface.js", "tasks.js", "terrain.js", "textures.js",
     "texturing.js", "upright.js", "viewer.js", "views.js", "work.js", "worker.js", "working.js",
-    "writers.js",
+    "writers.js", "zip.js",
 )

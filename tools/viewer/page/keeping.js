@@ -90,10 +90,10 @@ export class Keeping {
 
   // The mesh shown, named by the model and how many triangles it has.
   async saveMesh(format) {
-    const { bytes } = await this.viewer.work.ask({ task: "mesh", format });
-    const name = `${this.name}-${this.viewer.shown.faceCount}.${format}`;
-    download(name, new Blob([bytes]));
-    tell(`Saved ${name}`);
+    const name = `${this.name}-${this.viewer.shown.faceCount}`;
+    const { bytes, ending } = await this.viewer.work.ask({ task: "mesh", format, name });
+    download(`${name}.${ending}`, new Blob([bytes]));
+    tell(`Saved ${name}.${ending}`);
   }
 
   // A link to this view: of this page, where it has the model; else the model is opened first.

@@ -25,7 +25,7 @@ import { shapeOf } from "./shape.js";
 import { spotsOf } from "./spots.js";
 import { Surface } from "./surface.js";
 import { clock, startClock } from "./tasks.js";
-import { WRITERS, levelOf } from "./writers.js";
+import { fileOf, levelOf } from "./writers.js";
 
 class Working {
   // `connect` gives a connection for what the page asks to open.
@@ -114,10 +114,10 @@ class Working {
   }
 
   // The mesh shown, as a file of another program, in the coordinates of the file that was opened.
-  async mesh({ format }) {
-    const dress = format === "glb" ? await this.dress() : null;
+  async mesh({ format, name }) {
+    const dress = format === "ply" ? null : await this.dress();
     const level = levelOf(this.follower.mesh.front.frame(), this.colours, this.grid, dress);
-    return { bytes: WRITERS[format](level) };
+    return fileOf(level, format, name);
   }
 
   // What nodes and faces have of a texture, with its pictures; null where there is none.
@@ -128,15 +128,24 @@ class Working {
     return { spots: spotsOf(this.words).goals, pages, pictures };
   }
 
+  // One of the pictures of a texture, as its file has it.
+  async picture({ page }) {
+    return this.connection.picture(this.about.textures[page], page);
+  }
+
   // The model itself, to be put into a page.
   async model() {
-    const { about, connection } = this, packed = await connection.packed();
-    return { packed, colours: about.coloured ? await connection.colours() : null };
+    const { about, connection, words } = this, packed = await connection.packed();
+    const colours = about.coloured ? await connection.colours() : null;
+    if (words === null) return { packed, colours, worn: null };
+    const { pages } = this.hierarchy, { pictures } = await this.dress();
+    return { packed, colours, worn: { spots: words, pages, pictures } };
   }
 }
 
 const TASKS = [
-  "open", "view", "fit", "settle", "ask", "hollow", "input", "flight", "start", "mesh", "model",
+  "open", "view", "fit", "settle", "ask", "hollow", "input", "flight", "start", "mesh", "picture",
+  "model",
 ];
 
 // The tasks by their names.

@@ -7,6 +7,7 @@
 //   dress     of a textured mesh { spots, pages, pictures }: u and v for each vertex, v from below;
 //             for each triangle which of the pictures it has; and these, { colour, kind, bytes }
 import { glb } from "./gltf.js";
+import { zipped } from "./zip.js";
 
 const TRIANGLE = 13; // bytes of a triangle in PLY
 
@@ -37,17 +38,52 @@ function decimalsOf({ unit: step, middle }) {
   return Math.max(0, Math.ceil(-Math.log10(step)) + 2);
 }
 
-function obj({ places, corners, colours, grid }) {
+function vertexLines({ places, colours, grid }) {
   const decimals = decimalsOf(grid), lines = [];
   for (let i = 0; i < places.length; i += 3) {
     const place = [i, i + 1, i + 2].map((j) => at(grid, places, j).toFixed(decimals));
     const colour = colours ? [i, i + 1, i + 2].map((j) => (colours[j] / 255).toFixed(4)) : [];
     lines.push(`v ${[...place, ...colour].join(" ")}\n`);
   }
+  return lines;
+}
+
+function obj(level) {
+  const lines = vertexLines(level), { corners } = level;
   for (let i = 0; i < corners.length; i += 3) {
     lines.push(`f ${corners[i] + 1} ${corners[i + 1] + 1} ${corners[i + 2] + 1}\n`);
   }
   return textBytes(lines.join(""));
+}
+
+// The faces of one page, whose texture coordinates have the numbers of the vertices.
+function facesOf({ corners, dress: { pages } }, page) {
+  const lines = [], both = (i) => `${corners[i] + 1}/${corners[i] + 1}`;
+  pages.forEach((own, face) => {
+    if (own === page) lines.push(`f ${[0, 1, 2].map((i) => both(3 * face + i)).join(" ")}\n`);
+  });
+  return lines.length > 0 ? [`usemtl page-${page}\n`, ...lines] : [];
+}
+
+const ENDINGS = { "image/png": "png", "image/jpeg": "jpg", "image/webp": "webp" };
+
+// An OBJ file with its materials and pictures, as one ZIP file.
+function objInZip(level, name) {
+  const { dress: { spots, pictures } } = level, files = [], told = [];
+  const lines = [`mtllib ${name}.mtl\n`, ...vertexLines({ ...level, colours: null })];
+  for (let i = 0; i < spots.length; i += 2) {
+    lines.push(`vt ${spots[i].toFixed(6)} ${spots[i + 1].toFixed(6)}\n`);
+  }
+  pictures.forEach(({ colour, kind, bytes }, page) => {
+    lines.push(...facesOf(level, page));
+    told.push(`newmtl page-${page}\nKd ${colour.map((part) => part.toFixed(4)).join(" ")}\n`);
+    if (!(kind in ENDINGS)) return;
+    files.push({ name: `${name}-${page}.${ENDINGS[kind]}`, bytes });
+    told.push(`map_Kd ${files.at(-1).name}\n`);
+  });
+  files.unshift({ name: `${name}.obj`, bytes: textBytes(lines.join("")) },
+    { name: `${name}.mtl`, bytes: textBytes(told.join("")) });
+  return zipped(files);
 }
 
 const properties = (kind, names) => [...names].map((name) => `property ${kind} ${name}`);
@@ -76,3 +112,9 @@ function ply({ places, corners, colours, grid }) {
 }
 
 export const WRITERS = { obj, ply, glb };
+
+// A level as a file of a format: { bytes, ending }. `name` is the file's without its ending.
+export function fileOf(level, format, name) {
+  if (format === "obj" && level.dress) return { bytes: objInZip(level, name), ending: "zip" };
+  return { bytes: WRITERS[format](level), ending: format };
+}
