@@ -11,7 +11,9 @@ import json
 import re
 import zlib
 from pathlib import Path
-from typing import Dict, List, Optional
+from typing import Dict, List, Optional, Sequence
+
+from dressing.materials import Picture
 
 from . import kept, manual
 from .bundle import bundled
@@ -54,14 +56,17 @@ def _script(kind: str, name: str, text: str) -> str:
     return f'<script type="{kind}" id="{name}">{harmless}</script>\n'
 
 
-def page_of(module: bytes, model: Optional[Model] = None) -> str:
-    """The page with this module, and with a model, if one is given, whose stream is packed."""
+def page_of(
+    module: bytes, model: Optional[Model] = None, pictures: Sequence[Picture] = ()
+) -> str:
+    """The page with this module, and with a model, if one is given, whose stream is packed, and the
+    pictures of its texture."""
     style = "".join(path.read_text(encoding="utf-8") for path in STYLES)
     policy = ";\n  ".join(POLICY)
     head = f'<meta http-equiv="Content-Security-Policy" content="{policy}">\n'
     scripts = (
         ("text/plain", "engine", packed(module)),
-        ("text/plain", "model", packed(kept.packed(model)) if model else ""),
+        ("text/plain", "model", packed(kept.packed(model, pictures)) if model else ""),
         ("application/json", "words", json.dumps(fault_words())),
         ("text/plain", "worker", bundled(ALONE_PAGE / "alone_worker.js")),
         ("text/javascript", "page", bundled(ALONE_PAGE / "alone.js")),

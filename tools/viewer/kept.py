@@ -11,13 +11,14 @@ import json
 import os
 import struct
 from pathlib import Path
-from typing import Any, Dict, Optional
+from typing import Any, Dict, List, Optional, Sequence
 
 from quick_start.record import is_current
 from quick_start.sources import PROGRAMS, Program, sum_of_file
 from quick_start.stopped import Stopped
 
 from dressing.coat import Painted
+from dressing.materials import Picture
 
 from .model import Dress, Model, Programs, Scale
 
@@ -58,17 +59,27 @@ def name_for(text: bytes, programs: Programs, dresses: bool = False) -> Optional
     return total.hexdigest()
 
 
-def packed(model: Model) -> bytes:
-    """A model in the form that is told above."""
+def packed(model: Model, pictures: Sequence[Picture] = ()) -> bytes:
+    """A model in the form that is told above; pages that have it in them have its pictures behind
+    that."""
     scale = {"unit": model.scale.unit, "middle": model.scale.middle} if model.scale else None
     head = json.dumps({
         "name": model.name, "counts": model.counts, "proved": model.proved,
         "prepared": model.prepared, "scale": scale, "notes": model.notes,
         "length": len(model.stream), "coloured": model.colours is not None,
-        "dress": _dress_told(model.dress),
+        "dress": _dress_told(model.dress), "pictures": _pictures_told(pictures),
     }).encode("ascii")
     worn = b"".join(model.dress.painted) if model.dress else b""
-    return struct.pack("<I", len(head)) + head + model.stream + (model.colours or b"") + worn
+    drawn = b"".join(picture.data for picture in pictures)
+    parts = (struct.pack("<I", len(head)), head, model.stream, model.colours or b"", worn, drawn)
+    return b"".join(parts)
+
+
+def _pictures_told(pictures: Sequence[Picture]) -> List[Dict[str, object]]:
+    return [
+        {"colour": one.colour, "kind": one.kind, "missing": one.missing, "length": len(one.data)}
+        for one in pictures
+    ]
 
 
 def _dress_told(dress: Optional[Dress]) -> Optional[Dict[str, Any]]:

@@ -103,7 +103,7 @@ def programs_of(vdpm: Path) -> Programs:
 def found(asked: argparse.Namespace) -> Model:
     """The model that is asked for; ProgramEnded where it can't be had."""
     try:
-        dresses = not asked.page and asked.film is None  # (these show no textures)
+        dresses = asked.film is None  # (a film shows no textures)
         programs, steps = programs_of(asked.program), Steps(asked.spacing, asked.rise)
         model = model_kept(asked.model, programs, asked.fresh, dresses, steps)
     except OSError as fault:
@@ -166,7 +166,8 @@ def write_page(asked: argparse.Namespace) -> None:
     model = loaded(asked) if asked.model else None
     try:
         packed = with_packed_stream(model, programs_of(asked.program)) if model else None
-        page = page_of(module_of(asked.module), packed)
+        pictures = pictures_of(asked.model, model.dress) if model else []
+        page = page_of(module_of(asked.module), packed, pictures)
     except (NoModule, ProgramEnded) as why:
         sys.exit(f"viewer: {why}")
     sys.stdout.write(page)

@@ -32,16 +32,16 @@ class Alone {
     for (const name of ["open-file", "save-page", "save-packed"]) part(name).hidden = false;
     part("save-page").onclick = () => savePage(this.own, this.viewer);
     part("save-packed").onclick = () => savePacked(this.viewer);
-    watchFiles((file) => this.take(file));
+    watchFiles((file, beside) => this.take(file, beside));
     part("cancel").onclick = () => this.cancel();
     part("sample").onclick = () => this.take(new File([sampleText()], "knot.obj"));
   }
 
-  // Builds and shows a file.
-  take(file) {
+  // Builds and shows a file, with what belongs to it of the files that came with it.
+  take(file, beside = []) {
     return this.show(file.name, async () => {
       if (file.size > MOST_BYTES) throw TOO_LARGE;
-      return { bytes: new Uint8Array(await file.arrayBuffer()) };
+      return { bytes: new Uint8Array(await file.arrayBuffer()), beside };
     });
   }
 

@@ -5,10 +5,14 @@
 import { Fault } from "../page/fault.js";
 import { Fault as TextFault } from "../../wasm/faults.mjs";
 import { colouredVertices, packed, packedByPlace } from "./colours.js";
+import { dressed } from "./dressing.js";
 import { hasColours, isPacked, isScan, isStream, otherKind } from "./kinds.js";
 import { colouredPly } from "./ply.js";
+import { readTextured } from "./textured.js";
 
 const MOST_DIGITS = 4, TOO_MANY_DECIMALS = 5, NO_FACE = 12;
+const ALL_FACES = 0xffffffff; // none is simplified away
+const AS_IT_STANDS = { unit: 1, middle: [0, 0, 0] };
 const TOO_MUCH = [9, 15, 25, 26, 52, 53];
 const LF = 10, F = 102, S = 115, T = 116, U = 117, V = 118;
 const FIRST_LINE = 256; // bytes that have the first line of a prepared text
@@ -32,14 +36,18 @@ function toldOf({ number, place }, words) {
   return new Fault(`${told}${where}.`, cure && `What to do: ${cure}.`);
 }
 
-// What a file's stream is, and what is known of it: { stream, colours, known }.
-export function built(engine, bytes, { told, words }) {
+// What a file's stream is, and what is known of it: { stream, colours, dress, known }. Where
+// `dresses` says so an OBJ text gets a dress: { spots, pages, textured }, of which the first two go
+// by the vertices and faces of what was simplified.
+export function built(engine, bytes, { told, words, dresses }) {
   if (isStream(bytes) || isPacked(bytes)) {
     const stream = isPacked(bytes) ? engine.unpack(bytes) : bytes;
-    return { stream, colours: null, known: { prepared: false, scale: null, notes: [] } };
+    const known = { prepared: false, scale: null, notes: [] };
+    return { stream, colours: null, dress: null, known };
   }
   try {
-    return isScan(bytes) ? ofScan(engine, bytes, told) : ofText(engine, bytes, told);
+    if (isScan(bytes)) return ofScan(engine, bytes, told);
+    return ofText(engine, bytes, { told, textured: dresses ? readTextured(bytes) : null });
   } catch (fault) {
     throw fault instanceof TextFault ? toldOf(fault, words) : fault;
   }
@@ -48,10 +56,11 @@ export function built(engine, bytes, { told, words }) {
 function ofScan(engine, bytes, told) {
   told({ faces: Math.ceil(bytes.length / A_FACE) });
   const vertices = colouredPly(bytes), isLost = vertices === null && hasColours(bytes);
-  return prepared(engine, bytes, vertices, told, isLost ? ["colours of PLY ignored"] : []);
+  const more = isLost ? ["colours of PLY ignored"] : [];
+  return prepared(engine, bytes, { vertices, textured: null, told, more });
 }
 
-function ofText(engine, bytes, told) {
+function ofText(engine, bytes, { told, textured }) {
   const kind = otherKind(bytes);
   if (kind !== null) {
     throw new Fault(`This is ${kind}, and OBJ, PLY and STL files are what is read here.`,
@@ -61,7 +70,9 @@ function ofText(engine, bytes, told) {
   told({ faces });
   const vertices = colouredVertices(bytes);
   told({ step: "simplify" });
-  return asItStands(engine, bytes, vertices, notes) ?? prepared(engine, bytes, vertices, told);
+  const what = { vertices, textured };
+  return asItStands(engine, bytes, { ...what, notes })
+    ?? prepared(engine, bytes, { ...what, told, more: [] });
 }
 
 // How many lines are faces, of polygons somewhat fewer than their triangles; and what of the text
@@ -71,10 +82,10 @@ function lookedThrough(bytes) {
   let faces = 0;
   for (let at = bytes.indexOf(LF); at >= 0; at = bytes.indexOf(LF, at + 1)) {
     if (bytes[at + 1] === F) faces++;
-    else if (bytes[at + 1] === V && bytes[at + 2] === T) passed.add("texture places");
+    else if (bytes[at + 1] === V && bytes[at + 2] === T) passed.add("texture coordinates");
     else if (bytes[at + 1] === U && bytes[at + 2] === S) passed.add("materials");
   }
-  return { faces, notes: [...passed].map((what) => `${what} passed over`) };
+  return { faces, notes: [...passed].map((what) => `${what} ignored`) };
 }
 
 // Whether a stream has no face: after its version, and its digits if that is 2, and the numbers of
@@ -85,13 +96,16 @@ function isEmpty({ buffer, byteOffset }) {
 }
 
 // What is built of a text as it stands; null where it isn't fit for that.
-function asItStands(engine, bytes, vertices, notes) {
+function asItStands(engine, bytes, { vertices, textured, notes }) {
   for (let digits = 0; digits <= MOST_DIGITS; digits++) {
     try {
-      const stream = engine.simplify(bytes, { digits });
-      if (isEmpty(stream)) break;
+      // (what is cut before it is simplified has to be fit as it stands too)
+      const first = engine.simplify(bytes, { digits, faces: textured ? ALL_FACES : 0 });
+      if (isEmpty(first)) break;
       const known = { prepared: false, scale: null, notes };
-      return { stream, colours: vertices && packed(vertices), known };
+      const what = { colours: vertices && packed(vertices), known };
+      if (textured === null) return { ...what, stream: first, dress: null };
+      return worn(engine, { ...what, text: bytes, digits, textured, at: null });
     } catch (fault) {
       if (!(fault instanceof TextFault)) throw fault;
       if (fault.number !== TOO_MANY_DECIMALS) break;
@@ -100,13 +114,34 @@ function asItStands(engine, bytes, vertices, notes) {
   return null;
 }
 
-function prepared(engine, bytes, vertices, told, more = []) {
+// The same where the text is dressed, if it can be. `at` is how its places lead back; null where
+// they are those of the file.
+function worn(engine, { colours, known, text, digits, textured, at }) {
+  const cut = dressed(textured, text, at);
+  if (cut === null) {
+    return { stream: engine.simplify(text, { digits }), colours, dress: null, known };
+  }
+  const stream = engine.simplify(cut.text, { digits, keepBorder: cut.isCut });
+  const dress = { spots: cut.spots, pages: cut.pages, textured };
+  return { stream, colours: colours && taken(colours, cut.before), dress, known };
+}
+
+// Three bytes for each of some vertices.
+function taken(colours, vertices) {
+  const found = new Uint8Array(3 * vertices.length);
+  vertices.forEach((vertex, i) => found.set(colours.subarray(3 * vertex, 3 * vertex + 3), 3 * i));
+  return found;
+}
+
+function prepared(engine, bytes, { vertices, textured, told, more }) {
   told({ step: "prepare" });
   const { text, notes: said } = engine.prepare(bytes), notes = [...said, ...more];
   const scale = scaleOf(new TextDecoder().decode(text.subarray(0, FIRST_LINE)));
   const colours = vertices && packedByPlace(vertices, text, scale);
   told({ step: "simplify" });
-  return { stream: engine.simplify(text), colours, known: { prepared: true, scale, notes } };
+  const what = { colours, known: { prepared: true, scale, notes } };
+  if (textured === null) return { ...what, stream: engine.simplify(text), dress: null };
+  return worn(engine, { ...what, text, digits: 0, textured, at: scale ?? AS_IT_STANDS });
 }
 
 const SCALED = /^# coordinate = (\S+) \/ (\d+) \* place \+ \((\S+) (\S+) (\S+)\)/;

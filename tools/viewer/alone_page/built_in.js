@@ -4,6 +4,9 @@ import { Fault } from "../page/fault.js";
 import { OutOfMemory, Fault as StreamFault } from "../../wasm/faults.mjs";
 import { Vdpm } from "../../wasm/vdpm.mjs";
 import { built } from "./building.js";
+import { isPacked, isStream } from "./kinds.js";
+import { hasMaterials, picturesFor } from "./materials.js";
+import { librariesOf } from "./textured.js";
 
 const ENGINE = "Engine: the proved sources, compiled without their proofs";
 const ALL_MOVES = 4294967295;
@@ -32,26 +35,44 @@ function tried(doing) {
   }
 }
 
+// Whether a file may be dressed by those that came with it.
+function canDress(name, bytes, beside) {
+  if (beside.length === 0 || isStream(bytes) || isPacked(bytes)) return false;
+  return hasMaterials(name, librariesOf(bytes), beside);
+}
+
 export class BuiltIn {
-  // `module` has the engine's bytes; `bytes` are a file's, or else `model` is one that was built
-  // before: { packed, colours, known }. `told` is called with what is done next, as { step }, and
-  // with how many { faces } there are.
-  constructor({ module, name, bytes, model, words }, told) {
+  // `module` has the engine's bytes; `bytes` are a file's, and `beside` the files that came with
+  // it; or else `model` is one that was built before: { packed, colours, worn, known }. `told` is
+  // called with what is done next, as { step }, and with how many { faces } there are.
+  constructor({ module, name, bytes, beside = [], model, words }, told) {
     Object.assign(this, { name, words, marks: 1, session: null, budget: ALL_MOVES, lines: [] });
-    this.open = this.begin(module, { bytes, model }, told);
+    this.open = this.begin(module, { bytes, beside, model }, told);
   }
 
-  async begin(module, { bytes, model }, told) {
+  async begin(module, { bytes, beside, model }, told) {
     const begun = performance.now();
     this.engine = await Vdpm.load(module);
-    const loaded = performance.now();
+    const loaded = performance.now(), dresses = bytes && canDress(this.name, bytes, beside);
     this.model = tried(() => (model ? this.unpacked(model)
-      : built(this.engine, bytes, { told, words: this.words })));
+      : built(this.engine, bytes, { told, words: this.words, dresses })));
     told({ step: "open" });
     const made = performance.now();
     this.beginsAt(ALL_MOVES);
+    if (this.model.dress) await this.dress(this.model, beside);
     const opened = performance.now();
     this.times = { load: loaded - begun, build: made - loaded, open: opened - made };
+  }
+
+  // Finds what nodes and faces have of a texture, and its pictures.
+  async dress(model, beside) {
+    const { dress: { spots, pages, textured } } = model;
+    const own = tried(() => ({
+      spots: this.session.fits(spots, 2),
+      pages: Uint8Array.from(this.session.inputs().byFace, (face) => pages[face]),
+    }));
+    const pictures = await picturesFor(this.name, textured, beside);
+    Object.assign(model, { dress: null, worn: { ...own, pictures } });
   }
 
   unpacked(model) { return { ...model, stream: this.engine.unpack(model.packed) }; }
@@ -64,16 +85,23 @@ export class BuiltIn {
   }
 
   async about() {
-    const { name, model: { known, colours }, budget } = this;
+    const { name, model: { known, colours, worn }, budget } = this;
+    const toldOf = ({ colour, kind, missing }) => ({ colour, hasPicture: kind !== "", missing });
     return {
       ...known, name, budget, startedWith: budget, coloured: colours !== null, engine: ENGINE,
-      opening: this.times.open,
+      textures: worn?.pictures.map(toldOf) ?? null, opening: this.times.open,
     };
   }
 
   async stream() { return this.model.stream.slice().buffer; }
 
   async colours() { return this.model.colours; }
+
+  async spots() { return this.model.worn.spots; }
+
+  async pages() { return this.model.worn.pages; }
+
+  async picture(_, number) { return this.model.worn.pictures[number]; }
 
   async flight() { return this.lines.map((line) => `${line}\n`).join(""); }
 

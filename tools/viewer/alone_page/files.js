@@ -1,13 +1,20 @@
 // Files that a user gives to the page: by the chooser, or dropped anywhere.
 const part = (name) => document.getElementById(name);
+const MODELS = /\.(?:obj|ply|stl|vdpm|vdpz)$/i;
 
-// Calls `take` with each.
+// Of files that were given together the model, and those beside it, as its materials and pictures.
+function parted(files) {
+  const all = [...files], model = all.find(({ name }) => MODELS.test(name)) ?? all[0];
+  return [model, all.filter((file) => file !== model)];
+}
+
+// Calls `take` with a model's file, and the files that came with it.
 export function watchFiles(take) {
   for (const name of ["choose", "open-file"]) part(name).onclick = () => part("file").click();
   part("file").onchange = () => {
-    const [file] = part("file").files;
+    const [model, beside] = parted(part("file").files);
     part("file").value = ""; // so that the same one can be chosen again
-    if (file) take(file);
+    if (model) take(model, beside);
   };
   const over = (isOver) => document.body.classList.toggle("over", isOver);
   addEventListener("dragover", (event) => {
@@ -20,7 +27,7 @@ export function watchFiles(take) {
   addEventListener("drop", (event) => {
     event.preventDefault();
     over(false);
-    const [file] = event.dataTransfer.files;
-    if (file) take(file);
+    const [model, beside] = parted(event.dataTransfer.files);
+    if (model) take(model, beside);
   });
 }

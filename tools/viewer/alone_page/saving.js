@@ -19,13 +19,23 @@ async function deflated(parts) {
 
 // The model as model.js reads it, with the view that is seen now.
 async function carriedBy({ about, camera, work }) {
-  const { packed, colours } = await work.ask({ task: "model" });
+  const { packed, colours, worn } = await work.ask({ task: "model" });
   const { name, prepared, scale, notes } = about, coloured = colours !== null;
   const known = { name, prepared, scale, notes, view: toldOf(camera) };
-  const told = JSON.stringify({ ...known, length: packed.length, coloured });
+  const dress = worn && { lengths: [worn.spots.byteLength, worn.pages.byteLength] };
+  const pictures = worn?.pictures ?? [];
+  const told = JSON.stringify({
+    ...known, length: packed.length, coloured, dress, pictures: pictures.map(toldOfPicture),
+  });
   const head = new TextEncoder().encode(told);
-  return deflated([Uint32Array.of(head.length), head, packed, ...(coloured ? [colours] : [])]);
+  const dressed = worn ? [worn.spots, worn.pages] : [];
+  const drawn = pictures.flatMap(({ bytes }) => bytes ?? []);
+  const all = [packed, ...(coloured ? [colours] : []), ...dressed, ...drawn];
+  return deflated([Uint32Array.of(head.length), head, ...all]);
 }
+
+const toldOfPicture = ({ colour, kind, missing, bytes }) => (
+  { colour, kind, missing, length: bytes?.length ?? 0 });
 
 function save({ about }, ending, blob) {
   const name = about.name.replace(/\.[^.]*$/, ending);

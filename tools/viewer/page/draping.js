@@ -1,4 +1,6 @@
-// Brings the server's picture, which films and pages without a server haven't.
+// Brings the server's picture that lies over a terrain, which films and pages without a server
+// haven't; and the ways to colour faces that a model adds.
+
 // The picture, no larger than the graphics processor takes.
 async function pictureFor(gl, url) {
   const whole = await createImageBitmap(await (await fetch(url)).blob());
@@ -9,14 +11,24 @@ async function pictureFor(gl, url) {
   return createImageBitmap(whole, { resizeWidth, resizeHeight });
 }
 
+const stone = () => document.querySelector("input[name=colour][value=stone]");
+
+// Takes away the ways to colour faces that a model before has added.
+export function dropColours() {
+  const added = [...document.querySelectorAll("label[data-added]")];
+  if (added.some((label) => label.querySelector("input").checked)) stone().click();
+  for (const label of added) label.remove();
+}
+
 // Adds one of the ways to colour faces, chosen.
 export function addColour(value, name, title) {
-  const stone = document.querySelector("input[name=colour][value=stone]").closest("label");
-  const label = stone.cloneNode(true), choice = label.querySelector("input");
+  const plain = stone().closest("label");
+  const label = plain.cloneNode(true), choice = label.querySelector("input");
+  label.dataset.added = "";
   Object.assign(choice, { id: "", value, checked: true });
   label.title = title;
   label.querySelector("span").textContent = name;
-  stone.after(label);
+  plain.after(label);
   choice.dispatchEvent(new Event("input", { bubbles: true }));
 }
 

@@ -1,6 +1,7 @@
 // The window: asks for the view of the camera, again and again, and draws what came last. It is the
 // same over a server and over an engine in the page: what differs is its worker.
 import { Divider } from "./divider.js";
+import { dropColours } from "./draping.js";
 import { showFault } from "./faults.js";
 import { Keeping } from "./keeping.js";
 import { Glides } from "./glides.js";
@@ -70,15 +71,16 @@ export class Viewer {
     this.session.began(about);
     this.terrain = new Terrain(hierarchy.box, hierarchy.grid);
     this.terrain.hear("model", hierarchy.grounds);
+    dropColours();
     panel.sayModel(about, { upright: upOf(about, hierarchy) });
     if (!about.coloured && this.terrain.isField(hierarchy.upright)) panel.choose("height")();
     panel.sayPicked(null);
+    await layPictures(this.scene.renderer, this.work, about);
     this.set = panel.settings();
     Object.assign(this, await this.steering.whole());
     this.camera = this.linked(link) ?? this.camera;
     this.controls = takeHands(this);
     watchTheme((theme) => this.change({ theme }), this.leaving.signal);
-    await layPictures(this.scene.renderer, about);
   }
 
   // The camera that a link tells, whose settings are taken; null where it tells of none.
