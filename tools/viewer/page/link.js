@@ -2,7 +2,7 @@
 import { Camera } from "./camera.js";
 
 const part = (name) => document.getElementById(name);
-const SWITCHES = ["edges", "smooth", "hollows", "contours", "hillshade"];
+const SWITCHES = ["edges", "smooth", "hollows", "unlit", "contours", "hillshade"];
 const CHOICES = ["up", "colour", "judged"];
 const chosen = (name) => document.querySelector(`input[name=${name}]:checked`).value;
 

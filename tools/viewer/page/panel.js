@@ -32,6 +32,7 @@ export function settings() {
     smooth: isOn("smooth"), edges: isOn("edges"), glide: isOn("glide"), freeze: isOn("freeze"),
     round: isOn("round"), beside: isOn("beside"), picks: isOn("picks"),
     contours: isOn("contours"), hillShade: isOn("hillshade"), hollows: isOn("hollows"),
+    unlit: isOn("unlit"),
     exaggeration: part("exaggeration").valueAsNumber,
   };
 }
@@ -110,7 +111,7 @@ const other = (name) => () => {
 export const KEYS = {
   f: press("freeze"), e: press("edges"), s: press("smooth"), g: press("glide"), o: press("round"),
   b: press("beside"), y: other("up"), d: other("judged"),
-  c: press("contours"), l: press("hillshade"), v: press("hollows"),
+  c: press("contours"), l: press("hillshade"), u: press("unlit"), v: press("hollows"),
   1: choose("stone"), 2: choose("depth"), 3: choose("own"), 4: choose("wire"), 5: choose("height"),
 };
 

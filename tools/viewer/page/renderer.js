@@ -125,6 +125,7 @@ export class Renderer {
     gl.uniform1i(at.smoothly, look.smooth ? 1 : 0);
     gl.uniform1i(at.bent, mesh.isBent ? 1 : 0);
     gl.uniform1i(at.hollows, look.hollows ? 1 : 0);
+    gl.uniform1i(at.unlit, look.unlit ? 1 : 0);
     gl.uniform1f(at.edges, look.edges ? EDGES : 0);
     this.drawFaces(mesh, look.side ?? 0);
   }

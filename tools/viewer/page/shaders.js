@@ -81,7 +81,7 @@ export const MESH_FRAGMENT = `#version 300 es
   uniform int colour;       // by COLOURS of renderer.js
   uniform sampler2D drape;
   uniform highp sampler2DArray pictures; // whose colours come as light
-  uniform bool smoothly, hollows;
+  uniform bool smoothly, hollows, unlit;
   uniform float edges;
   uniform vec3 up;
   uniform float times;
@@ -167,7 +167,9 @@ export const MESH_FRAGMENT = `#version 300 es
       shown = vec4(mix(bare, ink, max(wires * 0.9, level)), 1.0);
     } else {
       vec3 dull = mix(vec3(1.0), vec3(.72, .68, .67), back);
-      vec3 face = pow(lit(base * dull, n, v), vec3(1.0 / 2.2));
+      // (a solid colour without light would be an outline alone)
+      vec3 shaded = unlit && !isBare ? base : lit(base * dull, n, v);
+      vec3 face = pow(shaded, vec3(1.0 / 2.2));
       shown = vec4(mix(face, face * 0.25, max(wires * edges, level)), 1.0);
     }
     shown.rgb = mix(shown.rgb, vec3(1.0, .42, .12), 0.75 * isPicked);

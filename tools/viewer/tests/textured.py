@@ -1,19 +1,23 @@
 """The pictures of a textured file in the window."""
+import io
 import json
 import math
 import struct
 import unittest
+import zipfile
 from pathlib import Path
 from typing import List
 
 from browser import found
+from dressing.materials import pictures_for
+from dressing.textured import read
 from viewer import kept
 from viewer.main import pictures_of, programs_of
 from viewer.model import Model, model_of
 from viewer.server import Server
 
 from .common import Case, model, program
-from .draping import AT, quarters, told
+from .draping import AT, GREEN, RED, WHITE, Pixel, quarters, told
 from .pages import browser
 
 ROUND, HIGH = 24, 10  # cells of a cylinder
@@ -80,13 +84,16 @@ class Textured(Case):
         return server
 
     def seen(self, round_part: float, high: float) -> str:
-        """What colour a place has, as seen from outside."""
+        """Which colour a place has, as seen from outside."""
+        return told(self.pixel(round_part, high))
+
+    def pixel(self, round_part: float, high: float) -> Pixel:
         yaw = 2 * math.pi * round_part + math.pi / 2
         turned = f"{{ upright: 'z', yaw: {yaw}, pitch: 0.1 }}"
         self.page.run(f"Object.assign(viewer.camera, {turned}), viewer.moved()")
         self.page.until("viewer.isSettled")
         (pixel,) = self.page.run(f"{AT}([{place(round_part, high)}])")
-        return told(pixel)
+        return tuple(pixel)
 
     def test_a_picture_goes_round_to_its_seam(self) -> None:
         self.shown(cylinder(self.folder()))
@@ -120,6 +127,37 @@ class Textured(Case):
         self.assertIn((path.parent / "sides.png").read_bytes(), data)
         spots = told["accessors"][primitives[0]["attributes"]["TEXCOORD_0"]]
         self.assertEqual((spots["type"], spots["count"]), ("VEC2", told["accessors"][0]["count"]))
+
+    def test_a_mesh_saved_as_obj_has_its_materials_in_one_file(self) -> None:
+        path = cylinder(self.folder())
+        self.shown(path)
+        self.page.run("document.getElementById('save-obj').click()")
+        faces = self.page.run("viewer.shown.faceCount")
+        made = zipfile.ZipFile(io.BytesIO(self.page.downloaded(f"cylinder-{faces}.zip")))
+        self.assertIsNone(made.testzip())
+        made.extractall(path.parent)
+        saved = path.with_name(f"cylinder-{faces}.obj")
+        textured = read(saved.read_bytes())
+        assert textured is not None
+        self.assertEqual(textured.pages, ["page-0", "page-1"])
+        self.assertEqual(len(textured.faces), faces)
+        sides, plain = pictures_for(saved, textured.pages, textured.libraries)
+        self.assertEqual(sides.data, (path.parent / "sides.png").read_bytes())
+        self.assertEqual((plain.colour, plain.missing), ((0.0, 0.0, 1.0), ""))
+        for face in textured.faces:
+            for corner, spot in zip(face.corners, face.spots):
+                high = (textured.places[corner][2] + 1000) / 2000
+                self.assertAlmostEqual(textured.spots[spot][1], high, delta=0.02)
+
+    def test_without_light_colours_are_those_of_the_picture(self) -> None:
+        self.shown(cylinder(self.folder()))
+        self.page.key("u")
+        self.page.until("viewer.set.unlit && viewer.isSettled")
+        self.assertEqual([self.pixel(part, 0.75) for part in (0.2, 0.7)],
+                         [RED, GREEN])
+        self.page.run("document.querySelector('input[value=stone]').click()")
+        self.page.until("viewer.set.colour === 'stone' && viewer.isSettled")
+        self.assertNotIn(self.pixel(0.2, 0.75), (RED, WHITE))
 
     def test_a_picture_that_is_missing_is_told(self) -> None:
         path = cylinder(self.folder())

@@ -8,7 +8,7 @@ const COMPARED = "Show the finest level, in up to 1,000,000 triangles, right of 
 const KEYS = [
   ["drag, arrows", "orbit"], ["right or Shift drag, Shift arrows", "pan"],
   ["wheel, two fingers, + and −", "zoom"], ["E, S, O", "wireframe, smooth, turntable"],
-  ["1 2 3 4 5, D", "shading, which error"], ["C, L", "contours, hill shade"],
+  ["1 2 3 4 5, D", "shading, which error"], ["U, C, L", "unlit, contours, hill shade"],
   ["Y, R, P", "other axis up, fit, picture"],
   ["B, G, F, H", "compare, geomorphs, freeze, this drawer"],
 ];
