@@ -33,7 +33,7 @@ def learned(slot: int, bit: bool) -> int:
 
 def log(n: int) -> int:
     top = n.bit_length() - 1
-    return 1024 * top + n * 1024 // 2**top % 1024
+    return 1024 * top + (n * 1024 >> top) % 1024
 
 
 def strength(share: int) -> int:
