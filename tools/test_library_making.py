@@ -121,8 +121,9 @@ class Scales(unittest.TestCase):
         return scale
 
     def test_the_numbers_are_those_of_the_line(self) -> None:
-        for x, y, z in (("2.5", "0", "1e3"), ("-1e-17", "3", "0"), ("-99999999999999.5", "7", "8")):
-            text = f"v {x} {y} {z}\nv 0 0 0\nv 0 -7.25 0\nf 1 2 3\n".encode()
+        for x, y, z, low in (("2.5", "0", "1e3", "-7.25"), ("-1.00000000000000001", "3", "0", "-4"),
+                             ("-99999999999999.5", "7", "8", "-5e13")):
+            text = f"v {x} {y} {z}\nv 0 0 0\nv 0 {low} 0\nf 1 2 3\n".encode()
             scale, told = self.scale_of(text), vdpm.prepare(text)
             with self.subTest(x):
                 self.assertEqual(scale.extent.value(18) / scale.steps, told.scale)
