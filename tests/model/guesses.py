@@ -4,7 +4,7 @@ from typing import List
 
 from .coder import CUT, GREATEST, Writer
 from .faults import Fault
-from .grid import Node, level, normal, place, way
+from .grid import Node, level, normal, way
 from .past import Seen, next_side
 from .shares import OFF_GRID, Shares
 
@@ -95,8 +95,6 @@ class Words(Seen):
 
     def detail(self) -> int:
         f = self.field
-        if f in PLACES:
-            return 1024 * (self.gap_before().bit_length() + 2) + self.place_kind() % 1024
         if f == 17:
             return 2048 + min(self.split().width, 255)
         if f == 26:
@@ -108,13 +106,6 @@ class Words(Seen):
             return 2048 + 2 * abs(a - b).bit_length() + (a < b)
         order = a % 2 + 2 * (b % 2) + 4 * (a < b) + 8 * (abs(a - b) == 1)
         return 1024 * (order + 2) + self.corner_kind()
-
-    def gap_before(self) -> int:
-        """How far t is from s: for t along the axes before, for u along the same."""
-        axis, child = PLACES[self.field]
-        axes = [axis] if child else range(axis)
-        split = self.split()
-        return sum(abs(place(split[i]) - place(self.last[18 + i])) for i in axes)
 
     def turn(self, side: int) -> int:
         return side % 3 * 2 + self.input(side) % 2

@@ -2,43 +2,17 @@
 use Rattle.std.specs.Prelude.{ℕ, ◌+◌, ◌-◌, ◌*◌, ◌%◌, ◌==◌, ◌&&◌, nat_lt, min, max}
 use Rattle.std.specs.Prelude.{if◌then◌else◌, length}
 use Rattle.std.specs.Int.Count.{count_leading_zeros}
-use Rattle.pm_pack.specs.Grids.{place_of}
 use Rattle.pm_pack.specs.Rings.{input_at}
-use Rattle.pm_pack.specs.Pasts.{Seen, word_at, split_node, beyond, edge}
-use Rattle.pm_pack.specs.Kinds.{coordinate_kind, corner_kind}
+use Rattle.pm_pack.specs.Pasts.{Seen, split_node, beyond, edge}
+use Rattle.pm_pack.specs.Kinds.{corner_kind}
 
 -- How many bits a number has.
 abbrev pub bits : ℕ → ℕ
 bits n = 32 - count_leading_zeros 32 n
 
--- How far two numbers are apart, and the places of two coordinates.
+-- How far two numbers are apart.
 abbrev pub gap : ℕ → ℕ → ℕ
 gap a b = max a b - min a b
-
-abbrev pub place_gap : ℕ → ℕ → ℕ
-place_gap a b = gap (place_of a) (place_of b)
-
--- How far t is from s along each axis.
-abbrev pub gap_x : Seen → ℕ
-gap_x seen = place_gap (split_node seen).x (word_at seen 18)
-
-abbrev pub gap_y : Seen → ℕ
-gap_y seen = place_gap (split_node seen).y (word_at seen 19)
-
-abbrev pub gap_z : Seen → ℕ
-gap_z seen = place_gap (split_node seen).z (word_at seen 20)
-
--- How far t is from s along the axes before that of a coordinate of t, along the same one for u.
-unfoldable pub gap_before : Seen → ℕ → ℕ
-gap_before seen field =
-    if field == 18 then 0 else
-    if field == 20 then gap_x seen + gap_y seen else
-    if field == 23 then gap_y seen else
-    if field == 24 then gap_z seen else gap_x seen
-
-abbrev pub coordinate_detail : Seen → ℕ → ℕ
-coordinate_detail seen field =
-    1024 * (bits (gap_before seen field) + 2) + coordinate_kind seen field % 1024
 
 -- How two input words stand to each other: which are odd, whether the first is less, and whether
 -- they are next to each other.
@@ -67,10 +41,6 @@ face_detail seen =
 unfoldable pub detail_of : Seen → ℕ
 detail_of seen =
     if seen.spot.field == 17 then 2048 + min (split_node seen).width 255 else
-    if nat_lt 17 seen.spot.field && nat_lt seen.spot.field 21
-    then coordinate_detail seen seen.spot.field else
-    if nat_lt 21 seen.spot.field && nat_lt seen.spot.field 25
-    then coordinate_detail seen seen.spot.field else
     if seen.spot.field == 26 then 2048 + length seen.ring else
     if nat_lt 26 seen.spot.field && nat_lt seen.spot.field 30 then corner_detail seen else
     if seen.spot.field == 30 then face_detail seen else 0

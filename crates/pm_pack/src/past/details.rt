@@ -1,11 +1,9 @@
 //! What is known of the next word beside its kind.
-ghost use Rattle.std.specs.Prelude.{◌≡◌, ◌≤◌, ◌+◌};
-ghost use Rattle.pm_pack.specs.Details.{bits, gap, place_gap, gap_before, coordinate_detail};
-ghost use Rattle.pm_pack.specs.Details.{order_of, corner_detail};
-ghost use Rattle.pm_pack.specs.Details.{face_detail, detail_of};
+ghost use Rattle.std.specs.Prelude.{◌≡◌, ◌≤◌};
+ghost use Rattle.pm_pack.specs.Details.{bits, gap, order_of};
+ghost use Rattle.pm_pack.specs.Details.{corner_detail, face_detail, detail_of};
 
 use super::Past;
-use crate::grid::place_of;
 
 impl Past {
     /// The detail of the next word, 0 for none.
@@ -16,8 +14,6 @@ impl Past {
         let field = self.spot.field;
         if field == 17 {
             2048 + self.split_node().width.min(255)
-        } else if field > 17 && field < 21 || field > 21 && field < 25 {
-            self.coordinate_detail(field)
         } else if field == 26 {
             2048 + self.ring.as_slice().len() as u32
         } else if field > 26 && field < 30 {
@@ -26,33 +22,6 @@ impl Past {
             self.face_detail()
         } else {
             0
-        }
-    }
-
-    fn coordinate_detail(&self, field: u32) -> u32
-        ensures { result ≡ coordinate_detail self.now field }
-    {
-        1024 * (bits(self.gap_before(field)) + 2) + self.coordinate_kind(field) % 1024
-    }
-
-    // How far t is from s along the axes before that of a coordinate of t, along the same one for
-    // u.
-    #[tactic(auto, unfolding(crate::specs::Details::gap_before))]
-    fn gap_before(&self, field: u32) -> u32
-        ensures { result ≡ gap_before self.now field }
-    {
-        let split = self.split_node();
-        let x = place_gap(split.x, self.word(18));
-        if field == 18 {
-            0
-        } else if field == 20 {
-            x + place_gap(split.y, self.word(19))
-        } else if field == 23 {
-            place_gap(split.y, self.word(19))
-        } else if field == 24 {
-            place_gap(split.z, self.word(20))
-        } else {
-            x
         }
     }
 
@@ -91,13 +60,6 @@ fn gap(a: u32, b: u32) -> u32
     ensures { result ≡ gap a b }
 {
     a.max(b).saturating_sub(a.min(b))
-}
-
-fn place_gap(a: u32, b: u32) -> u32
-    ensures value { result ≡ place_gap a b }
-    ensures most { result ≤ 65535 }
-{
-    gap(place_of(a), place_of(b))
 }
 
 // How two input words stand to each other: which are odd, whether the first is less, and whether

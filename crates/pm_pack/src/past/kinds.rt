@@ -30,7 +30,7 @@ impl Past {
     }
 
     #[tactic(auto, unfolding(crate::specs::Kinds::coordinate_kind))]
-    pub(super) fn coordinate_kind(&self, field: u32) -> u32
+    fn coordinate_kind(&self, field: u32) -> u32
         ensures { result ≡ coordinate_kind self.now field }
     {
         let (first, second) = (self.word(17), self.second_child().width);
