@@ -107,3 +107,31 @@ uint32_t vdpm_extent(vdpm_viewer *, vdpm_box *);
 uint32_t vdpm_level(vdpm_viewer *, vdpm_fineness *);
 uint32_t vdpm_pack(const uint8_t *, size_t, vdpm_made *, vdpm_fault *);
 uint32_t vdpm_unpack(const uint8_t *, size_t, vdpm_made *, vdpm_fault *);
+
+/* Of 1.2. */
+
+SIZE(vdpm_decimal, 24);
+FIELD(vdpm_decimal, whole, 0);
+FIELD(vdpm_decimal, part, 8);
+FIELD(vdpm_decimal, negative, 16);
+
+SIZE(vdpm_scale, 104);
+FIELD(vdpm_scale, extent, 0);
+FIELD(vdpm_scale, middle, 24);
+FIELD(vdpm_scale, steps, 96);
+
+SIZE(vdpm_slots, 16);
+FIELD(vdpm_slots, at, 0);
+FIELD(vdpm_slots, open, 8);
+
+SIZE(vdpm_slots_sizes, 8);
+FIELD(vdpm_slots_sizes, written, 0);
+FIELD(vdpm_slots_sizes, length, 4);
+
+uint32_t vdpm_made_scale(vdpm_made *, vdpm_scale *);
+
+uint32_t vdpm_slots_open(uint32_t, vdpm_slots *);
+uint32_t vdpm_slots_change(vdpm_slots *, const uint32_t *, size_t, const uint32_t *, size_t,
+                           uint32_t *, size_t, vdpm_slots_sizes *);
+uint32_t vdpm_slots_of(vdpm_slots *, const uint32_t *, size_t, uint32_t *, size_t);
+void vdpm_slots_close(vdpm_slots *);
