@@ -31,7 +31,8 @@ class Controls(Page):
             "colour=wire": drawn, "colour=height": drawn, "colour=stone": drawn,
             "colour=own": "0", "contours": drawn, "hillshade": drawn,
             "exaggeration": "viewer.camera.stretch.times", "edges": drawn, "smooth": drawn,
-            "hollows": "viewer.set.hollows", "glide": "viewer.set.glide", "beside": drawn,
+            "hollows": "viewer.set.hollows", "unlit": "viewer.set.unlit",
+            "glide": "viewer.set.glide", "beside": drawn,
             "up=z": drawn, "up=y": drawn,
             "picks": "viewer.set.picks", "save-flight": "told.textContent",
             "summary": "saves.open", "save-picture": "saved", "save-obj": "saved",
@@ -81,7 +82,7 @@ class Controls(Page):
         self.assertEqual(
             self.value(listed),
             "drag, arrows; right or Shift drag, Shift arrows; wheel, two fingers, + and −; "
-            "double click; E, S, O; 1 2 3 4 5, D; V, C, L; Y, R, P; B, G, F, H",
+            "double click; E, S, O; 1 2 3 4 5, D; V, U, C, L; Y, R, P; B, G, F, H",
         )
         yaw, pitch, target = ("viewer.camera.yaw", "viewer.camera.pitch", "viewer.camera.target[1]")
         for key, what in (
@@ -89,7 +90,7 @@ class Controls(Page):
             ("+", "viewer.camera.distance"), ("-", "viewer.camera.distance"),
             ("f", "viewer.set.freeze"), ("f", "viewer.set.freeze"), ("d", "viewer.set.judged"),
             ("2", "viewer.set.colour"), ("4", "viewer.set.colour"), ("5", "viewer.set.colour"),
-            ("1", "viewer.set.colour"), ("v", "viewer.set.hollows"),
+            ("1", "viewer.set.colour"), ("v", "viewer.set.hollows"), ("u", "viewer.set.unlit"),
             ("c", "viewer.set.contours"), ("l", "viewer.set.hillShade"),
             ("e", "viewer.set.edges"), ("s", "viewer.set.smooth"), ("g", "viewer.set.glide"),
             ("b", "viewer.set.beside"), ("y", "viewer.set.upright"), ("r", yaw),

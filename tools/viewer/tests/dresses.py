@@ -150,6 +150,11 @@ class Dressing(Case):
             self.assertEqual(got, [tuple(one) for one in wanted])
 
 
+# Places of the file in units of the mesh, which `prepare` may have scaled.
+IN_UNITS = """((places, scale) => places.map((place) =>
+  place.map((c, axis) => scale ? (c - scale.middle[axis]) / scale.unit : c)))"""
+
+
 class Dropped(alone.Page):
     """A textured file that is dropped with its materials and pictures."""
 
@@ -170,7 +175,7 @@ class Dropped(alone.Page):
         turned = f"{{ upright: 'z', yaw: {yaw}, pitch: 0.1 }}"
         self.value(f"Object.assign(viewer.camera, {turned}), viewer.moved()")
         self.page.until("viewer.isSettled")
-        (pixel,) = self.value(f"{AT}([{place(round_part, high)}])")
+        (pixel,) = self.value(f"{AT}({IN_UNITS}([{place(round_part, high)}], viewer.about.scale))")
         return told(pixel)
 
     def shows_its_pictures(self) -> None:
