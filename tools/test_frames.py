@@ -95,6 +95,25 @@ class WritingObj(unittest.TestCase):
             self.assertEqual(names, ["glide-1.obj", "glide-2.obj", "glide-3.obj"])
             self.assertIn("v -0.50 0.00 0.50\n", (Path(folder) / "glide-1.obj").read_text())
 
+    def test_coordinates_of_the_file_that_was_prepared(self) -> None:
+        with tempfile.TemporaryDirectory() as folder:
+            mesh = Path(folder) / "mesh.obj"
+            for first, written in (
+                ("# coordinate = 5.0 / 2 * place + (1.25 -3.0 0.0)", "v -123.75 -3.0 125.0\n"),
+                ("# coordinates as they stood", "v -50 0 50\n"),
+                ("v 1 2 3", None),
+            ):
+                mesh.write_text(f"{first}\nv 0 0 0\n", encoding="ascii")
+                words = [f"{folder}/glide", "--scale", str(mesh)]
+                done = run("frames_to_obj.py", words, GLIDE.read_text())
+                with self.subTest(first):
+                    if written is None:
+                        self.assertEqual(done.returncode, 2)
+                        self.assertIn("doesn't begin as what `prepare` writes", done.stderr)
+                    else:
+                        self.assertEqual(done.returncode, 0, done.stderr)
+                        self.assertIn(written, (Path(folder) / "glide-1.obj").read_text())
+
 
 class Drawing(unittest.TestCase):
     def test_only_faces_that_are_turned_to_the_eye_are_drawn(self) -> None:
