@@ -23,10 +23,11 @@ use std::io;
 /// Packs a stream text, or with `--unpack` unpacks a packed text, and answers the exit status.
 ///
 /// `args` are the program's name and the words after it, or why they couldn't be gathered. Of the
-/// input the first 2^30 bytes are looked at, and at most 4,095 more are read. What ended the work
-/// early is said on `err`. Status 0: all was done. 1: the input has a fault. 2: the words are none
-/// of the forms. 3: a read failed. 4: a write to `out` failed. 5: memory was wanted, before the
-/// first byte of output.
+/// input the first 2^30 bytes are looked at, and at most 4,095 more are read. `--help` or
+/// `--version` alone asks for a text, and nothing is read. What ended the work early is said on
+/// `err`. Status 0: all was done. 1: the input has a fault. 2: the words are none of the forms. 3:
+/// a read failed. 4: a write to `out` failed. 5: memory was wanted, before the first byte of
+/// output.
 pub fn run<S: Source, K: Sink, E: Sink>(
     alloc: Global,
     args: io::Result<Args>,

@@ -73,9 +73,10 @@ fn obey<S: Source, K: Sink>(
 /// words, points that fit the grid stand as they are, and others are scaled by their box; with one
 /// word, a size from 1 to 32,767, the longest axis of the box goes from -size to size. `out` gains
 /// a line that tells how places lead back to coordinates, and then the canonical text of the mesh;
-/// `err` gains a line for each kind of change. Status 0: all was done. 1: the input has a fault. 2:
-/// the words aren't understood. 3: a read failed before the bytes that decide the outcome were
-/// taken. 4: a write to `out` failed. 5: memory was wanted, before the first byte of output.
+/// `err` gains a line for each kind of change. `--help` or `--version` alone asks for a text, and
+/// nothing is read. Status 0: all was done. 1: the input has a fault. 2: the words aren't
+/// understood. 3: a read failed before the bytes that decide the outcome were taken. 4: a write to
+/// `out` failed. 5: memory was wanted, before the first byte of output.
 pub fn run<S: Source, K: Sink, E: Sink>(
     alloc: Global,
     args: io::Result<Args>,
