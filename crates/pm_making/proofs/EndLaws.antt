@@ -33,6 +33,7 @@ stream_of IsMade asks digits text bytes all is shows back =
       made = shows.built;
       bytes = some_inner shows.gained;
       notes = refl;
+      scale = refl;
       back = back;
     })
 

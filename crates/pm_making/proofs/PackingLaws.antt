@@ -8,7 +8,7 @@ pub packed_of : (stream bytes : List ℕ) (all : MadeText)
     → all ≡ record { bytes = bytes; notes = []; scale = None } → IsPacked bytes stream
     → IsPackedOf stream all
 packed_of stream bytes all is packed =
-    subst (IsPackedOf stream) (sym is) (record { is = packed; notes = refl })
+    subst (IsPackedOf stream) (sym is) (record { is = packed; notes = refl; scale = refl })
 
 pub unpacked_of : (packed bytes notes : List ℕ) (all : MadeText)
     → all ≡ record { bytes = bytes; notes = notes; scale = None } → notes ≡ []
@@ -16,4 +16,4 @@ pub unpacked_of : (packed bytes notes : List ℕ) (all : MadeText)
     → ((text : List ℕ) → IsPacked packed text → bytes ≡ text) → IsUnpackedOf packed all
 unpacked_of packed bytes notes all is none packs alone =
     subst (IsUnpackedOf packed) (sym is)
-    (record { is = packs; alone = alone; notes = none })
+    (record { is = packs; alone = alone; notes = none; scale = refl })

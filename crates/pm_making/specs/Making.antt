@@ -20,7 +20,7 @@ pub record MadeText : Type 0 where
 
 -- The bytes are the stream text of a hierarchy that is made of the text, where `IsMade` says which,
 -- and lead back to the text's mesh: `expand` does with them what `canon` does with the text.
--- Nothing is said beside them.
+-- Nothing is said beside them, and no scale is told.
 pub record IsStreamOf
     (IsMade : List ℕ → Result Hierarchy Fault → Option ℕ → Type 0) (asks : Asked) (digits : ℕ)
     (text : List ℕ) (all : MadeText) : Type 0 where
@@ -28,6 +28,7 @@ pub record IsStreamOf
   pub made : IsMade text (Ok h) None
   pub bytes : all.bytes ≡ stream digits h
   pub notes : all.notes ≡ []
+  pub scale : all.scale ≡ None
   pub back : GivesMeshBack asks text (Some []) (Some all.bytes)
 
 -- Why no stream is made of a text: the text has a fault. Want of memory is none of its own.
