@@ -132,6 +132,16 @@ pub record IsShaping (g : Grown) (left_due right_due : Bool) (vertices faces : L
     pub faces_marked : AreMarked faces (face_inputs (faces_of (grown g)))
     pub face_flags : length faces ≡ MOST_FACES
 
+-- All roots and base faces are there, and the first records, and no unit has a fault.
+pub record HasBegun (c : Counts) (h : Hierarchy) : Type 0 where
+  pub counts : counts_are_bad c ≡ false
+  pub roots : AllFit (root_fault c) [] h.roots
+  pub bases : AllFit (base_fault h.roots) [] h.bases
+  pub records : AllFit (record_fault_after h.roots h.bases) [] h.records
+  pub all_roots : length h.roots ≡ c.roots
+  pub all_bases : length h.bases ≡ c.bases
+  pub few : length h.records ≤ c.records
+
 -- A record whose faces are due, as contracts see it.
 abbrev pub unfinished : Bool → Bool → Record → Unfinished
 unfinished left_due right_due r = record { split = r; left_due = left_due; right_due = right_due }

@@ -135,7 +135,7 @@ fn set_face(coming: &mut Option<Record>, left: bool, face: NewFace)
 
 impl Growing {
     /// A forest with no unit yet. All its memory is taken here.
-    pub fn new(alloc: Global, counts: Counts) -> Result<Growing, OutOfMemory>
+    pub(crate) fn new(alloc: Global, counts: Counts) -> Result<Growing, OutOfMemory>
         requires { counts_are_bad counts ≡ false }
         ensures { IfOk result
             (λ g. g ≡ record {
@@ -162,7 +162,7 @@ impl Growing {
     }
 
     /// Takes the next root in. It takes as many steps as the root has leaves.
-    pub fn add_root(&mut self, root: Root)
+    pub(crate) fn add_root(&mut self, root: Root)
         requires next { length self.old.h.roots < self.old.counts.roots }
         requires leaves { sum (widths_of self.old.h.roots) + root.width ≤ self.old.counts.leaves }
         ensures { self.new
@@ -182,7 +182,7 @@ impl Growing {
     }
 
     /// Takes the next base face in.
-    pub fn add_base(&mut self, face: Face)
+    pub(crate) fn add_base(&mut self, face: Face)
         requires roots { length self.old.h.roots ≡ self.old.counts.roots }
         requires next { length self.old.h.bases < self.old.counts.bases }
         ensures { self.new
@@ -194,7 +194,7 @@ impl Growing {
     }
 
     /// Takes the next record in, whose faces are still to come.
-    pub fn add_record(&mut self, split: Record)
+    pub(crate) fn add_record(&mut self, split: Record)
         requires roots { length self.old.h.roots ≡ self.old.counts.roots }
         requires bases { length self.old.h.bases ≡ self.old.counts.bases }
         requires next { record_count self.old.h < self.old.counts.records }
@@ -224,7 +224,7 @@ impl Growing {
     }
 
     /// Takes the next face of the coming record in: its left face, or its right face.
-    pub fn add_face(&mut self, left: bool, face: NewFace)
+    pub(crate) fn add_face(&mut self, left: bool, face: NewFace)
         requires coming { IfSome self.old.coming (λ r. is_some (if left then r.left else r.right)
             ≡ false) }
         requires there { is_some self.old.coming ≡ true }
@@ -241,7 +241,7 @@ impl Growing {
     }
 
     /// Puts the coming record to the others.
-    pub fn settle(&mut self)
+    pub(crate) fn settle(&mut self)
         requires { is_some self.old.coming ≡ true }
         ensures { IfSome self.old.coming
             (λ r. self.new ≡ record self.old { h = with_record self.old.h r; coming = None }) }

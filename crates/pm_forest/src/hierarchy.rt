@@ -7,6 +7,7 @@ ghost use Rattle.pm_forest.specs.Faces.{faces_of, face_count, revealed_by, corne
 ghost use Rattle.pm_forest.specs.Faces.{no_face_corners};
 ghost use Rattle.pm_forest.specs.Places.{place_of_node};
 ghost use Rattle.pm_forest.specs.Rules.{HasShape, counts_of};
+ghost use Rattle.pm_forest.specs.Shaping.{HasBegun};
 ghost use Rattle.pm_forest.specs.Tables.{leaf_node_of};
 
 use crate::growing::Growing;
@@ -49,6 +50,15 @@ impl Hierarchy {
         ensures { HasShape self.now }
     {
         let _ = &self.forest;
+    }
+
+    /// Its forest, which has all its units.
+    pub fn forest(&self) -> &Growing
+        ensures units { result.now.h ≡ self.now }
+        ensures begun { HasBegun result.now.counts self.now }
+        ensures whole { result.now.coming ≡ None }
+    {
+        &self.forest
     }
 
     /// How many roots there are.

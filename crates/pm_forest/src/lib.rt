@@ -14,6 +14,7 @@ mod readers;
 mod shaper;
 mod theory;
 
+pub use growing::Growing;
 pub use hierarchy::Hierarchy;
 pub use parts::{
     Child, Counts, Face, FaceList, Head, NewFace, Record, Records, Root, Roots, Shape, Unfinished,

@@ -1,12 +1,12 @@
 //! Takes a hierarchy in unit by unit, and refuses the first unit that breaks a rule of shape.
-ghost use Rattle.std.specs.Prelude.{true, false, ◌≡◌, ◌+◌, ◌⊎◌, [], ◌∷◌, ◌++◌, None};
+ghost use Rattle.std.specs.Prelude.{true, false, ◌≡◌, ◌+◌, ◌⊎◌, ◌↔◌, [], ◌∷◌, ◌++◌, None};
 ghost use Rattle.std.specs.Prelude.{Some, OnOk, OnErr, IfOk, IfErr, IfSome};
 ghost use Rattle.pm_forest.specs.declared.parts.Counts.{Counts};
 ghost use Rattle.pm_forest.specs.declared.parts.UnitKind.TheVariants as kinds;
 ghost use Rattle.pm_forest.specs.Rules.{counts_are_bad, root_fault, base_fault, head_fault};
 ghost use Rattle.pm_forest.specs.Rules.{new_face_fault, past_fault};
 ghost use Rattle.pm_forest.specs.Shaping.{expects, nothing_in, next_root, next_face, started};
-ghost use Rattle.pm_forest.specs.Shaping.{settled, with_face, so_far};
+ghost use Rattle.pm_forest.specs.Shaping.{settled, with_face, so_far, HasBegun};
 
 use crate::face_faults::{neighbour, new_face_fault, past_fault};
 use crate::faults::{are_counts_bad, base_fault, next_record, next_root};
@@ -120,6 +120,21 @@ impl Shaper {
             UnitKind::Head
         } else {
             UnitKind::Nothing
+        }
+    }
+
+    /// What was taken in, once all roots and base faces were.
+    pub fn begun(&self) -> Option<&Growing>
+        ensures none { (result ≡ None)
+            ↔ ((expects self.now ≡ kinds.Root) ⊎ (expects self.now ≡ kinds.Base)) }
+        ensures units { IfSome result (λ forest. forest.now.h ≡ self.now.h) }
+        ensures begun { IfSome result (λ forest. HasBegun forest.now.counts self.now.h) }
+    {
+        match self.expects() {
+            UnitKind::Root | UnitKind::Base => None,
+            UnitKind::Head | UnitKind::LeftFace | UnitKind::RightFace | UnitKind::Nothing => {
+                Some(&self.forest)
+            }
         }
     }
 
