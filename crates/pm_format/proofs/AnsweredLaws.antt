@@ -19,7 +19,7 @@ use Rattle.pm_format.specs.declared.stage.Stage.TheVariants as stages
 use Rattle.pm_format.specs.Words.{IsBytes}
 use Rattle.pm_format.specs.Reading.{digits_at, header_at}
 use Rattle.pm_format.specs.Faults.{magic_is_bad, named, stream_fault}
-use Rattle.pm_format.specs.Decoding.{unit_words, ReadsOn}
+use Rattle.pm_format.specs.Decoding.{unit_words, IsWaiting, ReadsOn}
 use Rattle.pm_format.specs.Decoding.{ReadingStopsAt, Fours}
 use Rattle.pm_format.specs.Standing.{GoesOn, BeginsHeader, IsText, HasFaultAlready, StandsAfter}
 use Rattle.pm_format.specs.Standing.{IsSoundDecoding, Settles, takes_more, digits_of, DecoderTells}
@@ -37,13 +37,14 @@ bytes_take (suc n) (x ∷ l) fit (suc i) = bytes_take n l (λ j. fit (suc j)) i
 -- Units were taken, and the shaper settles.
 pub settled_stands : (bytes held piece kept : List ℕ) (n digits : ℕ) (s t : Shaping) (stage : Stage)
     → GoesOn bytes digits s held → IsBytes piece → n ≤ length piece
-    → ReadsOn s held (take n piece) t kept
+    → ReadsOn s held (take n piece) t kept → IsWaiting t
     → Fours (length held + n) (length kept) → (length kept < 4 * unit_words (expects t))
     ⊎ (kept ≡ []) → Settles digits t stage → StandsAfter (bytes ++ take n piece) stage kept
-settled_stands bytes held piece kept n digits s t stage stands fit within on fours short settles =
+settled_stands bytes held piece kept n digits s t stage stands fit within on waits fours short
+    settles =
     let len : length (take n piece) ≡ n = length-take-le n piece within in
     let g = goes_on bytes held (take n piece) kept digits s t stands (bytes_take n piece fit) on
-    (subst (λ (k : ℕ). Fours (length held + k) (length kept)) (sym len) fours) in
+    waits (subst (λ (k : ℕ). Fours (length held + k) (length kept)) (sym len) fours) in
     go stage g settles
   where
     none : (k : UnitKind) → k ≡ kinds.Nothing → (length kept < 4 * unit_words k) ⊎ (kept ≡ [])

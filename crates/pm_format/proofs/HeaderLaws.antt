@@ -95,6 +95,7 @@ header_whole bytes ws rest digits c fit short same good is told few counts =
       reads = λ more. forest_is (words_of (bytes ++ more)) c (words_of more) (on more) counts
           ∙ sym (from_start c (words_of more));
       fours = record { fours = length (words_of bytes); is = omega (arith, len) };
+      waits = tt;
     }
 
 pub room_at_first : (c : Counts) → counts_are_bad c ≡ false

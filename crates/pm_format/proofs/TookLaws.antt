@@ -21,7 +21,7 @@ use Rattle.pm_format.specs.Words.{words_of}
 use Rattle.pm_format.specs.Reading.{read_map, fitting, root_at, base_at, head_at}
 use Rattle.pm_format.specs.Reading.{new_face_at, FaceUnit, root_after, base_after, face_after}
 use Rattle.pm_format.specs.Reading.{took_root, took_base, took_face}
-use Rattle.pm_format.specs.Decoding.{rest_from, IsWaiting, due_bytes, begun_count}
+use Rattle.pm_format.specs.Decoding.{rest_from, HasBases, IsWaiting, due_bytes, begun_count}
 use Rattle.pm_format.specs.Decoding.{bytes_to_come, took_head, TakenIn, ReadingStopsAt}
 use Rattle.pm_format.proofs.ReadingLaws.{read_map_ok}
 use Rattle.pm_format.proofs.FaceSteps.{face_in, after_left, after_right}
@@ -155,7 +155,7 @@ head_took s t unit ws rest r next size is read =
     (λ u was.
     let left = one_if-le (not (eqb u.0.presence 2)) in
     let right = one_if-le (not (eqb u.0.presence 1)) in (
-      presence_some u.0.presence,
+      (presence_some u.0.presence, record { roots = e.1; bases = e.2 }),
       omega (arith, e.3, ap due_bytes e.0, ap begun_count e.0, left, right, size),
     ))
     t rest r read
@@ -189,9 +189,9 @@ face_alone h p unit size =
 
 -- a shaper waits where something is due
 settled_waits : (c : Counts) (h : Hierarchy) (q : Unfinished) (due : Bool)
-    → q.left_due || q.right_due ≡ due → IsWaiting (settled c h q)
-settled_waits c h q true is = rw is is
-settled_waits c h q false is = rw is tt
+    → q.left_due || q.right_due ≡ due → HasBases c h → IsWaiting (settled c h q)
+settled_waits c h q true is full = rw is (is, full)
+settled_waits c h q false is full = rw is tt
 
 settled_less : (c : Counts) (h : Hierarchy) (q : Unfinished) (due : Bool)
     → q.left_due || q.right_due ≡ due
@@ -217,10 +217,11 @@ face_less h p ws q false false is_left is_right due is = absurd cc
 
 face_took_of : (s t : Shaping) (p : Unfinished) (unit ws rest : List ℕ)
     (r : Result (Unit {0}) Stop) → ws ≡ words_of unit
-    → s.coming ≡ Some p → p.left_due || p.right_due ≡ true → length unit ≡ 24
+    → s.coming ≡ Some p → p.left_due || p.right_due ≡ true → HasBases s.counts s.h
+    → length unit ≡ 24
     → MatchResult r (λ _. read_map (took_face s) (face_after s.h p ws) ≡ Ok (t, rest))
     (λ e. face_after s.h p ws ≡ Err e) → Took s unit r t
-face_took_of s t p unit ws rest r is coming due size read =
+face_took_of s t p unit ws rest r is coming due full size read =
     took_unit s unit ws is (λ x. (took_face s (x, [])).0) (face_after s.h p)
     (face_alone s.h p unit size)
     (λ v u was. rw coming (face_on s.counts s.h p v u due was))
@@ -228,7 +229,7 @@ face_took_of s t p unit ws rest r is coming due size read =
     (λ u was.
     let less = settled_less s.counts s.h u.0 (u.0.left_due || u.0.right_due) refl in
     let one = face_less s.h p (words_of unit) u p.left_due p.right_due refl refl due was in (
-      settled_waits s.counts s.h u.0 (u.0.left_due || u.0.right_due) refl,
+      settled_waits s.counts s.h u.0 (u.0.left_due || u.0.right_due) refl full,
       omega (arith, less, one, ap due_bytes coming, ap begun_count coming, size),
     ))
     t rest r read
@@ -241,13 +242,14 @@ face_coming s (inr right) none = let e = expected s kinds.RightFace right in abs
 
 face_took_at : (s t : Shaping) (unit ws rest : List ℕ) (r : Result (Unit {0}) Stop)
     (coming : Option Unfinished) → s.coming ≡ coming → (coming ≡ None → ⊥)
-    → IfSome coming (λ p. p.left_due || p.right_due ≡ true) → length unit ≡ 24 → ws ≡ words_of unit
+    → IfSome coming (λ p. (p.left_due || p.right_due ≡ true) × HasBases s.counts s.h)
+    → length unit ≡ 24 → ws ≡ words_of unit
     → IfSome coming
     (λ p. MatchResult r (λ _. read_map (took_face s) (face_after s.h p ws) ≡ Ok (t, rest))
     (λ e. face_after s.h p ws ≡ Err e)) → Took s unit r t
-face_took_at s t unit ws rest r None coming some due size is read = absurd (some refl)
-face_took_at s t unit ws rest r (Some p) coming some due size is read =
-    face_took_of s t p unit ws rest r is coming due size read
+face_took_at s t unit ws rest r None coming some waits size is read = absurd (some refl)
+face_took_at s t unit ws rest r (Some p) coming some waits size is read =
+    face_took_of s t p unit ws rest r is coming waits.0 waits.1 size read
 
 pub face_took : (s t : Shaping) (unit ws rest : List ℕ) (r : Result (Unit {0}) Stop)
     → (expects s ≡ kinds.LeftFace) ⊎ (expects s ≡ kinds.RightFace) → IsWaiting s → length unit ≡ 24
