@@ -39,7 +39,7 @@ VERSION = "1.2.0, of the proved sources; the script beside it tells whether it i
 
 def told(program: str, words: List[str]) -> Optional[Answer]:
     """What a program tells of itself, where that is all that is asked for."""
-    if program not in ("prepare", "pack", "paint"):
+    if program not in ("prepare", "simplify", "pack", "paint"):
         return None
     if words == ["--help"]:
         return Answer(0, (USAGES / program).read_bytes(), "")

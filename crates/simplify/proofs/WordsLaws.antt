@@ -1,6 +1,6 @@
--- The last of the words tells whether the border is kept.
-use Rattle.std.proofs.Common.{◌≡◌, ℕ, ◌-◌, ◌+◌, Bool, true, false, List, [], ◌∷◌, ◌++◌, length}
-use Rattle.std.proofs.Common.{take, String, slice_index_or}
+-- The last of the words tells whether the border is kept, and a text asks for no work.
+use Rattle.std.proofs.Common.{◌≡◌, ℕ, ◌-◌, Bool, true, false, List, [], ◌∷◌, ◌++◌, length}
+use Rattle.std.proofs.Common.{take, String, slice_index_or, Option, Some, None, IfSome}
 use Rattle.std.proofs.Common.{map, if◌then◌else◌, refl, sym, ◌∙◌, ap, arith, length-append}
 use Rattle.std.specs.Prelude.{nat_eq, codes}
 use Rattle.std.specs.String.{string_bytes}
@@ -9,8 +9,12 @@ use Rattle.std.specs.declared.alloc.Global.{Global}
 use Rattle.std.proofs.Math.Seq.{get_or-append_seam, take-append_seam}
 use Rattle.std.proofs.lemmas.Bool.{false≢true}
 use Rattle.std.proofs.lemmas.List.{map-append}
+use Rattle.pm_program.specs.declared.request.Request.{Request}
+use Rattle.pm_program.specs.declared.request.Request.TheVariants as requests
+use Rattle.pm_program.specs.Requests.{text_asked}
+use Rattle.pm_commands.specs.declared.asked.Asked.{Asked}
 use Rattle.pm_commands.specs.declared.asked.Border.TheVariants as borders
-use Rattle.simplify.specs.Words.{with_border, last_word, asked_of}
+use Rattle.simplify.specs.Words.{with_border, last_word, work_of, IsPossible}
 
 pick_true : {A : Type 0} (test : Bool) (a b : A) → test ≡ true → (if test then a else b) ≡ a
 pick_true true a b is = refl
@@ -42,8 +46,8 @@ module _ (words before : List (String Global)) (last : String Global) (are : wor
 
   pub last_kept :
       pointwise nat_eq (string_bytes last) (codes "--keep-border") ≡ true →
-      asked_of (map string_bytes words) ≡ with_border borders.Kept (map string_bytes before)
-  unfolding asked_of
+      work_of (map string_bytes words) ≡ with_border borders.Kept (map string_bytes before)
+  unfolding work_of
   last_kept flag =
       let fronts =
       ap (λ l. take (length l - 1) l) spelled
@@ -53,14 +57,24 @@ module _ (words before : List (String Global)) (last : String Global) (are : wor
 
   pub last_free :
       pointwise nat_eq (string_bytes last) (codes "--keep-border") ≡ false →
-      asked_of (map string_bytes words) ≡ with_border borders.Free (map string_bytes words)
-  unfolding asked_of
+      work_of (map string_bytes words) ≡ with_border borders.Free (map string_bytes words)
+  unfolding work_of
   last_free no_flag =
       pick_false _ _ _ (ap (λ w. pointwise nat_eq w (codes "--keep-border")) last_bytes ∙ no_flag)
 
 pub no_last :
     (words : List (String Global)) → length words ≡ 0 →
-    asked_of (map string_bytes words) ≡ with_border borders.Free (map string_bytes words)
-unfolding asked_of
+    work_of (map string_bytes words) ≡ with_border borders.Free (map string_bytes words)
+unfolding work_of
 no_last [] none = refl
 no_last (w ∷ ws) none = absurd (omega (arith, none))
+
+possible : (help version : Bool) (h v : Request Asked) → IsPossible h → IsPossible v
+    → IfSome (if help then Some h else if version then Some v else None) IsPossible
+possible true version h v a b = a
+possible false true h v a b = b
+possible false false h v a b = tt
+
+pub texts_are_possible : (word : List ℕ) (r : Option (Request Asked)) → r ≡ text_asked word
+    → IfSome r IsPossible
+texts_are_possible word r is = rw is (possible _ _ requests.Help requests.Version tt tt)

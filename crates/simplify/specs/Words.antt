@@ -1,12 +1,17 @@
 -- The words of a command line.
-use Rattle.std.specs.Prelude.{ℕ, ◌-◌, nat_eq, List, [], ◌∷◌, length, take, slice_index_or, Option}
-use Rattle.std.specs.Prelude.{Some, None, if◌then◌else◌, codes}
+use Rattle.std.specs.Prelude.{ℕ, ◌-◌, ◌≤◌, nat_eq, List, [], ◌∷◌, length, take, slice_index_or}
+use Rattle.std.specs.Prelude.{Option, Some, None, if◌then◌else◌, codes}
+use Rattle.std.specs.Option.{option_or, option_map}
 use Rattle.std.specs.Cmp.Lexicographic.{pointwise}
 use Rattle.pm_io.specs.Digits.{unsigned_of}
+use Rattle.pm_program.specs.declared.request.Request.{Request}
+use Rattle.pm_program.specs.declared.request.Request.TheVariants as requests
+use Rattle.pm_program.specs.Requests.{text_asked}
 use Rattle.pm_commands.specs.declared.asked.Border.{Border}
 use Rattle.pm_commands.specs.declared.asked.Border.TheVariants as borders
 use Rattle.pm_commands.specs.declared.asked.Asked.{Asked}
 use Rattle.pm_commands.specs.declared.asked.Asked.TheVariants as asked
+use Rattle.pm_commands.specs.Asked.{digits_asked, HasSize}
 
 -- What a number of faces asks for, and what a number of decimals after `--digits` does.
 abbrev pub with_target : Border → Option ℕ → Option Asked
@@ -35,10 +40,25 @@ with_border border _ = None
 abbrev pub last_word : List (List ℕ) → List ℕ
 last_word words = slice_index_or words (length words - 1) []
 
--- What the words ask for. The border is kept where the last word is `--keep-border`, and the words
--- before it ask for the rest; else it is free.
-unfoldable pub asked_of : List (List ℕ) → Option Asked
-asked_of words =
+-- The work that the words ask for. The border is kept where the last word is `--keep-border`, and
+-- the words before it ask for the rest; else it is free.
+unfoldable pub work_of : List (List ℕ) → Option Asked
+work_of words =
     if pointwise nat_eq (last_word words) (codes "--keep-border")
     then with_border borders.Kept (take (length words - 1) words)
     else with_border borders.Free words
+
+-- The text that the words ask for: `--help` or `--version`, which stand alone.
+abbrev pub text_of : List (List ℕ) → Option (Request Asked)
+text_of (word ∷ []) = text_asked word
+text_of _ = None
+
+-- What the words ask for: a text, or else work. Other words ask for nothing.
+unfoldable pub asked_by : List (List ℕ) → Option (Request Asked)
+asked_by words = option_or (text_of words) (option_map (λ a. requests.Work a) (work_of words))
+
+-- The work that is asked for is in range.
+abbrev pub IsPossible : Request Asked → Type 0
+IsPossible (requests.Work asked) = (digits_asked asked ≤ 4) × HasSize asked
+IsPossible requests.Help = Unit {0}
+IsPossible requests.Version = Unit {0}

@@ -1,10 +1,11 @@
 //! The program over its arguments, the first of which is its name.
-ghost use Rattle.std.specs.Prelude.{◌≡◌, ◌⊎◌, false, codes};
+ghost use Rattle.std.specs.Prelude.{◌≡◌, ◌⊎◌, false, None, codes};
 ghost use Rattle.pm_io.specs.Devices.{Unput, Tells};
 ghost use Rattle.pm_io.specs.Endings.{Untouched, SaysEnding};
 ghost use Rattle.pm_program.specs.Endings.{Endings};
-ghost use Rattle.pm_commands.specs.declared.asked.Asked.{Asked};
-ghost use Rattle.simplify.specs.Asking.{ArgsAsk};
+ghost use Rattle.pm_program.specs.Requests.{TellsTexts};
+ghost use Rattle.simplify.specs.Help.{help_text};
+ghost use Rattle.simplify.specs.Asking.{asked_of, ArgsAsk};
 ghost use Rattle.simplify.specs.Endings.{Obeys};
 
 use crate::run::run;
@@ -30,11 +31,16 @@ pub fn answer<S: Source, K: Sink, E: Sink>(
     ensures endings { Endings S.Source K.Sink E.Sink args result input.old input.new out.old out.new
         err.old err.new }
     // Words that ask for nothing are refused, and only they.
-    ensures refused { ((asked : Asked) → ArgsAsk args asked → ⊥) → (result ≡ 2) ⊎ (result ≡ 5) }
-    ensures known { result ≡ 2 → (asked : Asked) → ArgsAsk args asked → ⊥ }
+    ensures refused { asked_of args ≡ None → (result ≡ 2) ⊎ (result ≡ 5) }
+    ensures known { result ≡ 2 → asked_of args ≡ None }
     // What was asked for was done, or the status tells why not.
     ensures obeys { Obeys S.Source K.Sink E.Sink (λ a. ArgsAsk args a) result input.old input.new
         out.old out.new err.old err.new }
+    // A text that was asked for is told, unless the words can't be gathered for want of memory.
+    ensures texts { ((result ≡ 5)
+        × Untouched S.Source K.Sink input.old input.new out.old out.new)
+        ⊎ TellsTexts S.Source K.Sink E.Sink (codes "simplify") help_text (asked_of args) result
+        input.old input.new out.old out.new err.old err.new }
     ensures said { SaysEnding E.Sink (codes "simplify") result err.old err.new }
     // Where memory is wanted it is said, but where the words can't be gathered: then nothing is
     // read or put.

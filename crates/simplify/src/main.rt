@@ -3,6 +3,7 @@
 #![tactic(auto)]
 
 mod args;
+mod help;
 mod run;
 mod words;
 

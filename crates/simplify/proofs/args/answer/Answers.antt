@@ -1,25 +1,38 @@
-use Rattle.std.proofs.Common.{inr}
+use Rattle.std.proofs.Common.{inl, inr, sym, ◌∙◌}
 use Rattle.std.specs.Prelude.{codes}
-use Rattle.simplify.specs.Words.{asked_of}
+use Rattle.simplify.specs.Help.{help_text}
 use Rattle.simplify.specs.Asking.{Asks, ArgsAsk}
-use Rattle.pm_commands.proofs.ArgsLaws.{words_ask, refused_words}
 use Rattle.pm_commands.proofs.EndingLaws.{ungathered_says}
 use Rattle.pm_program.proofs.EndingLaws.{ends_ungathered}
-use Rattle.simplify.proofs.EndingLaws.{obeys_of}
+use Rattle.simplify.proofs.EndingLaws.{obeys_of, same_asked, texts_of}
 use Rattle.simplify.proofs.args.answer.Goals as goal
 
 pub returns-in-Ok-words_after_name-clause-refused :
     goal.returns-in-Ok-words_after_name-clause-refused
-returns-in-Ok-words_after_name-clause-refused g c =
-    refused_words asked_of _ _ _ _ c.in-Ok.is c.in-Ok-words_after_name.ensures c.deref.ensures.value
-    _ c.run.ensures.refused
+returns-in-Ok-words_after_name-clause-refused g c = λ none.
+    let same =
+    same_asked _ _ _ _ c.in-Ok.is c.in-Ok-words_after_name.ensures c.deref.ensures.value in
+    inl (c.run.ensures.refused (sym same ∙ none))
+
+pub returns-in-Ok-words_after_name-clause-known : goal.returns-in-Ok-words_after_name-clause-known
+returns-in-Ok-words_after_name-clause-known g c = λ two.
+    let same =
+    same_asked _ _ _ _ c.in-Ok.is c.in-Ok-words_after_name.ensures c.deref.ensures.value in
+    same ∙ c.run.ensures.known two
 
 pub returns-in-Ok-words_after_name-clause-obeys : goal.returns-in-Ok-words_after_name-clause-obeys
 returns-in-Ok-words_after_name-clause-obeys g c =
+    let same =
+    same_asked _ _ _ _ c.in-Ok.is c.in-Ok-words_after_name.ensures c.deref.ensures.value in
     obeys_of g.S.Source g.K.Sink g.E.Sink (λ a. Asks c.deref.result.now a)
-    (λ a. ArgsAsk c.args.args a) _ _ _ _ _ _ _
-    (words_ask asked_of _ _ _ _ c.in-Ok.is c.in-Ok-words_after_name.ensures c.deref.ensures.value)
-    c.run.ensures.obeys
+    (λ a. ArgsAsk c.args.args a) _ _ _ _ _ _ _ (λ a asks. sym same ∙ asks) c.run.ensures.obeys
+
+pub returns-in-Ok-words_after_name-clause-texts : goal.returns-in-Ok-words_after_name-clause-texts
+returns-in-Ok-words_after_name-clause-texts g c =
+    let same =
+    same_asked _ _ _ _ c.in-Ok.is c.in-Ok-words_after_name.ensures c.deref.ensures.value in
+    inr (texts_of g.S.Source g.K.Sink g.E.Sink (codes "simplify") help_text _ _ _ _ _ _ _ _ _ same
+    c.run.ensures.texts)
 
 pub returns-in-Ok-words_after_name-clause-said : goal.returns-in-Ok-words_after_name-clause-said
 returns-in-Ok-words_after_name-clause-said g c = c.run.ensures.said.ending

@@ -3,7 +3,7 @@ use Rattle.std.specs.Prelude.{codes}
 use Rattle.std.specs.String.{string_bytes}
 use Rattle.std.specs.Cmp.Lexicographic.{pointwise}
 use Rattle.simplify.proofs.WordsLaws.{last_kept, last_free}
-use Rattle.simplify.proofs.words.read_words.Goals as goal
+use Rattle.simplify.proofs.words.read_work.Goals as goal
 
 pub returns-then-eq-clause-asked : goal.returns-then-eq-clause-asked
 returns-then-eq-clause-asked c =
