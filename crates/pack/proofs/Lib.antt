@@ -1,2 +1,2 @@
-pub mod EndingLaws
+pub mod MadeLaws
 pub mod FaultLaws

@@ -12,8 +12,8 @@ use Rattle.pack.specs.declared.words.Asked.{Asked}
 use Rattle.pack.specs.declared.words.Asked.TheVariants as asked
 use Rattle.pm_pack.specs.declared.fault.Fault.{Fault}
 use Rattle.pm_pack.specs.declared.fault.Fault.TheVariants as faults
-use Rattle.pack.specs.declared.fault.MakeFail.{MakeFail}
-use Rattle.pack.specs.declared.fault.MakeFail.TheVariants as fails
+use Rattle.pm_program.specs.declared.making.MakeFail.{MakeFail}
+use Rattle.pm_program.specs.declared.making.MakeFail.TheVariants as fails
 
 -- The text is what is asked for of these bytes: a packed text of them, or what they are packed of.
 abbrev pub IsMade : Asked → List ℕ → List ℕ → Type 0
@@ -38,22 +38,17 @@ pub record Refuses (asks : Asked) (bytes : List ℕ) (fault : Fault) : Type 0 wh
   pub faulty : IsFaulty asks bytes fault
   pub none : (text : List ℕ) → ¬ IsMade asks bytes text
 
--- Why nothing is made.
-abbrev pub FailsBy : Asked → List ℕ → MakeFail → Type 0
-FailsBy asks bytes (fails.Faulty fault) = Refuses asks bytes fault
-FailsBy asks bytes fails.OutOfMemory = Unit {0}
-
 -- Want of memory is no fault of the input.
-abbrev pub fault_fail : Option Fault → MakeFail
+abbrev pub fault_fail : Option Fault → MakeFail Fault
 fault_fail (Some fault) = fails.Faulty fault
 fault_fail None = fails.OutOfMemory
 
-abbrev pub pack_fail : PackFail → MakeFail
+abbrev pub pack_fail : PackFail → MakeFail Fault
 pack_fail (packs.Stream e) = fails.Faulty (faults.Stream e)
 pack_fail packs.Trailing = fails.Faulty faults.Trailing
 pack_fail packs.OutOfMemory = fails.OutOfMemory
 
-abbrev pub unpack_fail : UnpackFail → MakeFail
+abbrev pub unpack_fail : UnpackFail → MakeFail Fault
 unpack_fail unpacks.NotPacked = fails.Faulty faults.NotPacked
 unpack_fail unpacks.Cut = fails.Faulty faults.Cut
 unpack_fail unpacks.Trailing = fails.Faulty faults.PackedTrailing

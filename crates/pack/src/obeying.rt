@@ -1,27 +1,15 @@
 //! What the program does with its devices. All memory is taken before the first byte of output.
 ghost use Rattle.std.specs.Prelude.{◌≡◌, false};
 ghost use Rattle.pm_program.specs.Fails.{PutCounts, ReadCounts};
-ghost use Rattle.pack.specs.Ending.{EndsOn, Ends, of_make_fail};
+ghost use Rattle.pm_program.specs.Making.{EndsOn, Ends};
+ghost use Rattle.pack.specs.Making.{IsMade, Refuses};
 
-use crate::fault::MakeFail;
 use crate::making::make;
 use crate::words::Asked;
 use pm_io::{Sink, Source, put_all};
 use pm_pack::Fault;
-use pm_program::{RunFail, of_input, read_up_to};
+use pm_program::{MOST, RunFail, of_input, of_make, read_up_to};
 use std::alloc::Global;
-
-/// How many bytes of the input are looked at, at most. No stream text has as many.
-pub const MOST: usize = 0x4000_0000;
-
-fn of_make(fail: MakeFail) -> RunFail<Fault>
-    ensures { result ≡ of_make_fail fail }
-{
-    match fail {
-        MakeFail::Faulty(fault) => RunFail::Faulty(fault),
-        MakeFail::OutOfMemory => RunFail::OutOfMemory,
-    }
-}
 
 // Puts what is made of bytes.
 fn put_made<K: Sink>(
@@ -30,7 +18,8 @@ fn put_made<K: Sink>(
     bytes: &[u8],
     out: &mut K,
 ) -> Result<(), RunFail<Fault>>
-    ensures ends { EndsOn asked result bytes.now (K.got out.old) (K.got out.new) }
+    ensures ends { EndsOn (IsMade asked) (Refuses asked) result bytes.now (K.got out.old)
+        (K.got out.new) }
     ensures counts { PutCounts result (K.faults out.old) (K.faults out.new) }
 {
     match make(alloc, asked, bytes) {
@@ -50,8 +39,8 @@ pub fn obey<S: Source, K: Sink>(
     out: &mut K,
 ) -> Result<(), RunFail<Fault>>
     requires { S.ended input.old ≡ false }
-    ensures ends { Ends asked result (S.left input.old) (S.left input.new) (K.got out.old)
-        (K.got out.new) }
+    ensures ends { Ends (IsMade asked) (Refuses asked) result (S.left input.old)
+        (S.left input.new) (K.got out.old) (K.got out.new) }
     ensures puts { PutCounts result (K.faults out.old) (K.faults out.new) }
     ensures reads { ReadCounts result (S.faults input.old) (S.faults input.new) }
 {

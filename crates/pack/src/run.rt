@@ -3,11 +3,13 @@ ghost use Rattle.std.specs.Prelude.{◌≡◌, false, codes};
 ghost use Rattle.pm_io.specs.Endings.{SaysEnding, NoneFailed};
 ghost use Rattle.pm_program.specs.Endings.{Endings, Outcomes};
 ghost use Rattle.pm_program.specs.Requests.{TellsTexts};
+ghost use Rattle.pm_program.specs.Replies.{Replies, PutsAll, TellsFault, Breaks};
+ghost use Rattle.pm_program.specs.Replies.{ReadsFront, Unreached};
 ghost use Rattle.pack.specs.Help.{help_text};
 ghost use Rattle.pack.specs.declared.words.Asked.{Asked};
 ghost use Rattle.pack.specs.Words.{asked_of, Asks};
-ghost use Rattle.pack.specs.Devices.{Replies, LeadsBack, TellsFault, Breaks};
-ghost use Rattle.pack.specs.Devices.{ReadsFront, Unreached};
+ghost use Rattle.pack.specs.Making.{IsMade, Refuses};
+ghost use Rattle.pack.specs.FaultLine.{fault_line};
 
 use crate::help::help_text;
 use crate::obeying::obey;
@@ -47,24 +49,24 @@ pub fn run<S: Source, K: Sink, E: Sink>(
     // Exactly a packed text of the stream text that was read was put, or with `--unpack` the stream
     // text that the packed text is of; and the input was read to its end.
     ensures packs { Asks args Asked.Pack → result ≡ 0
-        → Replies S.Source K.Sink Asked.Pack input.old out.old out.new }
+        → Replies S.Source K.Sink (IsMade Asked.Pack) input.old out.old out.new }
     ensures unpacks { Asks args Asked.Unpack → result ≡ 0
-        → Replies S.Source K.Sink Asked.Unpack input.old out.old out.new }
+        → Replies S.Source K.Sink (IsMade Asked.Unpack) input.old out.old out.new }
     ensures read_whole { (asked : Asked) → Asks args asked → result ≡ 0
         → ReadsFront S.Source input.old input.new }
     // Where no device failed, a packed text gives back the text that it was made of, unless memory
     // is wanted.
     ensures leads_back { Asks args Asked.Unpack
         → NoneFailed S.Source K.Sink input.old input.new out.old out.new
-        → LeadsBack S.Source K.Sink result input.old out.old out.new }
+        → PutsAll S.Source K.Sink (IsMade Asked.Unpack) result input.old out.old out.new }
     // The input has a fault, which is said: there is no text to put.
     ensures faulty { (asked : Asked) → Asks args asked → result ≡ 1
-        → TellsFault S.Source E.Sink asked input.old err.old err.new }
+        → TellsFault S.Source E.Sink (Refuses asked) fault_line input.old err.old err.new }
     // A read failed before the bytes that decide were all taken.
     ensures unreached { result ≡ 3 → Unreached S.Source input.old input.new }
     // A write failed, and a proper prefix of the text was put.
     ensures write { (asked : Asked) → Asks args asked → result ≡ 4
-        → Breaks S.Source K.Sink asked input.old out.old out.new }
+        → Breaks S.Source K.Sink (IsMade asked) input.old out.old out.new }
 {
     packed_texts_are_sound();
     let args = match args {

@@ -3,4 +3,3 @@ pub mod LineLaws
 pub mod PartLaws
 pub mod StreamLaws
 pub mod MadeLaws
-pub mod EndingLaws

@@ -7,13 +7,15 @@ use Rattle.pm_format.specs.Faults.{stream_fault}
 use Rattle.paint.specs.declared.refused.Refused.{Refused}
 use Rattle.paint.specs.declared.coat.CoatFail.{CoatFail}
 use Rattle.paint.specs.declared.coat.CoatFail.TheVariants as coat_fails
+use Rattle.paint.specs.declared.fault.Fault.{Fault}
 use Rattle.paint.specs.declared.fault.Fault.TheVariants as faults
-use Rattle.paint.specs.declared.fault.MakeFail.{MakeFail}
-use Rattle.paint.specs.declared.fault.MakeFail.TheVariants as fails
+use Rattle.pm_program.specs.declared.making.MakeFail.{MakeFail}
+use Rattle.pm_program.specs.declared.making.MakeFail.TheVariants as fails
 use Rattle.paint.specs.Coat.{IsFail, coat_fault, coat_of, coat_with, sizes_of}
 use Rattle.paint.specs.Lines.{lines_of}
 use Rattle.paint.specs.Streams.{BeginsWith, IsUnread}
-use Rattle.paint.specs.Making.{IsPainted, IsMade, HasBadCoat, FailsBy, coat_fail}
+use Rattle.pm_program.specs.Making.{FailsBy}
+use Rattle.paint.specs.Making.{IsPainted, IsMade, HasBadCoat, Refuses, coat_fail}
 use Rattle.paint.proofs.StreamLaws.{one_beginning, begun_fine}
 
 -- A coat without a fault is told, and a fault of one.
@@ -48,7 +50,8 @@ unread_none bytes e is lines made =
     let both : None ≡ Some e = sym (begun_fine bytes made.h made.rest made.begins) ∙ is in
     absurd cc
 
-pub unread_fails : (bytes : List ℕ) (e : MakeFail) → IsUnread bytes e → FailsBy bytes e
+pub unread_fails : (bytes : List ℕ) (e : MakeFail Fault) → IsUnread bytes e
+    → FailsBy Refuses bytes e
 unread_fails bytes (fails.Faulty (faults.Stream e)) is =
     record { faulty = is; none = unread_none bytes e is }
 unread_fails bytes (fails.Faulty (faults.Coat e)) is = absurd is
@@ -66,7 +69,7 @@ bad_none bytes e bad lines made =
 
 pub bad_fails : (bytes : List ℕ) (h : Hierarchy) (rest : List ℕ) (e : CoatFail)
     → BeginsWith bytes h rest → IsFail (coat_fault (leaf_count h) (face_count h) rest) e
-    → FailsBy bytes (coat_fail e)
+    → FailsBy Refuses bytes (coat_fail e)
 bad_fails bytes h rest (coat_fails.Refused e) begins is =
     let bad : HasBadCoat bytes e = record {
       h = h;
@@ -92,3 +95,8 @@ pub made : (bytes : List ℕ) (h : Hierarchy) (rest lines : List ℕ) → Begins
     → IsPainted h rest lines → IsMade bytes lines
 made bytes h rest lines begins painted =
     record { h = h; rest = rest; begins = begins; painted = painted }
+
+-- Of bytes with a fault nothing is made.
+pub nothing_made : (bytes : List ℕ) (f : Fault) → Refuses bytes f → (lines : List ℕ)
+    → IsMade bytes lines → ⊥
+nothing_made bytes f refuses lines is = refuses.none lines is

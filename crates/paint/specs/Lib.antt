@@ -5,6 +5,4 @@ pub mod Texts
 pub mod Lines
 pub mod Streams
 pub mod Making
-pub mod Ending
 pub mod FaultLine
-pub mod Devices

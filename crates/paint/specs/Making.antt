@@ -8,8 +8,8 @@ use Rattle.paint.specs.declared.coat.CoatFail.{CoatFail}
 use Rattle.paint.specs.declared.coat.CoatFail.TheVariants as coat_fails
 use Rattle.paint.specs.declared.fault.Fault.{Fault}
 use Rattle.paint.specs.declared.fault.Fault.TheVariants as faults
-use Rattle.paint.specs.declared.fault.MakeFail.{MakeFail}
-use Rattle.paint.specs.declared.fault.MakeFail.TheVariants as fails
+use Rattle.pm_program.specs.declared.making.MakeFail.{MakeFail}
+use Rattle.pm_program.specs.declared.making.MakeFail.TheVariants as fails
 use Rattle.paint.specs.Coat.{Coat, coat_of}
 use Rattle.paint.specs.Lines.{lines_of}
 use Rattle.paint.specs.Streams.{BeginsWith}
@@ -43,12 +43,7 @@ pub record Refuses (bytes : List ℕ) (fault : Fault) : Type 0 where
   pub faulty : IsFaulty bytes fault
   pub none : (lines : List ℕ) → ¬ IsMade bytes lines
 
--- Why nothing is made.
-abbrev pub FailsBy : List ℕ → MakeFail → Type 0
-FailsBy bytes (fails.Faulty fault) = Refuses bytes fault
-FailsBy bytes fails.OutOfMemory = Unit {0}
-
 -- Want of memory is no fault of the input.
-abbrev pub coat_fail : CoatFail → MakeFail
+abbrev pub coat_fail : CoatFail → MakeFail Fault
 coat_fail (coat_fails.Refused e) = fails.Faulty (faults.Coat e)
 coat_fail coat_fails.OutOfMemory = fails.OutOfMemory

@@ -1,9 +1,10 @@
-//! Why the program ends before its work is whole.
+//! Why nothing is made of the input.
 ghost use Rattle.std.specs.Prelude.{◌≡◌};
 ghost use Rattle.paint.specs.Streams.{stream_fail};
 
 use crate::refused::Refused;
 use pm_format::FormatError;
+use pm_program::MakeFail;
 
 /// A fault of the input.
 #[derive(Clone, Copy, Debug, PartialEq, Eq)]
@@ -14,15 +15,8 @@ pub enum Fault {
     Coat(Refused),
 }
 
-/// Why nothing is made of the input.
-#[derive(Clone, Copy, Debug, PartialEq, Eq)]
-pub enum MakeFail {
-    Faulty(Fault),
-    OutOfMemory,
-}
-
 /// Why nothing is made where a stream has a fault. Want of memory is none.
-pub fn of_stream(fault: FormatError) -> MakeFail
+pub fn of_stream(fault: FormatError) -> MakeFail<Fault>
     ensures { result ≡ stream_fail fault }
 {
     match fault {

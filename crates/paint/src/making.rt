@@ -6,18 +6,20 @@ ghost use Rattle.paint.specs.Coat.{AreSizes, IsFail, coat_end, coat_fault, coat_
 ghost use Rattle.paint.specs.Coat.{coordinates_of};
 ghost use Rattle.paint.specs.Lines.{IsFor, lines_of};
 ghost use Rattle.paint.specs.Streams.{BeginsWith};
-ghost use Rattle.paint.specs.Making.{IsPainted, IsMade, FailsBy, coat_fail};
+ghost use Rattle.pm_program.specs.Making.{FailsBy};
+ghost use Rattle.paint.specs.Making.{IsPainted, IsMade, Refuses, coat_fail};
 
 use crate::OutOfMemory;
 use crate::coat::{CoatFail, Judged, read_coat};
-use crate::fault::{Fault, MakeFail};
+use crate::fault::Fault;
 use crate::parts::{add_colours, add_coordinates, add_face_pages};
 use crate::reading::{Begun, read_text};
 use pm_forest::Hierarchy;
+use pm_program::MakeFail;
 use std::alloc::Global;
 
 // Want of memory is no fault of the input.
-fn of_coat(fail: CoatFail) -> MakeFail
+fn of_coat(fail: CoatFail) -> MakeFail<Fault>
     ensures { result ≡ coat_fail fail }
 {
     match fail {
@@ -60,12 +62,12 @@ fn paint_rest(alloc: Global, h: &Hierarchy, rest: &[u8]) -> Result<Vec<u8>, Coat
 }
 
 // The lines of the coat that follows a stream text which was read.
-fn paint_after(alloc: Global, begun: &Begun, bytes: &[u8]) -> Result<Vec<u8>, MakeFail>
+fn paint_after(alloc: Global, begun: &Begun, bytes: &[u8]) -> Result<Vec<u8>, MakeFail<Fault>>
     requires begins { BeginsWith bytes.now begun.now.h (drop begun.now.used bytes.now) }
     requires within { begun.now.used ≤ length bytes.now }
     requires len { length bytes.now ≤ 2 ^ 30 }
     ensures ok { IfOk result (λ lines. IsMade bytes.now lines.items) }
-    ensures err { IfErr result (λ e. FailsBy bytes.now e) }
+    ensures err { IfErr result (λ e. FailsBy Refuses bytes.now e) }
 {
     match paint_rest(alloc, &begun.h, &bytes[begun.used..]) {
         Ok(text) => Ok(text),
@@ -74,10 +76,10 @@ fn paint_after(alloc: Global, begun: &Begun, bytes: &[u8]) -> Result<Vec<u8>, Ma
 }
 
 /// The lines of the coat that follows the stream text which the bytes begin with.
-pub fn paint(alloc: Global, bytes: &[u8]) -> Result<Vec<u8>, MakeFail>
+pub fn paint(alloc: Global, bytes: &[u8]) -> Result<Vec<u8>, MakeFail<Fault>>
     requires { length bytes.now ≤ 2 ^ 30 }
     ensures ok { IfOk result (λ lines. IsMade bytes.now lines.items) }
-    ensures err { IfErr result (λ e. FailsBy bytes.now e) }
+    ensures err { IfErr result (λ e. FailsBy Refuses bytes.now e) }
 {
     match read_text(alloc, bytes) {
         Err(fail) => Err(fail),

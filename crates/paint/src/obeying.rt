@@ -1,30 +1,19 @@
 //! What the program does with its devices. All memory is taken before the first byte of output.
 ghost use Rattle.std.specs.Prelude.{◌≡◌, ◌≤◌, ◌^◌, false, length};
 ghost use Rattle.pm_program.specs.Fails.{PutCounts, ReadCounts};
-ghost use Rattle.paint.specs.Ending.{EndsOn, Ends, of_make_fail};
+ghost use Rattle.pm_program.specs.Making.{EndsOn, Ends};
+ghost use Rattle.paint.specs.Making.{IsMade, Refuses};
 
-use crate::fault::{Fault, MakeFail};
+use crate::fault::Fault;
 use crate::making::paint;
 use pm_io::{Sink, Source, put_all};
-use pm_program::{RunFail, of_input, read_up_to};
+use pm_program::{MOST, RunFail, of_input, of_make, read_up_to};
 use std::alloc::Global;
-
-/// How many bytes of the input are looked at, at most. No stream text has as many.
-pub const MOST: usize = 0x4000_0000;
-
-fn of_make(fail: MakeFail) -> RunFail<Fault>
-    ensures { result ≡ of_make_fail fail }
-{
-    match fail {
-        MakeFail::Faulty(fault) => RunFail::Faulty(fault),
-        MakeFail::OutOfMemory => RunFail::OutOfMemory,
-    }
-}
 
 // Puts what is made of bytes.
 fn put_made<K: Sink>(alloc: Global, bytes: &[u8], out: &mut K) -> Result<(), RunFail<Fault>>
     requires { length bytes.now ≤ 2 ^ 30 }
-    ensures ends { EndsOn result bytes.now (K.got out.old) (K.got out.new) }
+    ensures ends { EndsOn IsMade Refuses result bytes.now (K.got out.old) (K.got out.new) }
     ensures counts { PutCounts result (K.faults out.old) (K.faults out.new) }
 {
     match paint(alloc, bytes) {
@@ -43,8 +32,8 @@ pub fn obey<S: Source, K: Sink>(
     out: &mut K,
 ) -> Result<(), RunFail<Fault>>
     requires { S.ended input.old ≡ false }
-    ensures ends { Ends result (S.left input.old) (S.left input.new) (K.got out.old)
-        (K.got out.new) }
+    ensures ends { Ends IsMade Refuses result (S.left input.old) (S.left input.new)
+        (K.got out.old) (K.got out.new) }
     ensures puts { PutCounts result (K.faults out.old) (K.faults out.new) }
     ensures reads { ReadCounts result (S.faults input.old) (S.faults input.new) }
 {

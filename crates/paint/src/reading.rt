@@ -3,9 +3,10 @@ ghost use Rattle.std.specs.Prelude.{◌≡◌, ◌≤◌, [], length, drop, IfOk
 ghost use Rattle.pm_format.specs.Standing.{IsDecoderAfter};
 ghost use Rattle.paint.specs.Streams.{BeginsWith, IsUnread};
 
-use crate::fault::{MakeFail, of_stream};
+use crate::fault::{Fault, of_stream};
 use pm_forest::Hierarchy;
 use pm_format::Decoder;
+use pm_program::MakeFail;
 use std::alloc::Global;
 
 /// A hierarchy, and how many bytes its text has.
@@ -16,7 +17,7 @@ pub struct Begun {
 }
 
 // Reads the text by a decoder that has taken no bytes.
-fn read_by(decoder: Decoder, bytes: &[u8]) -> Result<Begun, MakeFail>
+fn read_by(decoder: Decoder, bytes: &[u8]) -> Result<Begun, MakeFail<Fault>>
     requires { IsDecoderAfter [] decoder }
     ensures ok { IfOk result (λ b. BeginsWith bytes.now b.h (drop b.used bytes.now)) }
     ensures within { IfOk result (λ b. b.used ≤ length bytes.now) }
@@ -36,7 +37,7 @@ fn read_by(decoder: Decoder, bytes: &[u8]) -> Result<Begun, MakeFail>
 }
 
 /// Reads the stream text that bytes begin with.
-pub fn read_text(alloc: Global, bytes: &[u8]) -> Result<Begun, MakeFail>
+pub fn read_text(alloc: Global, bytes: &[u8]) -> Result<Begun, MakeFail<Fault>>
     ensures ok { IfOk result (λ b. BeginsWith bytes.now b.h (drop b.used bytes.now)) }
     ensures within { IfOk result (λ b. b.used ≤ length bytes.now) }
     ensures err { IfErr result (λ e. IsUnread bytes.now e) }

@@ -3,9 +3,12 @@ ghost use Rattle.std.specs.Prelude.{◌≡◌, false, codes};
 ghost use Rattle.pm_io.specs.Endings.{SaysEnding, NoneFailed};
 ghost use Rattle.pm_program.specs.Endings.{Endings, Outcomes};
 ghost use Rattle.pm_program.specs.Requests.{TellsTexts};
+ghost use Rattle.pm_program.specs.Replies.{Replies, PutsAll, TellsFault, Breaks};
+ghost use Rattle.pm_program.specs.Replies.{ReadsFront, Unreached};
 ghost use Rattle.paint.specs.Help.{help_text};
 ghost use Rattle.paint.specs.Words.{asked_of, Asks};
-ghost use Rattle.paint.specs.Devices.{Replies, Paints, TellsFault, Breaks, ReadsFront, Unreached};
+ghost use Rattle.paint.specs.Making.{IsMade, Refuses};
+ghost use Rattle.paint.specs.FaultLine.{fault_line};
 
 use crate::help::help_text;
 use crate::obeying::obey;
@@ -42,19 +45,22 @@ pub fn run<S: Source, K: Sink, E: Sink>(
     ensures texts { TellsTexts S.Source K.Sink E.Sink (codes "paint") help_text (asked_of args)
         result input.old input.new out.old out.new err.old err.new }
     // Exactly the lines of the coat that was read were put; and the input was read to its end.
-    ensures lines { Asks args → result ≡ 0 → Replies S.Source K.Sink input.old out.old out.new }
+    ensures lines { Asks args → result ≡ 0
+        → Replies S.Source K.Sink IsMade input.old out.old out.new }
     ensures read_whole { Asks args → result ≡ 0 → ReadsFront S.Source input.old input.new }
     // Where no device failed, the lines of a coat that fits its stream are put, unless memory is
     // wanted.
     ensures whole { Asks args
         → NoneFailed S.Source K.Sink input.old input.new out.old out.new
-        → Paints S.Source K.Sink result input.old out.old out.new }
+        → PutsAll S.Source K.Sink IsMade result input.old out.old out.new }
     // The input has a fault, which is said: there are no lines to put.
-    ensures faulty { result ≡ 1 → TellsFault S.Source E.Sink input.old err.old err.new }
+    ensures faulty { result ≡ 1
+        → TellsFault S.Source E.Sink Refuses fault_line input.old err.old err.new }
     // A read failed before the bytes that decide were all taken.
     ensures unreached { result ≡ 3 → Unreached S.Source input.old input.new }
     // A write failed, and a proper prefix of the lines was put.
-    ensures write { Asks args → result ≡ 4 → Breaks S.Source K.Sink input.old out.old out.new }
+    ensures write { Asks args → result ≡ 4
+        → Breaks S.Source K.Sink IsMade input.old out.old out.new }
 {
     let args = match args {
         Ok(args) => args,

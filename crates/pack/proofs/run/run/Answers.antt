@@ -3,18 +3,20 @@ use Rattle.std.specs.Prelude.{codes}
 use Rattle.pack.specs.declared.words.Asked.{Asked}
 use Rattle.pack.specs.declared.words.Asked.TheVariants as asked
 use Rattle.pack.specs.Words.{asked_of}
-use Rattle.pack.specs.Ending.{front, Replied, CutShort, Ends}
+use Rattle.pm_program.specs.Making.{front, Replied, CutShort, Ends}
+use Rattle.pack.specs.Making.{IsMade, Refuses}
 use Rattle.pack.specs.FaultLine.{fault_line}
 use Rattle.pm_program.proofs.EndingLaws.{ends_early, outcomes_early, says_early, completes}
 use Rattle.pm_program.proofs.EndingLaws.{ends_ungathered}
-use Rattle.pack.proofs.EndingLaws.{one_asked, read_of, cut_of, nothing_of, told_fault, back_done}
-use Rattle.pack.proofs.EndingLaws.{back_fails}
+use Rattle.pm_program.proofs.MakingLaws.{read_of, cut_of, nothing_of, told_fault, puts_made}
+use Rattle.pm_program.proofs.MakingLaws.{puts_none}
+use Rattle.pack.proofs.MadeLaws.{one_asked, nothing_made}
 use Rattle.pack.proofs.run.run.Goals as goal
 
 pub returns-in-Ok-obey-clause-packs : goal.returns-in-Ok-obey-clause-packs
 returns-in-Ok-obey-clause-packs g c = λ asks is.
     subst (λ (a : Asked). IfSome (g.S.Source.left c.args.input.now)
-    (λ bytes. Replied a (front bytes) (g.K.Sink.got c.args.out.now)
+    (λ bytes. Replied (IsMade a) (front bytes) (g.K.Sink.got c.args.out.now)
     (g.K.Sink.got c.obey.new.out)))
     (one_asked _ _ asked.Pack (sym c.read_words.ensures
     ∙ (c.in-Some.is ∙ ap (λ r. Some r) c.in-Work.is))
@@ -23,7 +25,7 @@ returns-in-Ok-obey-clause-packs g c = λ asks is.
 pub returns-in-Ok-obey-clause-unpacks : goal.returns-in-Ok-obey-clause-unpacks
 returns-in-Ok-obey-clause-unpacks g c = λ asks is.
     subst (λ (a : Asked). IfSome (g.S.Source.left c.args.input.now)
-    (λ bytes. Replied a (front bytes) (g.K.Sink.got c.args.out.now)
+    (λ bytes. Replied (IsMade a) (front bytes) (g.K.Sink.got c.args.out.now)
     (g.K.Sink.got c.obey.new.out)))
     (one_asked _ _ asked.Unpack (sym c.read_words.ensures
     ∙ (c.in-Some.is ∙ ap (λ r. Some r) c.in-Work.is))
@@ -31,9 +33,9 @@ returns-in-Ok-obey-clause-unpacks g c = λ asks is.
 
 pub returns-in-Ok-obey-clause-leads_back : goal.returns-in-Ok-obey-clause-leads_back
 returns-in-Ok-obey-clause-leads_back g c = λ asks none.
-    back_done c.packed_texts_are_sound.ensures.one 0 _ _ _ refl
+    puts_made (IsMade asked.Unpack) c.packed_texts_are_sound.ensures.one 0 _ _ _ refl
     (subst (λ (a : Asked). IfSome (g.S.Source.left c.args.input.now)
-    (λ bytes. Replied a (front bytes) (g.K.Sink.got c.args.out.now)
+    (λ bytes. Replied (IsMade a) (front bytes) (g.K.Sink.got c.args.out.now)
     (g.K.Sink.got c.obey.new.out)))
     (one_asked _ _ asked.Unpack (sym c.read_words.ensures
     ∙ (c.in-Some.is ∙ ap (λ r. Some r) c.in-Work.is))
@@ -44,9 +46,11 @@ returns-in-Ok-obey-clause-read_whole g c = λ other asks is. c.in-Ok-obey.ensure
 
 pub returns-in-Err-obey-clause-leads_back : goal.returns-in-Err-obey-clause-leads_back
 returns-in-Err-obey-clause-leads_back g c = λ asks none.
-    back_fails c.in-Err-obey.fail _ _ _ _ _ c.tell.ensures.status
-    (subst (λ (a : Asked). Ends a (Err c.in-Err-obey.fail) (g.S.Source.left c.args.input.now)
-    (g.S.Source.left c.obey.new.input) (g.K.Sink.got c.args.out.now)
+    puts_none (IsMade asked.Unpack) (Refuses asked.Unpack) (nothing_made asked.Unpack)
+    c.in-Err-obey.fail _ _ _ _ _ c.tell.ensures.status
+    (subst (λ (a : Asked). Ends (IsMade a) (Refuses a) (Err c.in-Err-obey.fail)
+    (g.S.Source.left c.args.input.now) (g.S.Source.left c.obey.new.input)
+    (g.K.Sink.got c.args.out.now)
     (g.K.Sink.got c.obey.new.out))
     (one_asked _ _ asked.Unpack (sym c.read_words.ensures
     ∙ (c.in-Some.is ∙ ap (λ r. Some r) c.in-Work.is))
@@ -56,26 +60,32 @@ returns-in-Err-obey-clause-leads_back g c = λ asks none.
 
 pub returns-in-Err-obey-clause-faulty : goal.returns-in-Err-obey-clause-faulty
 returns-in-Err-obey-clause-faulty g c = λ other asks is.
-    told_fault g.E.Sink c.in-Work.asked other _ _ _ _ c.in-Err-obey.fail _ _
+    told_fault (IsMade other) (Refuses other) _ _ _ _ g.E.Sink (codes "pack") fault_line
+    c.in-Err-obey.fail _ _ (sym c.tell.ensures.status ∙ is)
+    (subst (λ (a : Asked). Ends (IsMade a) (Refuses a) (Err c.in-Err-obey.fail)
+    (g.S.Source.left c.args.input.now) (g.S.Source.left c.obey.new.input)
+    (g.K.Sink.got c.args.out.now) (g.K.Sink.got c.obey.new.out))
     (one_asked _ _ other (sym c.read_words.ensures
     ∙ (c.in-Some.is ∙ ap (λ r. Some r) c.in-Work.is))
-    (sym (ap asked_of c.in-Ok.is) ∙ asks)) (sym c.tell.ensures.status ∙ is)
-    c.in-Err-obey.ensures.ends c.tell.ensures.said
+    (sym (ap asked_of c.in-Ok.is) ∙ asks)) c.in-Err-obey.ensures.ends)
+    c.tell.ensures.said
 
 pub returns-in-Err-obey-clause-unreached : goal.returns-in-Err-obey-clause-unreached
 returns-in-Err-obey-clause-unreached g c = λ is.
-    read_of c.in-Work.asked _ _ _ _ c.in-Err-obey.fail (sym c.tell.ensures.status ∙ is)
+    read_of (IsMade c.in-Work.asked) (Refuses c.in-Work.asked) _ _ _ _ c.in-Err-obey.fail
+    (sym c.tell.ensures.status ∙ is)
     c.in-Err-obey.ensures.ends
 
 pub returns-in-Err-obey-clause-write : goal.returns-in-Err-obey-clause-write
 returns-in-Err-obey-clause-write g c = λ other asks is.
     subst (λ (a : Asked). IfSome (g.S.Source.left c.args.input.now)
-    (λ bytes. CutShort a (front bytes) (g.K.Sink.got c.args.out.now)
+    (λ bytes. CutShort (IsMade a) (front bytes) (g.K.Sink.got c.args.out.now)
     (g.K.Sink.got c.obey.new.out)))
     (one_asked _ _ other (sym c.read_words.ensures
     ∙ (c.in-Some.is ∙ ap (λ r. Some r) c.in-Work.is))
     (sym (ap asked_of c.in-Ok.is) ∙ asks))
-    (cut_of c.in-Work.asked _ _ _ _ c.in-Err-obey.fail (sym c.tell.ensures.status ∙ is)
+    (cut_of (IsMade c.in-Work.asked) (Refuses c.in-Work.asked) _ _ _ _ c.in-Err-obey.fail
+    (sym c.tell.ensures.status ∙ is)
     c.in-Err-obey.ensures.ends)
 
 pub returns-in-Err-obey-clause-endings : goal.returns-in-Err-obey-clause-endings
@@ -91,7 +101,8 @@ returns-in-Err-obey-clause-outcomes g c =
     (ap asked_of c.in-Ok.is ∙ (sym c.read_words.ensures ∙ c.in-Some.is)) c.in-Err-obey.fail _
     c.tell.ensures.status c.in-Err-obey.ensures.reads c.in-Err-obey.ensures.puts
     c.tell.ensures.said
-    (λ is. nothing_of c.in-Work.asked _ _ _ _ c.in-Err-obey.fail _ c.tell.ensures.status is
+    (λ is. nothing_of (IsMade c.in-Work.asked) (Refuses c.in-Work.asked) _ _ _ _
+    c.in-Err-obey.fail _ c.tell.ensures.status is
     c.in-Err-obey.ensures.ends)
 
 pub returns-in-Err-obey-clause-said : goal.returns-in-Err-obey-clause-said
