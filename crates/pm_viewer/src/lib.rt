@@ -7,6 +7,7 @@ mod filling;
 mod inputs;
 mod looking;
 mod measuring;
+mod nodes;
 mod opening;
 mod painting;
 mod reply;

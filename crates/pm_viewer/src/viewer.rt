@@ -1,11 +1,7 @@
 //! The viewer.
-ghost use Rattle.std.specs.Prelude.{◌≡◌, ◌≤◌, ◌<◌, ◌*◌, [], Some, Err, IfOk, IfErr, OnOk, OnErr};
+ghost use Rattle.std.specs.Prelude.{◌≡◌, ◌≤◌, ◌*◌, [], Some, Err, IfOk, IfErr, OnOk, OnErr};
 ghost use Rattle.std.specs.Prelude.{length, take};
 ghost use Rattle.pm_base.specs.Counts.{set_of};
-ghost use Rattle.pm_forest.specs.Forest.{node_count, leaf_count, record_count, splitter_of};
-ghost use Rattle.pm_forest.specs.Forest.{maker_of};
-ghost use Rattle.pm_forest.specs.Fronts.{ancestor_of};
-ghost use Rattle.pm_forest.specs.Places.{place_of_node};
 ghost use Rattle.pm_front.specs.Shown.{active_nodes, kept_faces};
 ghost use Rattle.pm_arrays.specs.Arrays.{place_array, position_array, node_array};
 ghost use Rattle.pm_change.specs.Arrays.{sizes_of_change, ChangeFits, BeginWith, LeavesBehind};
@@ -14,9 +10,7 @@ ghost use Rattle.pm_session.specs.Session.{LineEnds, change_since};
 ghost use Rattle.pm_viewer.specs.Viewing.{live_deed, viewer_state, FrameFits, FrameLeaves};
 
 use crate::filling::{TooSmall, positions_of, write_frame};
-use crate::looking::ancestor;
 use crate::reply::{LEAST_ROOM, Reply};
-use pm_base::{NodeId, Point};
 use pm_change::ChangeSizes;
 use pm_forest::Hierarchy;
 use pm_refine::Adapted;
@@ -160,27 +154,6 @@ impl Viewer {
         &self.session
     }
 
-    /// How many records the hierarchy has.
-    pub fn records(&self) -> u32
-        ensures { result ≡ record_count self.now.shown.h }
-    {
-        self.session.front().hierarchy().records()
-    }
-
-    /// How many leaves it has.
-    pub fn leaves(&self) -> u32
-        ensures { result ≡ leaf_count self.now.shown.h }
-    {
-        self.session.front().hierarchy().leaves()
-    }
-
-    /// How many nodes it has in all.
-    pub fn nodes(&self) -> u32
-        ensures { result ≡ node_count self.now.shown.h }
-    {
-        self.session.front().hierarchy().nodes()
-    }
-
     /// Writes the mesh that is shown to the front of the arrays, in the order of the frame text:
     /// the numbers of the active nodes into `nodes` and their places into `places`, three
     /// coordinates for each; the numbers of the kept faces into `faces`, and their corners, three
@@ -285,38 +258,5 @@ impl Viewer {
             put_faces,
             put_corners,
         )
-    }
-
-    /// The record that splits a node; none exactly for a node of one leaf, which none splits.
-    pub fn splitter(&self, node: u32) -> Option<u32>
-        requires { node < node_count self.now.shown.h }
-        ensures value { result ≡ splitter_of self.now.shown.h node }
-    {
-        self.session.front().hierarchy().splitter(NodeId(node))
-    }
-
-    /// The record that made a node; none exactly for a root.
-    pub fn maker(&self, node: u32) -> Option<u32>
-        requires { node < node_count self.now.shown.h }
-        ensures value { result ≡ maker_of self.now.shown.h node }
-    {
-        self.session.front().hierarchy().maker(NodeId(node))
-    }
-
-    /// The ancestor of a leaf: the one active node that has it below it. It costs a climb from the
-    /// leaf.
-    pub fn ancestor(&self, leaf: u32) -> u32
-        requires { leaf < leaf_count self.now.shown.h }
-        ensures { result ≡ ancestor_of self.now.shown.h (set_of self.now.shown.flags) leaf }
-    {
-        ancestor(self.session.front(), leaf)
-    }
-
-    /// The place of a node.
-    pub fn place(&self, node: u32) -> Point
-        requires { node < node_count self.now.shown.h }
-        ensures { result ≡ place_of_node self.now.shown.h node }
-    {
-        self.session.front().hierarchy().place(NodeId(node))
     }
 }
