@@ -4,20 +4,32 @@ use Rattle.std.specs.Prelude.{Ok, Err, if◌then◌else◌, codes}
 use Rattle.std.specs.Cmp.Lexicographic.{pointwise}
 use Rattle.std.specs.String.{string_bytes}
 use Rattle.std.specs.Vec.Iter.{into_iter_items}
+use Rattle.pm_io.specs.Digits.{unsigned_of}
 use Rattle.pm_program.specs.declared.request.Request.{Request}
 use Rattle.pm_program.specs.declared.request.Request.TheVariants as requests
 use Rattle.pm_program.specs.Endings.{Arguments}
 use Rattle.pm_program.specs.Requests.{text_asked}
+use Rattle.pack.specs.declared.words.TheConstants.{MOST_RECORDS}
 use Rattle.pack.specs.declared.words.Asked.{Asked}
 use Rattle.pack.specs.declared.words.Asked.TheVariants as asked
 
--- No word asks to pack, `--unpack` to unpack, and `--help` or `--version` for a text. Other words
--- ask for nothing.
+-- What a number of records asks for, where it is one.
+abbrev pub first_asked : Option ℕ → Option (Request Asked)
+first_asked None = None
+first_asked (Some n) = Some (requests.Work (asked.UnpackFirst n))
+
+-- No word asks to pack, `--unpack` to unpack, `--unpack --records` and a number to unpack as many
+-- of the first records, and `--help` or `--version` for a text. Other words ask for nothing.
 abbrev pub asked_by : List (List ℕ) → Option (Request Asked)
 asked_by [] = Some (requests.Work asked.Pack)
 asked_by (word ∷ []) =
     if pointwise nat_eq word (codes "--unpack") then Some (requests.Work asked.Unpack)
     else text_asked word
+asked_by (word ∷ flag ∷ count ∷ []) =
+    if pointwise nat_eq word (codes "--unpack") then
+    (if pointwise nat_eq flag (codes "--records") then first_asked (unsigned_of MOST_RECORDS count)
+    else None)
+    else None
 asked_by _ = None
 
 -- The same of the arguments of a program, of which the first is its name. None are understood where

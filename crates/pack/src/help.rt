@@ -12,8 +12,9 @@ pack packs a stream: a sixth of its bytes or so, and it comes back byte for byte
 reads standard input.\n\
 \n\
 \x20 ./pack < mesh.vdpm > mesh.vdpz\n\
-\x20 ./pack --unpack < mesh.vdpz > mesh.vdpm\n\
+\x20 ./pack --unpack [--records N] < mesh.vdpz > mesh.vdpm\n\
 \n\
+With N the first N records come alone, or as many as a text that is cut off tells.\n\
 Status 0: all was written. 1: the input has a fault. 2: other words. 3: a read failed.\n\
 4: a write failed. 5: out of memory. docs/commands/pack.md tells all of it;\n\
 ./simplify makes streams.\n\

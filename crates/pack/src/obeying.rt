@@ -1,15 +1,29 @@
 //! What the program does with its devices. All memory is taken before the first byte of output.
 ghost use Rattle.std.specs.Prelude.{◌≡◌, false};
+ghost use Rattle.pm_io.specs.Puts.{Puts};
 ghost use Rattle.pm_program.specs.Fails.{PutCounts, ReadCounts};
 ghost use Rattle.pm_program.specs.Making.{EndsOn, Ends};
+ghost use Rattle.pm_pack.specs.Beginnings.{text_of, HasDecimals};
 ghost use Rattle.pack.specs.Making.{IsMade, Refuses};
 
 use crate::making::make;
 use crate::words::Asked;
-use pm_io::{Sink, Source, put_all};
-use pm_pack::Fault;
+use pm_format::encode;
+use pm_io::{Sink, Source, WriteFault, put_all};
+use pm_pack::{Beginning, Fault};
 use pm_program::{MOST, RunFail, of_input, of_make, read_up_to};
 use std::alloc::Global;
+
+// Puts a text, or that of first records.
+fn put_text<K: Sink>(made: &Beginning, out: &mut K) -> Result<(), WriteFault>
+    requires { HasDecimals made.now }
+    ensures { Puts K.Sink out.old out.new (text_of made.now) result }
+{
+    match made {
+        Beginning::Whole(text) => put_all(out, text.as_slice()),
+        Beginning::Part(part) => encode(&part.h, part.digits, out),
+    }
+}
 
 // Puts what is made of bytes.
 fn put_made<K: Sink>(
@@ -24,7 +38,7 @@ fn put_made<K: Sink>(
 {
     match make(alloc, asked, bytes) {
         Err(fail) => Err(of_make(fail)),
-        Ok(text) => match put_all(out, text.as_slice()) {
+        Ok(made) => match put_text(&made, out) {
             Ok(()) => Ok(()),
             Err(_) => Err(RunFail::Write),
         },

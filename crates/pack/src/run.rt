@@ -1,5 +1,5 @@
 //! The program over any source and sinks.
-ghost use Rattle.std.specs.Prelude.{◌≡◌, false, codes};
+ghost use Rattle.std.specs.Prelude.{◌≡◌, ℕ, false, codes};
 ghost use Rattle.pm_io.specs.Endings.{SaysEnding, NoneFailed};
 ghost use Rattle.pm_program.specs.Endings.{Endings, Outcomes};
 ghost use Rattle.pm_program.specs.Requests.{TellsTexts};
@@ -22,7 +22,8 @@ use std::alloc::Global;
 use std::env::Args;
 use std::io;
 
-/// Packs a stream text, or with `--unpack` unpacks a packed text, and answers the exit status.
+/// Packs a stream text, or with `--unpack` unpacks a packed text, or the first records of one, and
+/// answers the exit status.
 ///
 /// `args` are the program's name and the words after it, or why they couldn't be gathered. Of the
 /// input the first 2^30 bytes are looked at, and at most 4,095 more are read. `--help` or
@@ -52,6 +53,10 @@ pub fn run<S: Source, K: Sink, E: Sink>(
         → Replies S.Source K.Sink (IsMade Asked.Pack) input.old out.old out.new }
     ensures unpacks { Asks args Asked.Unpack → result ≡ 0
         → Replies S.Source K.Sink (IsMade Asked.Unpack) input.old out.old out.new }
+    // With a number of records the text of so many of its first records was put, or of all that the
+    // bytes tell, where those are fewer.
+    ensures unpacks_first { (n : ℕ) → Asks args (Asked.UnpackFirst n) → result ≡ 0
+        → Replies S.Source K.Sink (IsMade (Asked.UnpackFirst n)) input.old out.old out.new }
     ensures read_whole { (asked : Asked) → Asks args asked → result ≡ 0
         → ReadsFront S.Source input.old input.new }
     // Where no device failed, a packed text gives back the text that it was made of, unless memory

@@ -9,7 +9,7 @@ use Rattle.pm_coder.specs.RoundTrips.{first}
 use Rattle.pm_format.specs.Words.{spelled}
 use Rattle.pm_format.specs.Faults.{stream_fault, magic_is_bad}
 use Rattle.pm_format.specs.Reading.{forest_at, header_at, digits_at}
-use Rattle.pm_format.specs.Standing.{Decoding, IsDecoderAfter}
+use Rattle.pm_format.specs.Standing.{Decoding, IsDecoderAfter, takes_more}
 use Rattle.pm_pack.specs.Texts.{Known}
 use Rattle.pm_pack.specs.Packed.{head, slots, at_first, IsPacked}
 use Rattle.pm_pack.specs.Unpacking.{IsCut, ReadsOn, ReadsAll, CutsOff, GoesOn, SaysStream}
@@ -18,24 +18,26 @@ use Rattle.pm_pack.proofs.StepLaws.{reads-none, short-untold}
 use Rattle.pm_pack.proofs.UnpackLaws.{all-said}
 
 -- No bytes at all are cut off.
-none-cut : IsCut []
+pub none-cut : IsCut []
 unfolding stream_fault magic_is_bad forest_at header_at digits_at
 none-cut = refl
 
-none-spelled : [] ≡ spelled []
+pub none-spelled : [] ≡ spelled []
 unfolding spelled
 none-spelled = refl
 
 -- Before the first word.
 pub begins : {P : Type 0} (k : predictor.Ghosts P) (from known : Known P) (code text : List ℕ)
     (at : Progress) (stream : Decoding) → known ≡ from → first code ≡ at → text ≡ []
-    → IsDecoderAfter [] stream → ReadsOn k from code known at stream text
-begins k from known code text at stream same start empty after = record {
+    → IsDecoderAfter [] stream → takes_more stream.stage ≡ true
+    → ReadsOn k from code known at stream text
+begins k from known code text at stream same start empty after goes = record {
   words = [];
   read = rw (sym start) (reads-none k from code);
   known_is = same ∙ sym (known-none k from);
   text_is = empty ∙ none-spelled;
   after = rw empty after;
+  on = goes;
   cut = rw empty none-cut;
 }
 

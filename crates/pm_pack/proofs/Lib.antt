@@ -2,9 +2,14 @@ pub mod RingLaws
 pub mod GuessedLaws
 pub mod FirstsLaws
 pub mod TextLaws
+pub mod FeedLaws
 pub mod StepLaws
 pub mod PackLaws
 pub mod UnpackLaws
+pub mod BeginningLaws
+pub mod LongerLaws
+pub mod BegunLaws
+pub mod WholeLaws
 pub mod JudgeLaws
 pub mod EndLaws
 pub mod MixingLaws

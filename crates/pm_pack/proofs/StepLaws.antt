@@ -1,7 +1,7 @@
 -- One more word of a packed text.
 use Rattle.std.proofs.Common.{◌≡◌, ◌≢◌, ℕ, ◌*◌, ◌<◌, ◌≤◌, inl, inr, List, [], ◌∷◌, ◌++◌}
 use Rattle.std.proofs.Common.{Bool, length, take, Some, None, refl, sym, ◌∙◌, ap, arith}
-use Rattle.std.proofs.Common.{length-append, true, false, not, Result, Ok, Err}
+use Rattle.std.proofs.Common.{length-append, true, false, Result, Ok, Err}
 use Rattle.std.proofs.lemmas.List.{append-nil, take_all, length-take}
 use Rattle.pm_forest.specs.Forest.{Hierarchy}
 use Rattle.pm_coder.proofs.IntervalLaws.{at_least}
@@ -17,9 +17,8 @@ use Rattle.pm_format.specs.declared.fault.FormatError.TheVariants as faults
 use Rattle.pm_format.specs.Words.{spelled}
 use Rattle.pm_format.specs.Faults.{stream_fault}
 use Rattle.pm_format.specs.Stream.{stream, stream_words}
-use Rattle.pm_format.specs.declared.taken.Taken.{Taken}
-use Rattle.pm_format.specs.Standing as standing
 use Rattle.pm_format.specs.Standing.{Decoding, IsDecoderAfter, HasFaultAlready, IsText}
+use Rattle.pm_format.specs.Standing.{takes_more}
 use Rattle.pm_format.proofs.WholeLaws.{whole_text}
 use Rattle.pm_format.proofs.WordLaws.{words_append, length-spelled}
 use Rattle.pm_format.proofs.TextLaws.{spelled-append}
@@ -30,7 +29,8 @@ use Rattle.pm_pack.specs.Packed.{IsStream}
 use Rattle.pm_pack.specs.declared.reading.UnpackFail.{UnpackFail}
 use Rattle.pm_pack.specs.declared.reading.UnpackFail.TheVariants as fails
 use Rattle.pm_pack.specs.Unpacking.{HasRead, IsCut, ReadsOn, ReadsAll, CutsOff, SaysFault}
-use Rattle.pm_pack.specs.Unpacking.{Feeds, Steps, named}
+use Rattle.pm_pack.specs.Unpacking.{Feeds, Steps, HasAll, HasFed, CutsAt, IsOneMore}
+use Rattle.pm_pack.specs.Unpacking.{IsFailOf}
 use Rattle.pm_pack.proofs.FirstsLaws.{none-untold}
 use Rattle.pm_pack.proofs.TextLaws.{makes-join, words-append, words-one, words-none}
 use Rattle.pm_pack.proofs.TextLaws.{known-more}
@@ -105,13 +105,14 @@ pub step-on : {P : Type 0} (k : predictor.Ghosts P) (from known new : Known P)
     → ReadsOn k from code known at stream text → w < 4294967296
     → Makes (Reading at) (word_choices k known w) (Reading on) → new ≡ known_after k known w
     → IsDecoderAfter (text ++ little_bytes 4 w) next → IsCut (text ++ little_bytes 4 w)
-    → ReadsOn k from code new on next (text ++ little_bytes 4 w)
-step-on k from known new code text at on stream next w r small made learnt after cut = record {
+    → takes_more next.stage ≡ true → ReadsOn k from code new on next (text ++ little_bytes 4 w)
+step-on k from known new code text at on stream next w r small made learnt after cut goes = record {
   words = r.words ++ w ∷ [];
   read = step-read k from known code text at on stream w r small made;
   known_is = known-more k from known new r.words w r.known_is learnt;
   text_is = text-more text r.words w r.text_is;
   after = after;
+  on = goes;
   cut = cut;
 }
 
@@ -129,19 +130,22 @@ step-all k from known code text at on stream w r small made whole = record {
 
 pub step-fault : {P : Type 0} (k : predictor.Ghosts P) (from known : Known P)
     (code text : List ℕ) (at on : Progress) (stream : Decoding) (w : ℕ) (f : FormatError)
-    → ReadsOn k from code known at stream text → w < 4294967296
+    → (r : ReadsOn k from code known at stream text) → w < 4294967296
     → Makes (Reading at) (word_choices k known w) (Reading on) → f ≢ faults.OutOfMemory
-    → HasFaultAlready (text ++ little_bytes 4 w) f → SaysFault k from code f
+    → HasFaultAlready (text ++ little_bytes 4 w) f
+    → (says : SaysFault k from code f) × IsOneMore r.words says.words
 step-fault k from known code text at on stream w f r small made other has =
     elim has [
       | inl memory ↦ absurd (other memory)
-      | inr faulty ↦
-          record {
-            words = r.words ++ w ∷ [];
-            at = on;
-            read = step-read k from known code text at on stream w r small made;
-            faulty = rw (text-more text r.words w r.text_is) at faulty;
-          }
+      | inr faulty ↦ (
+        record {
+          words = r.words ++ w ∷ [];
+          at = on;
+          read = step-read k from known code text at on stream w r small made;
+          faulty = rw (text-more text r.words w r.text_is) at faulty;
+        },
+        record { last = w; is = refl },
+      )
     ]
 
 stream-is_spelled : (digits : ℕ) (h : Hierarchy)
@@ -159,9 +163,11 @@ cut-none text digits h cut t =
 
 -- The bytes of the last word are all taken: before them the text was cut off.
 pub last-used : (text words piece : List ℕ) (used w digits : ℕ) (h : Hierarchy)
-    → text ≡ spelled words → IsCut text → piece ≡ little_bytes 4 w → used ≤ length piece
-    → IsText (text ++ take used piece) digits h → IsStream (text ++ little_bytes 4 w)
-last-used text words piece used w digits h e cut p le t =
+    (next : Decoding) → text ≡ spelled words → IsCut text → piece ≡ little_bytes 4 w
+    → used ≤ length piece → IsText (text ++ take used piece) digits h
+    → HasAll (text ++ take used piece) next
+    → IsStream (text ++ little_bytes 4 w) × HasAll (text ++ little_bytes 4 w) next
+last-used text words piece used w digits h next e cut p le t has =
     let four : length (little_bytes 4 w) ≡ 4 = refl in
     let text_length : length text ≡ 4 * length words = rw e (length-spelled words) in
     let whole_length = ap length (t.text ∙ stream-is_spelled digits h) in
@@ -169,7 +175,7 @@ last-used text words piece used w digits h e cut p le t =
       | inl all ↦
           let same : take used piece ≡ little_bytes 4 w =
           rw p (take_all used (little_bytes 4 w) all) in
-          record { digits = digits; h = h; is = rw same at t }
+          (record { digits = digits; h = h; is = rw same at t }, rw same at has)
       | inr some ↦
           let none : used ≡ 0 =
           omega (
@@ -184,65 +190,63 @@ last-used text words piece used w digits h e cut p le t =
           absurd (cut-none text digits h cut before)
     ]
 
+-- What was fed so far, and where the bytes end then.
+pub fed-so_far : {P : Type 0} (k : predictor.Ghosts P) (from known : Known P)
+    (code text : List ℕ) (at : Progress) (stream : Decoding)
+    → (r : ReadsOn k from code known at stream text) → HasFed k from code r.words at stream
+fed-so_far k from known code text at stream r =
+    record { read = r.read; after = rw r.text_is at r.after; on = r.on }
+
+pub cuts-at : {P : Type 0} (k : predictor.Ghosts P) (from known : Known P) (code text : List ℕ)
+    (at : Progress) (stream : Decoding) → ReadsOn k from code known at stream text
+    → ((w : ℕ) → w < 4294967296 → ¬ Can (Reading at) (word_choices k known w))
+    → CutsAt k from code stream
+unfolding cut-off
+cuts-at k from known code text at stream r none = (
+  cut-off k from known code text at stream r none,
+  fed-so_far k from known code text at stream r,
+)
+
 -- What a word that was fed did to the reading.
 pub fed-steps : {P : Type 0} (k : predictor.Ghosts P) (from known new : Known P)
     (code text longer : List ℕ) (at on : Progress) (stream next : Decoding) (w : ℕ)
-    (r : Result Bool UnpackFail) → ReadsOn k from code known at stream text → w < 4294967296
-    → Makes (Reading at) (word_choices k known w) (Reading on) → new ≡ known_after k known w
-    → Feeds text (little_bytes 4 w) longer next r → Steps k from code new on next longer r
+    (r : Result Bool UnpackFail) → (on_so_far : ReadsOn k from code known at stream text)
+    → w < 4294967296 → Makes (Reading at) (word_choices k known w) (Reading on)
+    → new ≡ known_after k known w → Feeds text (little_bytes 4 w) longer next r
+    → Steps k from code on_so_far.words new on next longer r
+unfolding step-all
 fed-steps k from known new code text longer at on was next w (Ok true) rd small made learnt f =
     let after : IsDecoderAfter (text ++ little_bytes 4 w) next = rw f.0 at f.1 in
     let cut : IsCut (text ++ little_bytes 4 w) = rw f.0 at f.2 in
-    rw f.0 (step-on k from known new code text at on was next w rd small made learnt after cut)
+    rw f.0 (step-on k from known new code text at on was next w rd small made learnt after cut
+    f.3)
 fed-steps k from known new code text longer at on was next w (Ok false) rd small made learnt f =
-    let whole : IsStream (text ++ little_bytes 4 w) =
-    last-used text rd.words (little_bytes 4 w) f.1.used w f.1.digits f.1.h rd.text_is rd.cut refl
-    f.1.few f.1.is in
-    rw f.0 (step-all k from known code text at on was w rd small made whole)
+    let whole : IsStream (text ++ little_bytes 4 w) × HasAll (text ++ little_bytes 4 w) next =
+    last-used text rd.words (little_bytes 4 w) f.1.used w f.1.digits f.1.h next rd.text_is rd.cut
+    refl f.1.few f.1.is f.1.all in
+    rw f.0 (
+      step-all k from known code text at on was w rd small made whole.0,
+      whole.1,
+      record { last = w; is = refl },
+    )
 fed-steps k from known new code text longer at on was next w (Err fails.NotPacked) rd small
     made learnt f = f
 fed-steps k from known new code text longer at on was next w (Err fails.Cut) rd small
     made learnt f = absurd f
 fed-steps k from known new code text longer at on was next w (Err fails.Trailing) rd small
-    made learnt f = absurd f
+    made learnt f = f
 fed-steps k from known new code text longer at on was next w (Err (fails.Stream fault)) rd
     small made learnt f =
     step-fault k from known code text at on was w fault rd small made f.0 f.1
 fed-steps k from known new code text longer at on was next w (Err fails.OutOfMemory) rd small
     made learnt f = tt
 
--- A fault that a piece gave.
-pub named-feeds : (old piece longer : List ℕ) (next : Decoding) (e : FormatError)
-    → HasFaultAlready (old ++ piece) e → Feeds old piece longer next (Err (named e))
-named-feeds old piece longer next faults.BadMagic has = ((λ e. cc), has)
-named-feeds old piece longer next (faults.BadVersion v) has = ((λ e. cc), has)
-named-feeds old piece longer next (faults.BadDigits d) has = ((λ e. cc), has)
-named-feeds old piece longer next (faults.Truncated n) has = ((λ e. cc), has)
-named-feeds old piece longer next faults.BadCount has = ((λ e. cc), has)
-named-feeds old piece longer next (faults.BadRoot i) has = ((λ e. cc), has)
-named-feeds old piece longer next (faults.BadFace i) has = ((λ e. cc), has)
-named-feeds old piece longer next (faults.BadRecord i) has = ((λ e. cc), has)
-named-feeds old piece longer next (faults.BadInput i) has = ((λ e. cc), has)
-named-feeds old piece longer next faults.OutOfMemory has = tt
-
--- A piece that was taken.
-taken-feeds : (old piece longer : List ℕ) (next : Decoding) (t : Taken) (whole : Bool)
-    → t.whole ≡ whole → longer ≡ old ++ piece → t.used ≤ length piece
-    → (t.whole ≡ false → t.used ≡ length piece) → IsDecoderAfter (old ++ take t.used piece) next
-    → standing.Says old piece (Ok t) → Feeds old piece longer next (Ok (not whole))
-taken-feeds old piece longer next t true is l few all after says =
-    let (digits, h, text) = says.1 is in
-    (l, record { used = t.used; digits = digits; h = h; few = few; is = text })
-taken-feeds old piece longer next t false is l few all after says =
-    let used : t.used ≡ length piece = all is in
-    let same : take t.used piece ≡ piece = take_all t.used piece (omega arith) in
-    let after' : IsDecoderAfter (old ++ piece) next = rw same at after in
-    let cut : IsCut (old ++ piece) = rw same at (says.0 is) in
-    (l, rw l after', rw l cut)
-
-pub ok-feeds : (old piece longer : List ℕ) (next : Decoding) (t : Taken)
-    → longer ≡ old ++ piece → t.used ≤ length piece
-    → (t.whole ≡ false → t.used ≡ length piece) → IsDecoderAfter (old ++ take t.used piece) next
-    → standing.Says old piece (Ok t) → Feeds old piece longer next (Ok (not t.whole))
-ok-feeds old piece longer next t l few all after says =
-    taken-feeds old piece longer next t t.whole refl l few all after says
+-- Why a word ended the reading.
+pub steps-fail : {P : Type 0} (k : predictor.Ghosts P) (from new : Known P)
+    (code before text : List ℕ) (at : Progress) (stream : Decoding) (e : UnpackFail)
+    → Steps k from code before new at stream text (Err e) → IsFailOf k from code e
+steps-fail k from new code before text at stream fails.NotPacked s = s
+steps-fail k from new code before text at stream fails.Cut s = s.0
+steps-fail k from new code before text at stream fails.Trailing s = absurd s
+steps-fail k from new code before text at stream (fails.Stream fault) s = s.0
+steps-fail k from new code before text at stream fails.OutOfMemory s = tt

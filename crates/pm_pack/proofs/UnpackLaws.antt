@@ -69,7 +69,7 @@ says-begins k from code text words at s r said =
     readers-read_one k words (words_of text) from (first code) r.fit t.fit r.made.can said.made.can
 
 -- The texts of words that begin with others.
-spelled-begins : (short long : List ℕ) (b : Begins short long)
+pub spelled-begins : (short long : List ℕ) (b : Begins short long)
     → spelled long ≡ spelled short ++ spelled b.more
 spelled-begins short long b = ap spelled b.is ∙ spelled-append short b.more
 

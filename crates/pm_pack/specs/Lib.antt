@@ -15,3 +15,4 @@ pub mod Packed
 pub mod Packing
 pub mod Unpacking
 pub mod Faults
+pub mod Beginnings

@@ -1,6 +1,7 @@
 //! Packed texts: the words of a stream text by a range coder, each by a guess of it.
 #![tactic(auto)]
 
+mod beginning;
 mod fault;
 mod fields;
 mod grid;
@@ -16,6 +17,7 @@ mod theory;
 mod word;
 mod writing;
 
+pub use beginning::{Beginning, unpack_first};
 pub use fault::{Fault, pack_fault, unpack_fault};
 pub use reading::{UnpackFail, unpack};
 pub use theory::packed_texts_are_sound;

@@ -3,7 +3,7 @@ ghost use Rattle.std.specs.Prelude.{◌≡◌, ◌≢◌, ◌<◌, ◌≤◌, �
 ghost use Rattle.std.specs.Prelude.{IfOk, IfErr, MatchOption};
 ghost use Rattle.byteorder.specs.Endian.{little_bytes};
 ghost use Rattle.pm_coder.specs.RoundTrips.{first};
-ghost use Rattle.pm_format.specs.Standing.{IsDecoderAfter};
+ghost use Rattle.pm_format.specs.Standing.{IsDecoderAfter, takes_more};
 ghost use Rattle.pm_pack.specs.Texts as texts;
 ghost use Rattle.pm_pack.specs.Packed.{head, slots, at_first, IsPacked};
 ghost use Rattle.pm_pack.specs.Unpacking.{named, Feeds, ReadsOn, Steps, Ends, SaysStream};
@@ -69,15 +69,16 @@ fn feed_word(
 }
 
 // Reads one more word, and answers whether more are to come.
-fn read_word<P: Predictor + Drop>(
+pub(crate) fn read_word<P: Predictor + Drop>(
     known: &mut Known<P>,
     coder: &mut Decoder,
     stream: &mut pm_format::Decoder,
     text: &mut Vec<u8>,
 ) -> Result<bool, UnpackFail>
     ensures steps { (from : texts.Known P) (code : List ℕ)
-        → ReadsOn P.Predictor from code known.old coder.old stream.old text.old.items
-        → Steps P.Predictor from code known.new coder.new stream.new text.new.items result }
+        → (reads : ReadsOn P.Predictor from code known.old coder.old stream.old text.old.items)
+        → Steps P.Predictor from code reads.words known.new coder.new stream.new text.new.items
+        result }
     ensures further { IfOk result (λ more. more ≡ true → stream.old.taken < stream.new.taken) }
     ensures most { IfOk result (λ more. more ≡ true → stream.new.taken ≤ 2 ^ 28 + 44) }
 {
@@ -155,6 +156,7 @@ fn read_text(
 ) -> Result<Vec<u8>, UnpackFail>
     requires first { known.old ≡ at_first }
     requires fresh { IsDecoderAfter [] stream.old }
+    requires more { takes_more stream.old.stage ≡ true }
     requires none { stream.old.taken ≡ 0 }
     ensures ok { (code : List ℕ) → first code ≡ coder.entry
         → IfOk result (λ text. SaysStream code text.items) }
@@ -182,7 +184,7 @@ fn unpack_code(alloc: Global, code: &[u8]) -> Result<Vec<u8>, UnpackFail>
 }
 
 // What follows the head, where the bytes begin with it.
-fn code_in(packed: &[u8]) -> Option<&[u8]>
+pub(crate) fn code_in(packed: &[u8]) -> Option<&[u8]>
     ensures { MatchOption result ((code : List ℕ) → packed.now ≢ head ++ code)
         (λ code. packed.now ≡ head ++ code.now) }
 {

@@ -1,6 +1,6 @@
--- How a program ends that makes a text of the first bytes of its input: `makes bytes text` says that
--- the text is made of these bytes, and `refuses bytes fault` that nothing is, since they have this
--- fault.
+-- How a program ends that makes a text of the first bytes of its input: `makes bytes text` says
+-- that the text is made of these bytes, and `refuses bytes fault` that nothing is, since they have
+-- this fault.
 use Rattle.std.specs.Prelude.{◌≡◌, ℕ, List, take, Option, IfSome, Result, Ok, Err}
 use Rattle.pm_io.specs.Bytes.{Gains, GainsPart}
 use Rattle.pm_program.specs.declared.fail.RunFail.{RunFail}

@@ -10,7 +10,7 @@ use Rattle.pm_program.proofs.EndingLaws.{ends_early, outcomes_early, says_early,
 use Rattle.pm_program.proofs.EndingLaws.{ends_ungathered}
 use Rattle.pm_program.proofs.MakingLaws.{read_of, cut_of, nothing_of, told_fault, puts_made}
 use Rattle.pm_program.proofs.MakingLaws.{puts_none}
-use Rattle.pack.proofs.MadeLaws.{one_asked, nothing_made}
+use Rattle.pack.proofs.MadeLaws.{one_asked, nothing_unpacked}
 use Rattle.pack.proofs.run.run.Goals as goal
 
 pub returns-in-Ok-obey-clause-packs : goal.returns-in-Ok-obey-clause-packs
@@ -31,6 +31,15 @@ returns-in-Ok-obey-clause-unpacks g c = λ asks is.
     ∙ (c.in-Some.is ∙ ap (λ r. Some r) c.in-Work.is))
     (sym (ap asked_of c.in-Ok.is) ∙ asks)) c.in-Ok-obey.ensures.ends.0
 
+pub returns-in-Ok-obey-clause-unpacks_first : goal.returns-in-Ok-obey-clause-unpacks_first
+returns-in-Ok-obey-clause-unpacks_first g c = λ n asks is.
+    subst (λ (a : Asked). IfSome (g.S.Source.left c.args.input.now)
+    (λ bytes. Replied (IsMade a) (front bytes) (g.K.Sink.got c.args.out.now)
+    (g.K.Sink.got c.obey.new.out)))
+    (one_asked _ _ (asked.UnpackFirst n) (sym c.read_words.ensures
+    ∙ (c.in-Some.is ∙ ap (λ r. Some r) c.in-Work.is))
+    (sym (ap asked_of c.in-Ok.is) ∙ asks)) c.in-Ok-obey.ensures.ends.0
+
 pub returns-in-Ok-obey-clause-leads_back : goal.returns-in-Ok-obey-clause-leads_back
 returns-in-Ok-obey-clause-leads_back g c = λ asks none.
     puts_made (IsMade asked.Unpack) c.packed_texts_are_sound.ensures.one 0 _ _ _ refl
@@ -46,7 +55,7 @@ returns-in-Ok-obey-clause-read_whole g c = λ other asks is. c.in-Ok-obey.ensure
 
 pub returns-in-Err-obey-clause-leads_back : goal.returns-in-Err-obey-clause-leads_back
 returns-in-Err-obey-clause-leads_back g c = λ asks none.
-    puts_none (IsMade asked.Unpack) (Refuses asked.Unpack) (nothing_made asked.Unpack)
+    puts_none (IsMade asked.Unpack) (Refuses asked.Unpack) nothing_unpacked
     c.in-Err-obey.fail _ _ _ _ _ c.tell.ensures.status
     (subst (λ (a : Asked). Ends (IsMade a) (Refuses a) (Err c.in-Err-obey.fail)
     (g.S.Source.left c.args.input.now) (g.S.Source.left c.obey.new.input)

@@ -1,6 +1,6 @@
 use Rattle.std.proofs.Common.{Ok, Err, not, sym, subst}
 use Rattle.pm_pack.specs.Unpacking.{Feeds}
-use Rattle.pm_pack.proofs.StepLaws.{named-feeds, ok-feeds}
+use Rattle.pm_pack.proofs.FeedLaws.{named-feeds, ok-feeds}
 use Rattle.pm_pack.proofs.reading.feed_word.Goals as goal
 
 pub returns-in-Err-clause-fed : goal.returns-in-Err-clause-fed
@@ -19,6 +19,6 @@ returns-in-Ok-feed-clause-fed c = λ after.
     let feeds = ok-feeds old c.word_bytes-bytes.result c.extend_from_slice.new.self.items
     c.feed.new.self c.in-Ok-feed.fed c.in-Ok.ensures.items c.in-Ok-feed.ensures.within
     c.in-Ok-feed.ensures.all (c.in-Ok-feed.ensures.stands old after)
-    (c.in-Ok-feed.ensures.says old after) in
+    c.in-Ok-feed.ensures.tells (c.in-Ok-feed.ensures.says old after) in
     subst (λ p. Feeds old p c.extend_from_slice.new.self.items c.feed.new.self
     (Ok (not c.in-Ok-feed.fed.whole))) c.word_bytes-bytes.ensures feeds

@@ -7,14 +7,14 @@ pub returns-in-Err-clause-fail : goal.returns-in-Err-clause-fail
 returns-in-Err-clause-fail c = λ code start.
     c.in-Err.ensures at_first code
     (begins slots at_first _ code _ _ _ c.requires.first start c.new-text.ensures.items
-    c.requires.fresh)
+    c.requires.fresh c.requires.more)
 
 pub returns-in-Ok-clause-ok : goal.returns-in-Ok-clause-ok
 returns-in-Ok-clause-ok c = λ code start.
     ends code c.read_words.new.text.items c.read_words.new.coder
     (c.in-Ok.ensures at_first code
     (begins slots at_first _ code _ _ _ c.requires.first start c.new-text.ensures.items
-    c.requires.fresh))
+    c.requires.fresh c.requires.more))
     (sym c.is_at_end.ensures ∙ c.if-is_at_end.true)
 
 pub returns-in-Ok-2-clause-fail : goal.returns-in-Ok-2-clause-fail
@@ -22,5 +22,5 @@ returns-in-Ok-2-clause-fail c = λ code start.
     ends-not code c.read_words.new.text.items c.read_words.new.coder
     (c.in-Ok-2.ensures at_first code
     (begins slots at_first _ code _ _ _ c.requires.first start c.new-text.ensures.items
-    c.requires.fresh))
+    c.requires.fresh c.requires.more))
     (sym c.is_at_end.ensures ∙ c.if-is_at_end.false)

@@ -1,4 +1,4 @@
-use Rattle.pm_pack.proofs.StepLaws.{cut-off, fed-steps}
+use Rattle.pm_pack.proofs.StepLaws.{cuts-at, fed-steps}
 use Rattle.pm_pack.proofs.reading.read_word.Goals as goal
 
 pub returns-in-Ok-clause-steps : goal.returns-in-Ok-clause-steps
@@ -10,5 +10,5 @@ returns-in-Ok-clause-steps g c = λ from code r.
 
 pub returns-in-Err-Cut-clause-steps : goal.returns-in-Err-Cut-clause-steps
 returns-in-Err-Cut-clause-steps g c = λ from code r.
-    cut-off g.P.Predictor from c.args.known.now code c.args.text.now.items c.args.coder.now
+    cuts-at g.P.Predictor from c.args.known.now code c.args.text.now.items c.args.coder.now
     c.args.stream.now r (c.in-Err-Cut.ensures.cut c.in-Err-Cut.field-0-is)
