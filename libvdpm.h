@@ -303,6 +303,14 @@ uint32_t vdpm_prepare(const uint8_t *text, size_t length, uint32_t size, vdpm_ma
 uint32_t vdpm_pack(const uint8_t *stream, size_t length, vdpm_made *made, vdpm_fault *fault);
 uint32_t vdpm_unpack(const uint8_t *packed, size_t length, vdpm_made *made, vdpm_fault *fault);
 
+/* Unpacks the first records of a packed text, as `pack --unpack --records RECORDS` does: `length`
+ * may end anywhere, and vdpm_made_bytes has the stream of what these bytes tell then, as a model
+ * of its own, which shows what the whole does while no later record is split. Where the text has no
+ * more records and all its bytes are there it is the stream that was packed. Bytes that end before
+ * the base mesh have fault 35. Answers as vdpm_unpack does. */
+uint32_t vdpm_unpack_first(const uint8_t *packed, size_t length, uint32_t records,
+                           vdpm_made *made, vdpm_fault *fault);
+
 /* Tells how many bytes were made, and how many the lines have that are said beside them: 0 but
  * after vdpm_prepare. */
 uint32_t vdpm_made_length(vdpm_made *made, size_t *bytes, size_t *notes);

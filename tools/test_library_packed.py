@@ -97,6 +97,28 @@ class Packed(unittest.TestCase):
                 vdpm.pack(data)
             self.assertEqual((raised.exception.number, raised.exception.place), (22, place))
 
+    def test_the_first_records_show_what_the_whole_does(self) -> None:
+        for stream in streams():
+            it = vdpm.pack(stream)
+            with vdpm.Session(stream) as whole:
+                records = whole.sizes().records
+            for count in sorted({0, records // 3, records // 2}):
+                with self.subTest(count), vdpm.Session(stream) as whole, \
+                        vdpm.Session(vdpm.unpack(it, records=count)) as part:
+                    self.assertEqual(part.sizes().records, count)
+                    for k in range(count):
+                        self.assertEqual(part.split(k), whole.split(k))
+                    for mine, its in zip(part.frame(), whole.frame()):
+                        self.assertEqual(flat(mine), flat(its))
+            self.assertEqual(vdpm.unpack(it, records=records), stream)
+
+    def test_a_packed_text_that_is_cut_off_tells_its_first_records(self) -> None:
+        it = vdpm.pack(octahedron())
+        with self.assertRaises(vdpm.StreamFault) as raised:
+            vdpm.unpack(it[:9], records=1)
+        self.assertEqual(raised.exception.number, 35)
+        self.assertEqual(vdpm.unpack(it[:-1], records=0), vdpm.unpack(it, records=0))
+
     def test_a_str_is_no_stream(self) -> None:
         for function in (vdpm.pack, vdpm.unpack):
             with self.assertRaises(TypeError):

@@ -164,6 +164,7 @@ def load(path: Optional[str] = None) -> ctypes.CDLL:
         "prepare": [text, size, number, handle, told],
         "pack": [text, size, handle, told],
         "unpack": [text, size, handle, told],
+        "unpack_first": [text, size, number, handle, told],
         "made_length": [handle, count, count],
         "made_bytes": [handle, BYTES, size],
         "made_notes": [handle, BYTES, size],

@@ -174,10 +174,19 @@ def pack(stream: bytes, library: Optional[str] = None) -> bytes:
     return _made(loaded, check_packed, OF_STREAM, loaded.vdpm_pack, data, len(data))[0]
 
 
-def unpack(packed: bytes, library: Optional[str] = None) -> bytes:
+def unpack(packed: bytes, library: Optional[str] = None, *,
+           records: Optional[int] = None) -> bytes:
     """The stream that was packed, byte for byte, as `pack --unpack` writes it.
 
-    Raises StreamFault where the program refuses the bytes, and MemoryError.
+    records: the stream of so many of its first records, a model of its own; `packed` may be cut off
+    anywhere after the base mesh, and what it tells is taken. Where the text has no more records and
+    its bytes are all there it is the stream that was packed.
+
+    Raises StreamFault where the program refuses the bytes, ValueError, and MemoryError.
     """
     data, loaded = bytes_of(packed, "a packed text"), load(library)
+    if records is not None:
+        records = number_to(MOST_NUMBER, records, "records")
+        return _made(loaded, check_packed, OF_PACKED, loaded.vdpm_unpack_first, data, len(data),
+                     records)[0]
     return _made(loaded, check_packed, OF_PACKED, loaded.vdpm_unpack, data, len(data))[0]

@@ -34,7 +34,7 @@ from .faults import Answer
 
 
 USAGES = Path(__file__).resolve().parents[2] / "tools/quick_start/usage"
-VERSION = "1.2.0, of the proved sources; the script beside it tells whether it is proved"
+VERSION = "1.3.0, of the proved sources; the script beside it tells whether it is proved"
 
 
 def told(program: str, words: List[str]) -> Optional[Answer]:

@@ -135,3 +135,7 @@ uint32_t vdpm_slots_change(vdpm_slots *, const uint32_t *, size_t, const uint32_
                            uint32_t *, size_t, vdpm_slots_sizes *);
 uint32_t vdpm_slots_of(vdpm_slots *, const uint32_t *, size_t, uint32_t *, size_t);
 void vdpm_slots_close(vdpm_slots *);
+
+/* Of 1.3. */
+
+uint32_t vdpm_unpack_first(const uint8_t *, size_t, uint32_t, vdpm_made *, vdpm_fault *);

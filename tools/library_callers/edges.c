@@ -89,6 +89,8 @@ static void packed_nothing(const uint8_t *stream, size_t length) {
     told("no fault", fault.number, 0);
     told("vdpm_pack again", vdpm_pack(stream, length, &made, &fault), VDPM_NOT_SO);
     told("vdpm_unpack again", vdpm_unpack(stream, length, &made, &fault), VDPM_NOT_SO);
+    told("vdpm_unpack_first again", vdpm_unpack_first(stream, length, 0, &made, &fault),
+         VDPM_NOT_SO);
     told("vdpm_made_length", vdpm_made_length(&made, &count, &notes), VDPM_DONE);
     told("no notes", (uint32_t)notes, 0);
     told("vdpm_made_bytes", vdpm_made_bytes(&made, packed, sizeof packed), VDPM_DONE);
@@ -99,6 +101,12 @@ static void packed_nothing(const uint8_t *stream, size_t length) {
     told("vdpm_made_bytes", vdpm_made_bytes(&back, again, sizeof again), VDPM_DONE);
     told("the same", (uint32_t)(memcmp(again, stream, length) != 0), 0);
     vdpm_made_close(&back);
+    told("vdpm_unpack_first", vdpm_unpack_first(packed, count, 0, &back, &fault), VDPM_DONE);
+    told("vdpm_made_length", vdpm_made_length(&back, &count, &notes), VDPM_DONE);
+    told("as long", (uint32_t)count, (uint32_t)length);
+    vdpm_made_close(&back);
+    told("vdpm_unpack_first", vdpm_unpack_first(packed, 7, 0, &back, &fault), VDPM_FAULTY);
+    told("cut off", fault.number, 35);
 }
 
 /* A view of nothing: its planes may be NULL, and numbers out of range are refused. */

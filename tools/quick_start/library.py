@@ -78,6 +78,7 @@ fn main(rt: HostRuntime) {
     making::vdpm_prepare(alloc, b"", 0, &mut made, &mut fault);
     packing::vdpm_pack(alloc, b"", &mut made, &mut fault);
     packing::vdpm_unpack(alloc, b"", &mut made, &mut fault);
+    packing::vdpm_unpack_first(alloc, b"", 0, &mut made, &mut fault);
     making::vdpm_made_length(alloc, &mut made, &mut length, &mut notes);
     making::vdpm_made_bytes(alloc, &mut made, &mut bytes);
     making::vdpm_made_notes(alloc, &mut made, &mut bytes);

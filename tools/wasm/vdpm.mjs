@@ -99,6 +99,17 @@ export class Vdpm {
   }
 
   /**
+   * The stream of the first records of a packed text, whose bytes may be cut off anywhere after its
+   * base mesh: a model of its own, which shows what the whole does while no later record is split.
+   * @param {Uint8Array} packed
+   * @param {number} records
+   * @returns {Uint8Array}
+   */
+  unpackFirst(packed, records) {
+    return this.made("vdpm_unpack_first", packed, [records], WORDS.OF_STREAM).bytes;
+  }
+
+  /**
    * Shows a stream. A view makes at most `budget` moves.
    * @param {Uint8Array} stream
    * @param {{ budget?: number }} asked

@@ -12,5 +12,5 @@ mod preparing;
 pub use building::{build, simplify};
 pub use fail::{BuildFail, PrepareFail, text_cause_of};
 pub use made::Made;
-pub use packing::{pack, unpack};
+pub use packing::{pack, unpack, unpack_first};
 pub use preparing::prepare;

@@ -21,7 +21,7 @@ text_asked word =
 -- The name and the version of a program.
 unfoldable pub version_text : List ℕ → List ℕ
 version_text program = program
-    ++ codes " 1.2.0, of the proved sources; the script beside it tells whether it is proved\n"
+    ++ codes " 1.3.0, of the proved sources; the script beside it tells whether it is proved\n"
 
 -- The text was put with status 0. With status 4 a write failed, which was counted and said, and a
 -- proper part of the text was put.

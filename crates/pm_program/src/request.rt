@@ -50,6 +50,6 @@ pub fn tell_version<K: Sink, E: Sink>(out: &mut K, err: &mut E, program: &str) -
 {
     let mut line = Line::new();
     line.add(program.as_bytes());
-    line.add(b" 1.2.0, of the proved sources; the script beside it tells whether it is proved\n");
+    line.add(b" 1.3.0, of the proved sources; the script beside it tells whether it is proved\n");
     tell_text(out, err, program, line.as_slice())
 }

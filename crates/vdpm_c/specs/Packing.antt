@@ -6,6 +6,7 @@ use Rattle.pm_pack.specs.declared.reading.UnpackFail.{UnpackFail}
 use Rattle.pm_pack.specs.Packed.{IsStream, IsPacked}
 use Rattle.pm_pack.specs.Packing.{IsPackFail}
 use Rattle.pm_pack.specs.Unpacking.{IsFail}
+use Rattle.pm_pack.specs.Beginnings.{IsBeginningFail}
 use Rattle.pm_pack.specs.Faults.{number_of, unit_of, pack_fault, unpack_fault}
 use Rattle.vdpm_c.specs.declared.tables.FaultTold.{FaultTold}
 use Rattle.vdpm_c.specs.Border.{place_told}
@@ -29,4 +30,10 @@ pub record RefusedPacked (bytes : List ℕ) (told : FaultTold) : Type 0 where
   pub fail : UnpackFail
   pub is : IsFail bytes fail
   pub none : (text : List ℕ) → ¬ IsPacked bytes text
+  pub tells : IsToldOf (unpack_fault fail) told
+
+-- The bytes were refused as `pack --unpack --records` refuses them, for this fault.
+pub record RefusedBeginning (bytes : List ℕ) (n : ℕ) (told : FaultTold) : Type 0 where
+  pub fail : UnpackFail
+  pub is : IsBeginningFail bytes n fail
   pub tells : IsToldOf (unpack_fault fail) told

@@ -2,9 +2,10 @@
 //! done.
 ghost use Rattle.std.specs.Prelude.{◌≡◌, ◌≢◌, ◌↔◌};
 ghost use Rattle.pm_making.specs.Making.{MadeText};
-ghost use Rattle.pm_making.specs.Packing.{IsPackedOf, IsUnpackedOf};
+ghost use Rattle.pm_making.specs.Packing.{IsPackedOf, IsUnpackedOf, IsFirstOf};
 ghost use Rattle.vdpm_c.specs.Making.{HasMade, no_fault};
 ghost use Rattle.vdpm_c.specs.Packing.{IsToldOf, RefusedStream, RefusedPacked};
+ghost use Rattle.vdpm_c.specs.Packing.{RefusedBeginning};
 
 use crate::made;
 use crate::statuses::{FAULTY, NO_MEMORY, NOT_SO};
@@ -75,6 +76,34 @@ pub extern "C" fn vdpm_unpack(
         return NOT_SO;
     }
     match pm_making::unpack(alloc, packed) {
+        Ok(it) => made::keep(alloc, it, handle),
+        Err(fail) => refused(unpack_fault(fail), fault),
+    }
+}
+
+/// Unpacks the first records of a packed text whose bytes may be cut off, as `pack --unpack
+/// --records` does.
+#[unsafe(no_mangle)]
+pub extern "C" fn vdpm_unpack_first(
+    alloc: Global,
+    packed: &[u8],
+    records: u32,
+    handle: &mut MadeHandle,
+    fault: &mut FaultTold,
+) -> u32
+    ensures done { result ≡ 0 → (m : MadeText) × HasMade handle.new m
+        × IsFirstOf packed.now records m }
+    ensures refused { result ≡ 1 → RefusedBeginning packed.now records fault.new }
+    ensures untold { result ≢ 1 → fault.new ≡ no_fault }
+    ensures not_so { result ≡ 6 ↔ (handle.old.open ≢ 0) }
+    ensures statuses { result ≢ 0 → result ≢ 1 → result ≢ 6 → result ≡ 5 }
+    ensures as_before { result ≢ 0 → handle.new ≡ handle.old }
+{
+    *fault = NO_FAULT;
+    if handle.open != 0 {
+        return NOT_SO;
+    }
+    match pm_making::unpack_first(alloc, packed, records) {
         Ok(it) => made::keep(alloc, it, handle),
         Err(fail) => refused(unpack_fault(fail), fault),
     }
