@@ -111,9 +111,11 @@ def words_case(rng: Random) -> Case:
     """Words of the forms in any order, most of which aren't understood. No large demo is asked."""
     known = ["canon", "build", "expand", "check", "view", "live", "--digits", "0", "4", "5", "01"]
     known += ["-1", "", "4294967296", "prepare", "demo 3", "--help", "32768", "--keep-border"]
-    known += ["--unpack", "--version"]
+    known += ["--unpack", "--version", "--records"]
     words = [rng.choice(known) for _ in range(rng.randint(0, 4))]
-    words = rng.choice([words, ["demo", rng.choice(["0", "257", "01", "x"])], ["view", "01"]])
+    demo = ["demo", rng.choice(["0", "257", "01", "x"])]
+    records = ["--unpack", "--records", rng.choice(["0", "01", "x", "4294967295", "4294967296"])]
+    words = rng.choice([words, words, demo, ["view", "01"], records])
     program = rng.choice(["vdpm", "vdpm", "prepare", "simplify", "pack", "paint"])
     return Case(program, words, b"v 0 0 0\n")
 
@@ -149,14 +151,11 @@ def pack_case(rng: Random) -> Case:
     return Case("pack", [], stream)
 
 
-def unpack_case(rng: Random) -> Case:
-    """Most packed texts are damaged; some say words that are no stream text."""
-    h, stream = random_stream(rng, random_mesh(rng))
-    if rng.random() < 0.3:
-        stream = bad_stream(rng, h, stream)
+def random_packed(rng: Random, stream: bytes, kinds: List[str]) -> bytes:
+    """A packed text that is damaged in one of the ways. Some say words that are no stream text."""
     packed = bytearray(packed_words(stream[: len(stream) // 4 * 4]))
     at = rng.randrange(len(packed))
-    kind = rng.choice(["whole", "bit", "bit", "byte", "cut", "more"])
+    kind = rng.choice(kinds)
     if kind == "bit":
         packed[at] ^= 1 << rng.randrange(8)
     elif kind == "byte":
@@ -165,7 +164,26 @@ def unpack_case(rng: Random) -> Case:
         del packed[at:]
     elif kind == "more":
         packed += rng.choice([b"\0", b"\n", b"q\nx"])
-    return Case("pack", ["--unpack"], bytes(packed))
+    return bytes(packed)
+
+
+def unpack_case(rng: Random) -> Case:
+    h, stream = random_stream(rng, random_mesh(rng))
+    if rng.random() < 0.3:
+        stream = bad_stream(rng, h, stream)
+    kinds = ["whole", "bit", "bit", "byte", "cut", "more"]
+    return Case("pack", ["--unpack"], random_packed(rng, stream, kinds))
+
+
+def records_case(rng: Random) -> Case:
+    """The first records of a packed text, of which most are cut off."""
+    h, stream = random_stream(rng, random_mesh(rng))
+    count = len(h.records)
+    if rng.random() < 0.2:
+        stream = bad_stream(rng, h, stream)
+    packed = random_packed(rng, stream, ["whole", "bit", "cut", "cut", "cut", "more"])
+    n = rng.choice([0, 1, rng.randint(0, count), count, count + 1, 4_294_967_295])
+    return Case("pack", ["--unpack", "--records", str(n)], packed)
 
 
 def random_coat(rng: Random, h: Hierarchy) -> bytes:
@@ -218,6 +236,7 @@ KINDS: List[Tuple[Callable[[Random], Case], int]] = [
     (prepared_case, 6),
     (pack_case, 4),
     (unpack_case, 8),
+    (records_case, 8),
     (paint_case, 8),
 ]
 

@@ -19,6 +19,7 @@ with `prepare`, `simplify`, `pack` and `paint`.
     pick       rays
     script     the lines of a script
     commands   words and answers of `vdpm` and `simplify`
+    prefix     the first records of a hierarchy
     packed     packed texts, and words and answers of `pack`
     fits       fits of numbers to the leaves of nodes
     paint      coats, and words and answers of `paint`

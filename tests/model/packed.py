@@ -4,9 +4,11 @@ import struct
 from typing import Dict, List, Optional
 
 from .coder import CUT, Decoder, Writer
+from .commands import number_of_word
 from .faults import Answer, Fault, not_understood
 from .guesses import Words
-from .stream import Reader, read_stream
+from .prefix import first_records
+from .stream import Reader, read_stream, stream_text
 
 HEAD = b"VDPK\1"
 TRAILING, NOT_PACKED, PACKED_TRAILING = 29, 34, 36
@@ -59,20 +61,50 @@ def packed(text: bytes) -> bytes:
     return packed_words(text)
 
 
-def unpacked(text: bytes) -> bytes:
-    """The stream text of a packed text."""
+def unpacking(text: bytes) -> Unpacking:
+    """What reads the words of a packed text."""
     if not text.startswith(HEAD):
         raise Fault(NOT_PACKED)
-    reader = Unpacking(text[len(HEAD) :])
-    reader.read_all()
+    return Unpacking(text[len(HEAD) :])
+
+
+def ended(reader: Unpacking) -> bytes:
+    """The stream text that was read, which no byte may follow."""
     if reader.coder.rest:
         raise Fault(PACKED_TRAILING)
     return reader.data
 
 
+def unpacked(text: bytes) -> bytes:
+    """The stream text of a packed text."""
+    reader = unpacking(text)
+    reader.read_all()
+    return ended(reader)
+
+
+def first_unpacked(text: bytes, n: int) -> bytes:
+    """The stream text of the first n records of a packed text that may be cut off after its base
+    mesh: of those that are told, where they are fewer; and all of it, where that has no more."""
+    reader = unpacking(text)
+    reader.read_base_mesh()
+    try:
+        reader.read_records(n)
+    except Fault as fault:
+        if fault.number != CUT:
+            raise
+    else:
+        if n >= reader.counts.records:
+            return ended(reader)
+    h = reader.hierarchy
+    return stream_text(first_records(h, min(n, len(h.records))), reader.digits)
+
+
 def asked(words: List[str], data: bytes) -> Optional[Answer]:
     if words == []:
         return Answer(0, packed(data), "")
+    if words[:2] == ["--unpack", "--records"] and len(words) == 3:
+        n = number_of_word(words[2])
+        return None if n is None else Answer(0, first_unpacked(data, n), "")
     return Answer(0, unpacked(data), "") if words == ["--unpack"] else None
 
 

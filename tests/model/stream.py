@@ -154,17 +154,29 @@ class Reader:
         self.face_input(number)
         return NewFace((a, b, c), number, side_of_word(first), side_of_word(second))
 
-    def read_all(self) -> None:
+    def read_base_mesh(self) -> None:
         self.read_header()
         for i in range(self.counts.roots):
             self.read_root(i)
         for i in range(self.counts.bases):
             self.read_base(i)
-        for k in range(self.counts.records):
+
+    def read_records(self, most: int) -> None:
+        """So many records after the base mesh, or all where there are no more."""
+        for k in range(min(most, self.counts.records)):
             self.read_record(k)
+        if most >= self.counts.records:
+            self.judge_faces()
+
+    def judge_faces(self) -> None:
+        """After the last unit no face has a number above the number of faces."""
         for number, word in self.face_inputs:
             if number > len(self.face_inputs):
                 raise Fault(BAD_INPUT, f"input {word}")
+
+    def read_all(self) -> None:
+        self.read_base_mesh()
+        self.read_records(self.counts.records)
 
 
 def signed_place(words: List[int]) -> Optional[Point]:
