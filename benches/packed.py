@@ -1,6 +1,7 @@
 """Measures what `pack` saves, and prints tables.
 
     python3 benches/packed.py meshes [--program PATH] [MESH.obj ..]
+    python3 benches/packed.py records [--program PATH] [MESH.obj ..]
     python3 benches/packed.py world WORLD [--program PATH] [--jobs J]
     python3 benches/packed.py window WORLD [--program PATH]
 
@@ -8,7 +9,8 @@
 `xz -9e` and `pack`, and of the same meshes by Debian's `draco` at its best level, with coordinates
 of 16 bits. Draco keeps one mesh, with no hierarchy and no order of the input, and rounds to a grid
 of its own. The meshes are the examples and some of terrain.py and meshes.py, unless files are
-named. A program that isn't there leaves its column empty.
+named. A program that isn't there leaves its column empty. `records` tells how many per cent of a
+packed text's bytes tell its base mesh, and its first records as well.
 
 `world` tells the bytes of a world's streams as they are, by xz, each for itself, and packed.
 `window` tells the seconds until the window over a world can be asked, has drawn a tile, and shows
@@ -38,6 +40,7 @@ from worlds.fronts import needed, run, stream_of  # noqa: E402
 
 ZSTD = ["zstd", "-19", "-q", "-c"]
 XZ = ["xz", "-9e", "-c"]
+SHARES = (1, 10, 25, 50)
 DRACO = ["-cl", "10", "-qp", "16"]
 MADE = (
     ("terrain 120", "terrain.py", ["120"]),
@@ -100,6 +103,46 @@ def tell_meshes(asked: argparse.Namespace) -> None:
             print(row(name, mesh, asked.program, room), flush=True)
 
 
+def told_by(pack: str, packed: bytes) -> int:
+    """How many records the bytes tell; -1 where they don't tell the base mesh."""
+    words = [pack, "--unpack", "--records", "4294967295"]
+    done = subprocess.run(words, input=packed, stdout=subprocess.PIPE, stderr=subprocess.DEVNULL)
+    return -1 if done.returncode else records_of(done.stdout)
+
+
+def records_of(stream: bytes) -> int:
+    at = 24 if stream[4] == 2 else 20
+    return int.from_bytes(stream[at : at + 4], "little")
+
+
+def bytes_telling(pack: str, packed: bytes, records: int) -> int:
+    """How many bytes from the front tell so many records."""
+    low, high = 0, len(packed)
+    while low < high:
+        middle = (low + high) // 2
+        if told_by(pack, packed[:middle]) < records:
+            low = middle + 1
+        else:
+            high = middle
+    return low
+
+
+def tell_records(asked: argparse.Namespace) -> None:
+    heads = " | ".join(f"{share} per cent" for share in SHARES)
+    print(f"| mesh | records | bytes | base mesh | {heads} |")
+    print("|" + "---|" * (4 + len(SHARES)))
+    programs = programs_of(asked.program)
+    with tempfile.TemporaryDirectory() as folder:
+        named = [(Path(path).stem, Path(path)) for path in asked.given]
+        for name, mesh in named or meshes(Path(folder)):
+            stream = model_of(mesh, programs).stream
+            packed, count = run([str(programs.pack)], stream), records_of(stream)
+            wanted = [count * share // 100 for share in (0, *SHARES)]
+            told = [bytes_telling(str(programs.pack), packed, records) for records in wanted]
+            cells = " | ".join(f"{100 * length / len(packed):.1f}" for length in told)
+            print(f"| {name} | {count:,} | {len(packed):,} | {cells} |", flush=True)
+
+
 def sizes_of(vdpm: Path, world: World, tile: Tile) -> Tuple[int, int, int]:
     text = stream_of(vdpm, world, tile)
     pack = [str(beside(vdpm, "pack"))]
@@ -148,7 +191,9 @@ def tell_window(asked: argparse.Namespace) -> None:
         server.showing.close()
 
 
-TABLES = {"meshes": tell_meshes, "world": tell_world, "window": tell_window}
+TABLES = {
+    "meshes": tell_meshes, "records": tell_records, "world": tell_world, "window": tell_window,
+}  # fmt: skip
 
 
 def main() -> None:
@@ -158,7 +203,7 @@ def main() -> None:
     parser.add_argument("--program", type=Path, default=TOP / "vdpm", help="another vdpm")
     parser.add_argument("--jobs", type=int, default=4)
     parser.add_argument("--picture", type=Path, help="where a picture of the window goes")
-    asked = parser.parse_args()
+    asked = parser.parse_intermixed_args()
     TABLES[asked.what](asked)
 
 
