@@ -2,10 +2,10 @@
 
     python3 tests/allocations.py FOLDER
 
-FOLDER has vdpm, prepare and simplify, which take memory from the shared C library. A run in which
-an allocation failed ends with status 5, and has written no byte that the whole answer hasn't there;
-or it did without that memory, and has the whole answer. The line `out of memory` is said where
-there was memory to say it. Needs `cc`. The last line is `N passed, M failed`.
+FOLDER has vdpm, prepare, simplify and pack, which take memory from the shared C library. A run in
+which an allocation failed ends with status 5, and has written no byte that the whole answer hasn't
+there; or it did without that memory, and has the whole answer. The line `out of memory` is said
+where there was memory to say it. Needs `cc`. The last line is `N passed, M failed`.
 """
 import os
 import subprocess
@@ -13,6 +13,8 @@ import sys
 import tempfile
 from pathlib import Path
 from typing import List, NamedTuple
+
+from model.packed import packed_words
 
 TOP = Path(__file__).resolve().parent.parent
 EXAMPLES = TOP / "examples"
@@ -68,11 +70,14 @@ class Work(NamedTuple):
 def works() -> List[Work]:
     obj, scan = (EXAMPLES / "torus.obj").read_bytes(), (EXAMPLES / "ring_scan.obj").read_bytes()
     script = (EXAMPLES / "octahedron_glide.script").read_bytes()
-    live = (EXAMPLES / "octahedron.vdpm").read_bytes() + script
+    stream = (EXAMPLES / "octahedron.vdpm").read_bytes()
+    live, packed = stream + script, packed_words(stream)
+    first = ["--unpack", "--records", "1"]
     return [
         Work("vdpm", ["canon"], obj), Work("vdpm", ["build", "400"], obj),
         Work("vdpm", ["live", "9"], live), Work("simplify", ["--keep-border"], obj),
-        Work("prepare", ["100"], scan),
+        Work("prepare", ["100"], scan), Work("pack", [], stream),
+        Work("pack", ["--unpack"], packed), Work("pack", first, packed),
     ]  # fmt: skip
 
 
