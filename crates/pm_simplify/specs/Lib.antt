@@ -7,3 +7,4 @@ pub mod SparedFaces
 pub mod Forgetting
 pub mod KnownBorder
 pub mod AwaitedVertices
+pub mod Going

@@ -1,25 +1,17 @@
 //! The run of collapses from a mesh to so many faces.
-ghost use Rattle.std.specs.Prelude.{◌≡◌, ◌≤◌, ◌+◌, ◌*◌, [], length, OnOk, IfOk, IfErr};
-ghost use Rattle.pm_base.specs.Meshes.{Mesh as PlainMesh, mesh_of, IsWellFormed};
-ghost use Rattle.pm_base.specs.Sides.{net_of, side_count};
+ghost use Rattle.std.specs.Prelude.{◌≡◌, [], OnOk, IfOk, IfErr};
+ghost use Rattle.pm_base.specs.Meshes.{mesh_of, IsWellFormed};
+ghost use Rattle.pm_base.specs.Sides.{net_of};
 ghost use Rattle.pm_base.specs.Fans.{IsOrientedManifold};
 ghost use Rattle.pm_runs.specs.Runs.{IsRunTo};
 ghost use Rattle.pm_keeping.specs.Keeping.{kept_in, IsRunKeeping};
 ghost use Rattle.pm_policies.specs.Policies.{Policy};
 ghost use Rattle.pm_policies.specs.PolicyRuns.{IsRunBy};
-ghost use Rattle.pm_shrink.specs.Shrinking.{net_at};
 ghost use Rattle.pm_simplify.specs.Faults.{IsSimplifyFault};
-ghost use Rattle.pm_simplify.specs.OnRuns.{IsOnRun};
-ghost use Rattle.pm_simplify.specs.Choices.{IsRight};
-ghost use Rattle.pm_simplify.specs.KnownBorder.{AreOnBorder};
-ghost use Rattle.pm_simplify.specs.AwaitedVertices.{AreAwaited};
 
-use crate::choose::least_pair;
-use crate::edges::Edges;
-use crate::step::collapse;
+use crate::stepwise::Run;
 use pm_base::{FaceId, Log, Mesh};
 use pm_costs::{Costs, QuadricTable};
-use pm_shrink::Shrink;
 use pm_twins::{Surface, SurfaceFail};
 use std::alloc::{AllocError, Global};
 
@@ -97,7 +89,7 @@ pub fn simplify_keeping(
 pub fn simplify_by<C: Costs + Drop>(
     alloc: Global,
     surface: Surface,
-    mut costs: C,
+    costs: C,
     kept: &[bool],
     target_faces: u32,
 ) -> Result<Log, OutOfMemory>
@@ -105,60 +97,10 @@ pub fn simplify_by<C: Costs + Drop>(
     ensures run { IfOk result (λ log. (p : Policy) → C.goes_by costs p surface []
         → p.kept ≡ kept_in kept.now → IsRunBy p surface target_faces log.items) }
 {
-    let (mesh, twins) = surface.into_parts();
-    let points = mesh.points.len();
-    let faces = mesh.faces.len() as u32;
-    let mut log = Log::new(alloc);
-    // Each collapse takes a vertex away, and the last one stays.
-    log.reserve(points.saturating_sub(1))?;
-    let mut shrink = Shrink::new(alloc, mesh, twins)?;
-    let mut edges = Edges::of(alloc, &shrink, &costs, kept, faces, points)?;
-    collapse_to(
-        &mut shrink,
-        &mut costs,
-        kept,
-        &mut edges,
-        target_faces,
-        &mut log,
-    );
-    Ok(log)
-}
-
-// Collapses down to so many faces, or until no pair may be collapsed. The log is empty before.
-fn collapse_to<C: Costs>(
-    shrink: &mut Shrink,
-    costs: &mut C,
-    kept: &[bool],
-    edges: &mut Edges,
-    target_faces: u32,
-    log: &mut Log,
-)
-    requires known { (p : Policy) × (m : PlainMesh)
-        × IsOnRun shrink.old (C.goes_by costs.old) kept.now p m []
-        × (length m.points ≤ log.old.spare + 1) }
-    requires empty { log.old.items ≡ [] }
-    requires room { length edges.old.queue ≡ side_count (net_at shrink.old) }
-    requires items { edges.old.waiting.items ≡ side_count (net_at shrink.old) }
-    requires heads { 3 * length edges.old.waiting.lists ≡ side_count (net_at shrink.old) }
-    requires awaited { AreAwaited (net_at shrink.old) edges.old.waiting edges.old.awaited }
-    requires noted { AreOnBorder shrink.old.surface edges.old.border }
-    requires right { (p : Policy) (m : PlainMesh)
-        → IsOnRun shrink.old (C.goes_by costs.old) kept.now p m []
-        → IsRight p m [] edges.old.queue edges.old.waiting }
-    ensures run { (p : Policy) (m : PlainMesh)
-        → IsOnRun shrink.old (C.goes_by costs.old) kept.now p m []
-        → IsRunBy p m target_faces log.new.items }
-{
-    while shrink.face_count() > target_faces {
-        let Some(pair) = least_pair(
-            shrink,
-            costs,
-            &mut edges.queue,
-            &mut edges.waiting,
-            &mut edges.awaited,
-        ) else {
-            break;
-        };
-        log.push_within_room(collapse(shrink, costs, kept, edges, pair));
-    }
+    let mut flags = Vec::new(alloc);
+    flags.extend_from_slice(kept)?;
+    let mut run = Run::begin(alloc, surface, costs, flags, target_faces)?;
+    // (no run has as many collapses)
+    run.go_on(u32::MAX);
+    Ok(run.into_log())
 }

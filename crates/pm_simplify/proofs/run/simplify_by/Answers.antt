@@ -1,36 +1,28 @@
-use Rattle.std.proofs.Common.{◌≡◌, ◌∙◌, [], length, ap, subst, arith}
-use Rattle.pm_base.specs.Meshes.{Mesh}
-use Rattle.pm_runs.specs.Surfaces.{surface_of}
-use Rattle.pm_runs.specs.Runs.{IsStartOfRun}
-use Rattle.pm_shrink.specs.Following.{IsAfter}
-use Rattle.pm_simplify.proofs.Starting.{start_stands, start_sides}
+use Rattle.std.proofs.Common.{◌∙◌, Bool, List, ◌++◌, ap, sym, subst, arith}
+use Rattle.pm_base.specs.Held.{Held}
+use Rattle.pm_base.specs.declared.log.Collapse.{Collapse}
+use Rattle.pm_keeping.specs.Keeping.{kept_in}
+use Rattle.pm_policies.specs.PolicyRuns.{IsEndBy, IsRunBy}
+use Rattle.pm_simplify.proofs.Running.{ended_run, all_done}
 use Rattle.pm_simplify.proofs.run.simplify_by.Goals as goal
 
-pub of-requires-clause-known : goal.of-requires-clause-known
-of-requires-clause-known g c =
-    let (p, goes, kept) = c.requires.known in
-    let after : IsAfter c.args.surface [] c.in_ok-shrink.shrink =
-    subst (λ (n : Mesh). IsAfter n [] c.in_ok-shrink.shrink) c.into_parts-mesh.ensures.mesh
-    c.in_ok-shrink.ensures.after in
-    (p, c.args.surface, [], record { after = after; costs = goes; kept = kept })
-
-pub of-requires-clause-all : goal.of-requires-clause-all
-of-requires-clause-all g c =
-    let m : Mesh = c.args.surface in
-    let parts = c.into_parts-mesh.ensures in
-    let sides = start_sides m c.in_ok-shrink.shrink
-    (c.in_ok-shrink.ensures.surface ∙ ap surface_of parts.mesh) in
-    let faces = c.len-faces.ensures in
-    let there = ap (λ (n : Mesh). length n.faces) parts.mesh in
-    omega (arith, sides, faces, there)
-
-pub of-requires-clause-stand : goal.of-requires-clause-stand
-of-requires-clause-stand g c =
-    let m : Mesh = c.args.surface in
-    let parts = c.into_parts-mesh.ensures in
-    let start : IsStartOfRun m = record { formed = parts.formed; manifold = parts.manifold } in
-    let made : c.in_ok-shrink.shrink.surface ≡ surface_of m =
-    c.in_ok-shrink.ensures.surface ∙ ap surface_of parts.mesh in
-    let faces = c.len-faces.ensures in
-    let same = ap (λ (n : Mesh). length n.faces) parts.mesh in
-    λ e l. start_stands m c.in_ok-shrink.shrink start made e (omega (arith, l, faces, same))
+pub returns : goal.returns
+returns g c = record {
+  run = λ p goes kept.
+      let all : List Bool = c.args.kept.now in
+      let empty = ap (λ (l : List Bool). l ++ all) c.new-flags.ensures.items in
+      let flags = ap kept_in (sym (c.in_ok-extend_from_slice.ensures.items ∙ empty)) in
+      let m = c.args.surface in
+      let begun = c.in_ok-run.ensures.begun p goes (kept ∙ flags) in
+      let going = c.go_on.ensures.goes_on p m begun in
+      let by = going.under_way in
+      let ended = all_done m by.on.after.start 4294967295 c.go_on.result _ _ by.on.after.run
+      c.go_on.ensures.adds (omega arith) in
+      let end = (c.go_on.ensures.end p m begun).0 ended in
+      let run = ended_run p m _ _ by.begun
+      (subst (λ n. IsEndBy p m n c.go_on.new.self.log.items) (sym c.go_on.ensures.target) end) in
+      let target = c.go_on.ensures.target ∙ c.in_ok-run.ensures.target in
+      subst (λ n. IsRunBy p m n c.into_log.result.items) target
+      (subst (λ (l : Held Collapse). IsRunBy p m c.go_on.new.self.target_faces l.items)
+      (sym c.into_log.ensures) run);
+}
