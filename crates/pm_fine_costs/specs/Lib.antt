@@ -4,3 +4,5 @@ pub mod FinePolicy
 pub mod CornerPlanes
 pub mod FineCosts
 pub mod Rows
+pub mod Steps
+pub mod Going

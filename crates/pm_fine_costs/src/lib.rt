@@ -10,10 +10,12 @@ mod moved;
 mod pair;
 mod round;
 mod run;
+mod steps;
 mod table;
 mod theory;
 mod volume;
 
 pub use run::simplify_fine;
+pub use steps::{FineRun, Progress};
 pub use table::{FineTable, OutOfMemory};
 pub use theory::planes_round_are_right;
