@@ -17,4 +17,5 @@ pub mod ScriptLaws
 pub mod ViewLaws
 pub mod LiveLaws
 pub mod BorderLaws
+pub mod StepLaws
 pub mod ArgsLaws

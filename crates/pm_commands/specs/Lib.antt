@@ -5,6 +5,7 @@ pub mod Input
 pub mod Surface
 pub mod Build
 pub mod Simplified
+pub mod Stepwise
 pub mod Started
 pub mod Beginning
 pub mod FaultText

@@ -15,6 +15,7 @@ mod owned;
 mod said;
 mod simplify;
 mod starting;
+mod stepwise;
 mod summary;
 mod surface;
 
@@ -25,3 +26,4 @@ pub use fault::{CommandFail, Fault, InputFail};
 pub use outcomes::outcomes_are_sound;
 pub use said::{say, tell};
 pub use starting::start;
+pub use stepwise::Simplifying;

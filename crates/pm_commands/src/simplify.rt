@@ -26,8 +26,12 @@ use pm_tiles::border_flags;
 use pm_twins::Surface;
 use std::alloc::Global;
 
-// Flags of the vertices to keep: none where the border is free.
-fn kept_flags(alloc: Global, surface: &Surface, border: Border) -> Result<Vec<bool>, OutOfMemory>
+/// Flags of the vertices to keep: none where the border is free.
+pub(crate) fn kept_flags(
+    alloc: Global,
+    surface: &Surface,
+    border: Border,
+) -> Result<Vec<bool>, OutOfMemory>
     ensures keeps { IfOk result (λ flags. IsKeptWith border surface.now (kept_in flags.items)) }
 {
     surface.invariant();
