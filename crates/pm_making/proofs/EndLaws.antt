@@ -82,3 +82,15 @@ border_of target digits left text got items out same none is shown =
     (subst (λ (l : List ℕ). FramesShowBorder target digits left (Some l) (Some items)) none
     (subst (λ (l : List ℕ). FramesShowBorder target digits left (Some got) (Some l)) (sym is)
     shown))
+
+-- What holds from nothing to the bytes of a sink holds of equal bytes.
+pub of_bytes :
+    (P : Option (List ℕ) → Option (List ℕ) → Type 0) (got out bytes : List ℕ) → got ≡ []
+    → bytes ≡ out → P (Some got) (Some out) → P (Some []) (Some bytes)
+of_bytes P got out bytes none same is =
+    subst (λ (l : List ℕ). P (Some []) (Some l)) (sym same)
+    (subst (λ (l : List ℕ). P (Some l) (Some out)) none is)
+
+-- These bytes, and these lines beside them.
+abbrev pub unscaled : List ℕ → List ℕ → MadeText
+unscaled bytes notes = record { bytes = bytes; notes = notes; scale = None }
