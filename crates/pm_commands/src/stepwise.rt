@@ -1,10 +1,11 @@
 //! The program `simplify` in steps, so that who waits for it is told how far it is.
 ghost use Rattle.std.specs.Prelude.{◌≡◌, ◌≤◌, true, false, None, ℕ, List};
-ghost use Rattle.std.specs.Prelude.{IfOk, IfErr, IfSome, OnOk};
+ghost use Rattle.std.specs.Prelude.{◌⊎◌, IfOk, IfErr, IfSome, OnOk};
 ghost use Rattle.pm_fine_costs.specs.Steps.{GoesOnTo, IsProgressOf};
 ghost use Rattle.pm_commands.specs.declared.asked.Asked.TheVariants as asked;
 ghost use Rattle.pm_commands.specs.declared.asked.Border.{Border};
 ghost use Rattle.pm_commands.specs.declared.asked.Border.TheVariants as borders;
+ghost use Rattle.pm_io.specs.Bytes.{AtEnd};
 ghost use Rattle.pm_commands.specs.Input.{Stops};
 ghost use Rattle.pm_commands.specs.Simplified.{IsSimplifiedText};
 ghost use Rattle.pm_commands.specs.Stepwise.{IsBegun, IsRunOf, SimplifiesText, HasStepped};
@@ -57,6 +58,8 @@ impl Simplifying {
         requires not_ended { S.ended input.old ≡ false }
         ensures begun { IfOk result (λ s. IfSome (S.left input.old)
             (λ bytes. IsBegun border target digits bytes s)) }
+        ensures read_whole { OnOk result (AtEnd (S.left input.new)) }
+        ensures count { OnOk result (S.faults input.new ≡ S.faults input.old) }
         ensures err { IfErr result (λ e. Stops (IsSimplifiedText border target digits) e
             (S.left input.old) (S.left input.new) (S.faults input.old) (S.faults input.new)) }
     {
@@ -103,6 +106,10 @@ impl Simplifying {
         ensures meets { OnOk result ((bytes : List ℕ) → IsRunOf borders.Kept bytes self
             → FramesShowBorder self.run.target self.digits bytes (K.got out.old)
             (K.got out.new)) }
+        ensures fails { IfErr result (λ e. (e ≡ CommandFail.Write)
+            ⊎ ((e ≡ CommandFail.OutOfMemory) × (K.got out.new ≡ K.got out.old)
+            × (K.faults out.new ≡ K.faults out.old))) }
+        ensures done { OnOk result (K.faults out.new ≡ K.faults out.old) }
     {
         let digits = self.digits;
         let h = self.into_hierarchy(alloc)?;
