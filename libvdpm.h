@@ -289,7 +289,41 @@ uint32_t vdpm_build(const uint8_t *text, size_t length, uint32_t faces, uint32_t
 uint32_t vdpm_simplify(const uint8_t *text, size_t length, uint32_t faces, uint32_t digits,
                        uint32_t keep_border, vdpm_made *made, vdpm_fault *fault);
 
-/* Makes any OBJ, PLY or STL file fit for the two above, as `prepare` does: vdpm_made_bytes has an
+/* What is being simplified, step by step. Its fields are the library's own. All zero at first:
+ * vdpm_run run = VDPM_CLOSED; */
+typedef struct vdpm_run {
+    void *at;
+    uint32_t open;
+} vdpm_run;
+
+/* How far that is. */
+typedef struct vdpm_progress {
+    uint64_t faces;      /* how many faces the mesh has */
+    uint64_t faces_left; /* how many are left of them; never more than before */
+    uint64_t collapses;  /* how many collapses were done */
+    uint32_t ended;      /* 1 where this is the end, and 0 where more can be done */
+} vdpm_progress;
+
+/* Makes in steps what vdpm_simplify makes at once, the same bytes, so that who waits can be told
+ * how far it is: vdpm_simplify_begin reads the text, with the answers and faults of vdpm_simplify.
+ * Then vdpm_simplify_more does `most` collapses more, or fewer where that is the end, and tells how
+ * far it is; once the end is told it does nothing. With 0 it just tells. Answers VDPM_DONE or
+ * VDPM_NOT_SO. It ends at the first that comes: no more than `faces` faces are left, or no edge may
+ * be collapsed. So the part done is at least
+ * (progress.faces - progress.faces_left) / (progress.faces - faces). */
+uint32_t vdpm_simplify_begin(const uint8_t *text, size_t length, uint32_t faces, uint32_t digits,
+                             uint32_t keep_border, vdpm_run *run, vdpm_fault *fault);
+uint32_t vdpm_simplify_more(vdpm_run *run, uint32_t most, vdpm_progress *progress);
+
+/* Makes the stream, where the end was told, and closes the run: vdpm_made_bytes has the stream
+ * then. Answers VDPM_DONE; VDPM_NO_MEMORY, with the run closed and *made as it was; or VDPM_NOT_SO,
+ * where the run isn't open or its end wasn't told, or *made is open, and nothing is changed. */
+uint32_t vdpm_simplify_end(vdpm_run *run, vdpm_made *made);
+
+/* Gives a run up, and its memory back. One that isn't open stays as it is. */
+void vdpm_simplify_close(vdpm_run *run);
+
+/* Makes any OBJ, PLY or STL file fit for those above, as `prepare` does: vdpm_made_bytes has an
  * OBJ text then, and vdpm_made_notes the lines that the program says of it. `size` is 0, and points
  * that fit the grid stand as they are, or from 1 to 32,767: the longest axis of the box goes from
  * -size to size. Answers as vdpm_build does; VDPM_OUT_OF_RANGE is for a greater size. */

@@ -15,7 +15,7 @@ from typing import Any, Dict, List, Optional
 from tried_library import TOP, Asked, cases_of, compiled, runs_that_fail, take_library
 
 import vdpm
-from vdpm.library import DONE, NOT_SO, Handle, Scale, Told, load
+from vdpm.library import DONE, NOT_SO, Handle, Progress, Scale, Told, load
 
 OCTAHEDRON = TOP / "examples" / "octahedron.obj"
 RING = TOP / "examples" / "ring_scan.obj"
@@ -109,6 +109,78 @@ class Made(unittest.TestCase):
         for faces, digits in ((0, 5), (0, -1), (-1, 0), (2 ** 32, 0)):
             with self.subTest(faces=faces, digits=digits), self.assertRaises(ValueError):
                 vdpm.build(OCTAHEDRON.read_bytes(), faces, digits)
+
+
+class InSteps(unittest.TestCase):
+    def test_steps_make_the_stream_that_is_made_at_once(self) -> None:
+        text = vdpm.prepare(RING.read_bytes(), size=6000).text
+        for faces, border in ((0, False), (0, True), (200, False), (10 ** 6, True)):
+            stream = vdpm.simplify(text, faces, keep_border=border)
+            for most in (1, 7, 2 ** 32 - 1):
+                with self.subTest(faces=faces, most=most):
+                    self.assertEqual(self.in_steps(text, faces, border, most), stream)
+
+    def in_steps(self, text: bytes, faces: int, border: bool, most: int) -> bytes:
+        """The stream, where each step told what it did."""
+        with vdpm.Simplifying(text, faces, keep_border=border) as run:
+            before = vdpm.Done(0, 2 ** 32, 0, False)
+            for done in run.steps(most):
+                collapses = done.collapses - before.collapses
+                self.assertTrue(collapses == most or done.ended and collapses < most)
+                self.assertLessEqual(done.faces_left, min(before.faces_left, done.faces))
+                self.assertFalse(before.ended)
+                before = done
+            self.assertTrue(before.ended)
+            self.assertEqual((run.more(9), run.more(0)), (before, before))
+            return run.stream()
+
+    def test_texts_are_refused_as_at_once(self) -> None:
+        tried = 0
+        for asked in cases_of("simplify"):
+            if asked.fault is not None:
+                with self.subTest(asked.name), self.assertRaises(vdpm.TextFault) as raised:
+                    vdpm.Simplifying(asked.given, **asked_for(asked.words))
+                self.assertEqual((raised.exception.number, raised.exception.place), asked.fault)
+                tried += 1
+        self.assertGreater(tried, 2)
+
+    def test_a_stream_comes_at_the_end_alone(self) -> None:
+        run = vdpm.Simplifying(OCTAHEDRON.read_bytes())
+        for most, ended in ((0, False), (1, False), (1, True)):
+            with self.assertRaises(vdpm.NotOpen):
+                run.stream()
+            self.assertEqual(run.more(most).ended, ended)
+        self.assertEqual(run.stream(), vdpm.simplify(OCTAHEDRON.read_bytes()))
+        with self.assertRaises(vdpm.NotOpen):
+            run.stream()
+        with self.assertRaises(vdpm.NotOpen):
+            run.more(1)
+        run.close()
+
+    def test_steps_of_none_and_numbers_out_of_range_are_refused(self) -> None:
+        with vdpm.Simplifying(OCTAHEDRON.read_bytes()) as run:
+            for most in (0, -1, 2 ** 32):
+                with self.assertRaises(ValueError):
+                    next(run.steps(most))
+        with self.assertRaises(ValueError):
+            vdpm.Simplifying(OCTAHEDRON.read_bytes(), digits=5)
+
+    def test_handles(self) -> None:
+        library, run, made, fault = load(), Handle(None, 0), Handle(None, 0), Told()
+        text, progress = OCTAHEDRON.read_bytes(), Progress()
+        self.assertEqual(library.vdpm_simplify_more(run, 1, progress), NOT_SO)
+        self.assertEqual(library.vdpm_simplify_end(run, made), NOT_SO)
+        words = (text, len(text), 0, 0, 0, run, fault)
+        self.assertEqual(library.vdpm_simplify_begin(*words), DONE)
+        self.assertEqual(library.vdpm_simplify_begin(*words), NOT_SO)
+        self.assertEqual(library.vdpm_simplify_more(run, 9, progress), DONE)
+        self.assertEqual(library.vdpm_build(text, len(text), 0, 0, made, fault), DONE)
+        self.assertEqual(library.vdpm_simplify_end(run, made), NOT_SO)
+        library.vdpm_made_close(made)
+        self.assertEqual(library.vdpm_simplify_end(run, made), DONE)
+        self.assertEqual((run.open, made.open), (0, 1))
+        library.vdpm_made_close(made)
+        library.vdpm_simplify_close(run)
 
 
 class Scales(unittest.TestCase):

@@ -11,7 +11,8 @@
         print(len(frame.nodes), "vertices,", len(frame.faces), "faces")
 
 Making: `prepare` makes any OBJ, PLY or STL file fit, `simplify` and `build` make the stream of one,
-`pack` makes it a sixth as long, and `unpack` gives it back.
+`Simplifying` does what `simplify` does in steps and tells how far it is, `pack` makes a stream a
+sixth as long, and `unpack` gives it back.
 Showing: a `Session` shows a stream, packed or not, `Session.view` adapts it to a view, and
 `Session.frame` and `Session.change` answer arrays: numpy's where numpy is there, else flat
 `array.array`s. `Session.slots` keeps a renderer's buffers, and tells what of them to copy.
@@ -35,8 +36,10 @@ from .making import Prepared, build, pack, prepare, simplify, unpack
 from .session import Session
 from .shapes import Bounds, Change, Frame, Hit, Inputs, Level, Moved, Shape, Sizes, Strips
 from .slots import Slots, Written, ranges
+from .stepwise import Done, Simplifying
 
-__all__ = ["Bounds", "Camera", "Change", "Fault", "Frame", "Hit", "Inputs", "Level", "LineFault",
-           "Moved", "NO_VERTEX", "NotMesh", "NotOpen", "Prepared", "Session", "Shape", "Sizes",
-           "Slots", "StreamFault", "Strips", "TextFault", "Version", "Written", "build", "camera",
-           "pack", "prepare", "ranges", "simplify", "unpack", "version"]
+__all__ = ["Bounds", "Camera", "Change", "Done", "Fault", "Frame", "Hit", "Inputs", "Level",
+           "LineFault", "Moved", "NO_VERTEX", "NotMesh", "NotOpen", "Prepared", "Session", "Shape",
+           "Simplifying", "Sizes", "Slots", "StreamFault", "Strips", "TextFault", "Version",
+           "Written", "build", "camera", "pack", "prepare", "ranges", "simplify", "unpack",
+           "version"]

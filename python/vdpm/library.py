@@ -82,6 +82,17 @@ class Scale(ctypes.Structure):
     _fields_ = [("extent", Decimal), ("middle", Decimal * 3), ("steps", ctypes.c_uint32)]
 
 
+class Progress(ctypes.Structure):
+    """How far a run is, as the library tells it."""
+
+    faces: int
+    faces_left: int
+    collapses: int
+    ended: int
+    _fields_ = [("faces", ctypes.c_uint64), ("faces_left", ctypes.c_uint64),
+                ("collapses", ctypes.c_uint64), ("ended", ctypes.c_uint32)]
+
+
 class Version(NamedTuple):
     """Which file the library is, and what the record beside it tells, as `./prove --status` does.
 
@@ -161,6 +172,10 @@ def load(path: Optional[str] = None) -> ctypes.CDLL:
         "close": [handle],
         "build": [text, size, number, number, handle, told],
         "simplify": [text, size, number, number, number, handle, told],
+        "simplify_begin": [text, size, number, number, number, handle, told],
+        "simplify_more": [handle, number, ctypes.POINTER(Progress)],
+        "simplify_end": [handle, handle],
+        "simplify_close": [handle],
         "prepare": [text, size, number, handle, told],
         "pack": [text, size, handle, told],
         "unpack": [text, size, handle, told],
@@ -178,7 +193,7 @@ def load(path: Optional[str] = None) -> ctypes.CDLL:
     for name, arguments in types.items():
         function = getattr(library, f"vdpm_{name}")
         function.argtypes, function.restype = arguments, number
-    for name in ("close", "made_close", "slots_close"):
+    for name in ("close", "made_close", "simplify_close", "slots_close"):
         getattr(library, f"vdpm_{name}").restype = None
     return library
 

@@ -3,12 +3,13 @@ import ctypes
 import os
 import re
 from fractions import Fraction
-from typing import Any, Callable, NamedTuple, Optional, Tuple
+from typing import Any, Callable, NamedTuple, Optional, Tuple, TypeVar
 
 from .faults import OF_ANY_TEXT, OF_PACKED, OF_STREAM, OF_TEXT, NotMesh, Table, TextFault
 from .library import (MOST_NUMBER, Handle, Text, Told, bytes_of, check, check_made, check_packed,
                       load, number_to)
 
+Made = TypeVar("Made")
 MOST_DIGITS, MOST_SIZE = 4, 32767
 PLACED = re.compile(r"coordinate = (\S+) / (\d+) \* place \+ \((\S+) (\S+) (\S+)\)")
 FACE = re.compile(rb"^[ \t]*f[ \t]", re.MULTILINE)
@@ -77,7 +78,7 @@ def _is_file(name: str) -> bool:
     return bool(name) and "\0" not in name and os.path.exists(name)
 
 
-def _text_of(given: Text) -> bytes:
+def text_of(given: Text) -> bytes:
     if isinstance(given, os.PathLike):
         raise TypeError(f"{given!r} is a path, and not a text: open(path, 'rb').read() is")
     return bytes_of(given)
@@ -88,6 +89,11 @@ def _made(library: ctypes.CDLL, check_status: Callable[[int, Told, Table], None]
     """The bytes that a function makes of what it is asked, and the lines that it says of them."""
     made, fault = Handle(None, 0), Told()
     check_status(function(*asked, made, fault), fault, table)
+    return taken_out(library, made)
+
+
+def taken_out(library: ctypes.CDLL, made: Handle) -> Tuple[bytes, bytes]:
+    """The bytes that were made, and the lines that are said of them. The handle is closed."""
     try:
         lengths = ctypes.c_size_t(), ctypes.c_size_t()
         check(library.vdpm_made_length(made, *lengths))
@@ -99,11 +105,10 @@ def _made(library: ctypes.CDLL, check_status: Callable[[int, Told, Table], None]
         library.vdpm_made_close(made)
 
 
-def _of_text(library: ctypes.CDLL, table: Table, function: Any, allow_empty: bool, data: bytes,
-             *asked: int) -> Tuple[bytes, bytes]:
-    """The same of a text, and what it is where it is known to be none."""
+def of_text(table: Table, allow_empty: bool, data: bytes, make: Callable[[], Made]) -> Made:
+    """What is made of a text. Where it is known to be none, what it is is told."""
     try:
-        made = _made(library, check_made, table, function, data, len(data), *asked)
+        made = make()
     except TextFault as fault:
         told = _what_it_is(data, table)
         if told is None:
@@ -114,6 +119,12 @@ def _of_text(library: ctypes.CDLL, table: Table, function: Any, allow_empty: boo
                 "allow_empty=True makes a stream of it")
         raise NotMesh(_what_it_is(data, table) or told)
     return made
+
+
+def _of_text(library: ctypes.CDLL, table: Table, function: Any, allow_empty: bool, data: bytes,
+             *asked: int) -> Tuple[bytes, bytes]:
+    return of_text(table, allow_empty, data, lambda: _made(library, check_made, table, function,
+                                                           data, len(data), *asked))
 
 
 def build(text: Text, faces: int = 0, digits: int = 0, library: Optional[str] = None, *,
@@ -129,7 +140,7 @@ def build(text: Text, faces: int = 0, digits: int = 0, library: Optional[str] = 
     mesh, as its place; NotMesh, which is one, where it is no OBJ text with a face; ValueError where
     a number is out of its range; and MemoryError.
     """
-    data, loaded = _text_of(text), load(library)
+    data, loaded = text_of(text), load(library)
     faces = number_to(MOST_NUMBER, faces, "faces")
     digits = number_to(MOST_DIGITS, digits, "digits")
     return _of_text(loaded, OF_TEXT, loaded.vdpm_build, allow_empty, data, faces, digits)[0]
@@ -141,7 +152,7 @@ def simplify(text: Text, faces: int = 0, digits: int = 0, keep_border: bool = Fa
 
     keep_border: each frame of the stream shows the border of the mesh. Else it is as `build`.
     """
-    data, loaded = _text_of(text), load(library)
+    data, loaded = text_of(text), load(library)
     faces = number_to(MOST_NUMBER, faces, "faces")
     digits = number_to(MOST_DIGITS, digits, "digits")
     return _of_text(loaded, OF_TEXT, loaded.vdpm_simplify, allow_empty, data, faces, digits,
@@ -158,7 +169,7 @@ def prepare(text: Text, size: Optional[int] = None, library: Optional[str] = Non
     Raises TextFault, with the line if one has the fault, where the program refuses the file;
     NotMesh, which is one, where it is of another kind; ValueError; and MemoryError.
     """
-    data, loaded = _text_of(text), load(library)
+    data, loaded = text_of(text), load(library)
     if size is not None and number_to(MOST_SIZE, size, "size") == 0:
         raise ValueError(f"size is {size}, and not from 1 to {MOST_SIZE:,}")
     made, notes = _of_text(loaded, OF_ANY_TEXT, loaded.vdpm_prepare, True, data, size or 0)

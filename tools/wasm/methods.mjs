@@ -123,6 +123,26 @@ test("what is made opens, and a text may be a string", () => {
   assert.equal(Buffer.compare(vdpm.build(text), stream), 0);
 });
 
+test("steps make the same stream, and tell how far they are", () => {
+  const torus = readFileSync(new URL("torus.obj", EXAMPLES));
+  const run = vdpm.simplifying(torus, { faces: 100 });
+  assert.throws(() => run.stream(), NotOpen);
+  for (let done = run.more(0), most = 7; !done.ended;) {
+    const next = run.more(most);
+    assert.ok(next.ended || next.collapses === done.collapses + most);
+    assert.ok(next.facesLeft <= done.facesLeft && next.faces === done.faces);
+    done = next;
+  }
+  const end = run.more(9);
+  assert.deepEqual(end, { ...run.more(0), facesLeft: 100, ended: true });
+  assert.equal(Buffer.compare(run.stream(), vdpm.simplify(torus, { faces: 100 })), 0);
+  assert.throws(() => run.more(0), NotOpen);
+  const given = vdpm.simplifying(torus);
+  given.close();
+  given.close();
+  assert.throws(() => vdpm.simplifying("ply\n"), Fault);
+});
+
 test("a packed stream is smaller, and unpacked the same", () => {
   const torus = vdpm.build(readFileSync(new URL("torus.obj", EXAMPLES)));
   const packed = vdpm.pack(torus);

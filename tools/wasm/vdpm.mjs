@@ -11,15 +11,17 @@
 // in the module is proved. Calls don't wait for anything, so long ones belong into a worker.
 // Opening 199,712 faces took 0.8 to 1.3 s of a busy processor in node 20: the first opening, later
 // ones, one after many of a small mesh, and one by optimized code from its begin alike.
-import { STATUS, WORDS, Fault, check, numberTo } from "./faults.mjs";
+import { WORDS, numberTo } from "./faults.mjs";
+import { FAULT, MADE, checkMade, copied } from "./made.mjs";
 import { Memory, bytesOf } from "./memory.mjs";
 import { Session } from "./session.mjs";
+import { MOST_DIGITS, MOST_FACES, Simplifying } from "./simplifying.mjs";
 
 export { Fault, NotOpen, OutOfMemory } from "./faults.mjs";
 export { Session } from "./session.mjs";
+export { Simplifying } from "./simplifying.mjs";
 
-const MOST_FACES = 0xffffffff, MOST_DIGITS = 4, MOST_SIZE = 32767;
-const MADE = 8, FAULT = 16, PLACE_OF_FAULT = 8;
+const MOST_SIZE = 32767;
 
 /** @typedef {string | Uint8Array} Text an OBJ text; bytes are taken as they are */
 
@@ -66,7 +68,17 @@ export class Vdpm {
   }
 
   /**
-   * Any OBJ text made fit for the two above, as the program `prepare` does, and the lines that it
+   * Does in steps what `simplify` does at once, and tells how far it is.
+   * @param {Text} text
+   * @param {{ faces?: number, digits?: number, keepBorder?: boolean }} asked
+   * @returns {Simplifying}
+   */
+  simplifying(text, asked = {}) {
+    return new Simplifying(this.memory, text, asked);
+  }
+
+  /**
+   * Any OBJ text made fit for those above, as the program `prepare` does, and the lines that it
    * says of it. With a size, from 1 to 32,767, the longest axis of the box goes from -size to size;
    * without one points that fit the grid stand as they are.
    * @param {Text} text
@@ -132,33 +144,12 @@ export class Vdpm {
     return memory.within([MADE, FAULT], (made, fault) => {
       const make = (/** @type {number} */ at, /** @type {number} */ length) =>
         functions[name](at, length, ...asked, made, fault);
-      const status = memory.holding(bytesOf(text), make);
-      if (status === STATUS.FAULTY) {
-        const place = memory.long(fault + PLACE_OF_FAULT);
-        // (what a stream has is counted from 0)
-        const isNone = place === 0 && words !== WORDS.OF_STREAM;
-        throw new Fault(memory.number(fault), isNone ? null : place, words);
-      }
-      check(status);
+      checkMade(memory, memory.holding(bytesOf(text), make), fault, words);
       try {
-        return this.copied(made);
+        return copied(memory, made);
       } finally {
         functions.vdpm_made_close(made);
       }
-    });
-  }
-
-  /** @param {number} made @returns {{ bytes: Uint8Array, notes: Uint8Array }} */
-  copied(made) {
-    const { memory } = this, { functions } = memory;
-    const [length, notesLength] = memory.within([4, 4], (bytes, notes) => {
-      check(functions.vdpm_made_length(made, bytes, notes));
-      return [memory.number(bytes), memory.number(notes)];
-    });
-    return memory.within([length, notesLength], (bytes, notes) => {
-      check(functions.vdpm_made_bytes(made, bytes, length));
-      check(functions.vdpm_made_notes(made, notes, notesLength));
-      return { bytes: memory.bytes(bytes, length), notes: memory.bytes(notes, notesLength) };
     });
   }
 }

@@ -1,6 +1,7 @@
 pub mod Values
 pub mod SlotValues
 pub mod MadeValues
+pub mod RunValues
 pub mod BufferValues
 pub mod FrameLaws
 pub mod MadeLaws

@@ -2,6 +2,7 @@ pub mod Held
 pub mod Border
 pub mod Looking
 pub mod Making
+pub mod Stepwise
 pub mod Packing
 pub mod Scales
 pub mod Buffering

@@ -2,14 +2,17 @@
 ghost use Rattle.std.specs.Prelude.{◌≡◌, Some, None, IsSome};
 ghost use Rattle.vdpm_c.specs.Border.{Has};
 ghost use Rattle.vdpm_c.specs.Making.{HasMade};
+ghost use Rattle.vdpm_c.specs.Stepwise.{HasRun};
 ghost use Rattle.vdpm_c.specs.Buffering.{HasBuffer};
 
 use crate::buffer_slot::BufferSlot;
 use crate::loose::Loose;
 use crate::made_slot::MadeSlot;
+use crate::run_slot::RunSlot;
 use crate::slot::Slot;
-use crate::tables::{BufferHandle, Handle, MadeHandle};
+use crate::tables::{BufferHandle, Handle, MadeHandle, RunHandle};
 use pm_buffers::Slots;
+use pm_commands::Simplifying;
 use pm_making::Made;
 use pm_viewer::Viewer;
 use std::alloc::Global;
@@ -102,5 +105,35 @@ pub(crate) fn put_buffer(handle: &mut BufferHandle, slots: Box<Slots>)
     ensures { HasBuffer handle.new slots.value }
 {
     handle.slot = BufferSlot::of(Loose::of(slots));
+    handle.open = 1;
+}
+
+// Takes out what a slot for what is being simplified has, and leaves it with nothing.
+fn vacate_run(alloc: Global, slot: &mut RunSlot) -> RunSlot
+    ensures taken { result.value ≡ slot.old.value }
+    ensures empty { slot.new.value ≡ None }
+{
+    let empty = RunSlot::empty(alloc);
+    replace(slot, empty)
+}
+
+// Takes what is being simplified out of an open handle, which isn't open then.
+pub(crate) fn take_run(alloc: Global, handle: &mut RunHandle) -> Box<Simplifying>
+    requires { IsSome handle.old.slot.value }
+    ensures run { handle.old.slot.value ≡ Some result.value }
+    ensures closed { handle.new.open ≡ 0 }
+    ensures empty { handle.new.slot.value ≡ None }
+{
+    handle.open = 0;
+    let slot = vacate_run(alloc, &mut handle.slot);
+    let loose = slot.into_loose();
+    loose.into_box()
+}
+
+// Puts what is being simplified into a handle, which is open then.
+pub(crate) fn put_run(handle: &mut RunHandle, run: Box<Simplifying>)
+    ensures { HasRun handle.new run.value }
+{
+    handle.slot = RunSlot::of(Loose::of(run));
     handle.open = 1;
 }

@@ -1,6 +1,7 @@
 //! What crosses to C beside numbers and arrays of them.
 use crate::buffer_slot::BufferSlot;
 use crate::made_slot::MadeSlot;
+use crate::run_slot::RunSlot;
 use crate::slot::Slot;
 
 /// A viewer as C holds it: all zero before it is opened and once it is closed.
@@ -93,6 +94,27 @@ pub struct MadeHandle {
     pub slot: MadeSlot,
     /// 1 where something stands in the slot, and 0 where nothing does.
     pub open: u32,
+}
+
+/// What is being simplified, as C holds it: all zero before it is begun and once it is closed.
+#[repr(C)]
+pub struct RunHandle {
+    pub slot: RunSlot,
+    /// 1 where something stands in the slot, and 0 where nothing does.
+    pub open: u32,
+}
+
+/// How far a run is.
+#[repr(C)]
+#[derive(Clone, Copy)]
+pub struct ProgressTold {
+    /// How many faces the mesh had at first, and how many are left.
+    pub faces: u64,
+    pub faces_left: u64,
+    /// How many collapses were done.
+    pub collapses: u64,
+    /// 1 where this is known to be the end, and 0 else.
+    pub ended: u32,
 }
 
 /// A number with decimals: `whole + part / 10^D`, and less than zero where `negative` is 1.

@@ -2,7 +2,7 @@
 
 use super::tables::{
     BufferHandle, ChangeCounts, Counts, ExtentTold, FaultTold, Handle, LevelTold, Look, MadeHandle,
-    Moved, ScaleTold, SlotSizes,
+    Moved, ProgressTold, RunHandle, ScaleTold, SlotSizes,
 };
 use crate::rattle_std::alloc::Global;
 
