@@ -13,6 +13,8 @@ from math import inf, isfinite, isnan, nan
 from pathlib import Path
 from typing import BinaryIO, Callable, Dict, Iterator, NamedTuple, Tuple
 
+from mesh_files.obj import BYTE_ORDER_MARK
+
 from .form import WorldFault
 
 FIELDS = (".asc", ".pgm")
@@ -139,6 +141,8 @@ def _head_lines(file: BinaryIO) -> Tuple[Dict[str, float], int, bytes]:
     number = 1
     while True:
         line = file.readline(_BLOCK)
+        if number == 1 and line.startswith(BYTE_ORDER_MARK):
+            line = line[len(BYTE_ORDER_MARK) :]
         word, *rest = line.split()[:3] or [b""]
         name = word.decode("latin-1").lower()
         if name not in _WORDS:

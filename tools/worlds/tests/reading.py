@@ -6,7 +6,7 @@ from math import isnan
 from pathlib import Path
 
 from ..form import WorldFault, read_world
-from ..heights import read_heights
+from ..heights import read_heights, size_of
 from ..rasters import Extent, is_in_degrees, zone_of
 from .common import WithWorld
 
@@ -19,6 +19,17 @@ class Reading(WithWorld):
         self.assertEqual([field.at(1, column) for column in range(3)], [1, 2, 3])
         self.assertEqual((field.at(0, 0), isnan(field.at(0, 2))), (4, True))
         self.assertEqual((field.west, field.south, field.across, field.along), (5, -5, 2, 3))
+
+    def test_a_byte_order_mark_is_no_part_of_a_grid(self) -> None:
+        path = self.file("a.asc", "\ufeff" + HEAD + "1 2 3\n4 x 6\n")
+        self.assertEqual(size_of(path), (3, 2))
+        with self.assertRaisesRegex(WorldFault, "a.asc: line 9: 'x' is no height"):
+            read_heights(path, 1, 1)
+        path.write_text(path.read_text().replace("x", "5"))
+        self.assertEqual(read_heights(path, 1, 1).at(0, 1), 5)
+        path.write_text("\ufeff\ufeff" + HEAD)
+        with self.assertRaisesRegex(WorldFault, "doesn't tell `ncols`"):
+            read_heights(path, 1, 1)
 
     def test_the_corner_of_a_cell_is_half_a_cell_off_its_point(self) -> None:
         head = "ncols 2\nnrows 1\nxllcorner 10\nyllcorner 20\ncellsize 4\n"
