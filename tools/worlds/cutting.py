@@ -26,12 +26,14 @@ class Piece(NamedTuple):
 @dataclass(frozen=True)
 class Half:
     """A node of the tree: its name is the way from the root, a 0 or a 1 a step. The leaves have
-    pieces, but for those that are known; `faces` counts those of a leaf at most."""
+    pieces, but for those that are known; `faces` counts those of a leaf at most, and of these
+    `dropped` ones, degenerate or duplicate, aren't in its piece."""
 
     name: str
     piece: Optional[Piece] = None
     faces: int = 0
     is_leaf: bool = False
+    dropped: int = 0
 
 
 def parts_for(faces: int, most: int) -> int:

@@ -116,7 +116,8 @@ def _leaf(world: World, half: Half) -> Recorded:
     done = mended(*half.piece)
     tile = _made_tile(world, name_of(half.name), done) if done.mesh.faces else None
     opened = [(min(edge), max(edge)) for edge in half.piece.opened]
-    return Recorded(tile, border_places(done), opened, done.dropped, done.split)
+    dropped = half.dropped + done.dropped
+    return Recorded(tile, border_places(done), opened, dropped, done.split)
 
 
 class _Leaves:

@@ -3,7 +3,9 @@ corners, but for those that are moved so that no tile touches itself (parting)."
 from array import array
 from itertools import chain, compress, islice, repeat
 from operator import not_
-from typing import Callable, Container, Dict, Iterable, Iterator, List, Set, Tuple
+from typing import (
+    Callable, Container, Dict, FrozenSet, Iterable, Iterator, List, Optional, Set, Tuple,
+)
 
 from mesh_files.ears import triangles_of
 from mesh_files.filed import Filed
@@ -178,21 +180,35 @@ def _ways(
 
 def _halved(
     soup: Rounded, faces: memoryview, most: int, box: Tuple[Place, Place], opened: Set[Edge]
-) -> Parted:
+) -> Optional[Parted]:
     """The faces in two halves, of which neither touches itself; as a plane parts them where there
-    is no other way."""
+    is no other way. None where all faces have one middle."""
     best = None
     for sides in _ways(soup, faces, most, *box):
         found = parted(soup.bag(faces), sides, opened)
         if not found.touching:
             return found
         best = best or found
-    if best is None:
+    return best
+
+
+def _once_each(soup: Rounded, faces: memoryview, most: int) -> memoryview:
+    """Of faces that have one middle those that a tile keeps: with three different corners, and of
+    those with the same ones the first. WorldFault where one tile doesn't take them."""
+    first: Dict[FrozenSet[int], int] = {}
+    for face in faces:
+        corners = frozenset(soup.face(face))
+        if len(corners) == 3 and len(first) <= most:
+            first.setdefault(corners, face)
+    found = _chosen(first.values(), repeat(1))
+    if len(found) == 1 and not fits(*_bag_box(soup, found)):
+        raise WorldFault("a face is longer than 65,534 units: take a larger unit")
+    if len(found) > most or not fits(*_bag_box(soup, found)):
         raise WorldFault(
             f"{len(faces)} faces have one middle and can't be parted: take more faces a tile,"
             " or a larger unit where the faces are long"
         )
-    return best
+    return found
 
 
 def _chosen(faces: Iterable[int], sides: Iterable[int]) -> memoryview:
@@ -213,18 +229,18 @@ def cut_soup(
     touching = 0
     while waiting:
         name, bag = waiting.pop()
-        box = _bag_box(soup, bag)
-        if len(bag) <= most and fits(*box):
-            piece = None if name in known else _bag_piece(soup, bag, opened)
-            yield Half(name, piece, len(bag), True)
-            continue
-        if len(bag) == 1:
-            raise WorldFault("a face is longer than 65,534 units: take a larger unit")
-        yield Half(name)
-        sides, left = _halved(soup, bag, most, box, opened)
-        touching += left
-        waiting.append((name + "1", _chosen(bag, map(not_, sides))))
-        waiting.append((name + "0", _chosen(bag, sides)))
+        box, kept = _bag_box(soup, bag), bag
+        if len(bag) > most or not fits(*box):
+            halves = _halved(soup, bag, most, box, opened)
+            if halves:
+                yield Half(name)
+                touching += halves.touching
+                waiting.append((name + "1", _chosen(bag, map(not_, halves.sides))))
+                waiting.append((name + "0", _chosen(bag, halves.sides)))
+                continue
+            kept = _once_each(soup, bag, most)
+        piece = None if name in known else _bag_piece(soup, kept, opened)
+        yield Half(name, piece, len(bag), True, len(bag) - len(kept))
     if opened:
         say(f"{len(opened)} edges between tiles are cut open in all: no manifold is there")
     if touching:

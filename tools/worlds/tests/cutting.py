@@ -173,6 +173,24 @@ class Soups(WithWorld):
         with self.assertRaisesRegex(WorldFault, "have one middle"):
             self.cut(self.file("star.obj", star), 2)
 
+    def test_a_face_that_stands_often_is_one(self) -> None:
+        text = "v 0 0 0\nv 6 0 0\nv 0 9 0\nv 9 9 0\n" + 3 * "f 1 2 3\nf 2 3 1\nf 3 2 1\n"
+        more = text + "f 2 4 3\n" + 5 * "f 1 1 1\n"
+        for text, dropped, faces in (
+            (text, 8, [((0, 0, 0), (6, 0, 0), (0, 9, 0))]),
+            (more, 13, [((0, 0, 0), (6, 0, 0), (0, 9, 0)), ((6, 0, 0), (9, 9, 0), (0, 9, 0))]),
+        ):
+            self.said.clear()
+            world = self.cut(self.file("often.obj", text), 2)
+            self.assertEqual(
+                self.said, [f"{dropped} degenerate or duplicate faces were left out"]
+            )
+            self.check_tiles(world, 2)
+            self.check_whole(world, {turned(*face) for face in faces})
+        long = "v 0 0 0\nv 70000 0 0\nv 0 1 0\n" + 3 * "f 1 2 3\n"
+        with self.assertRaisesRegex(WorldFault, "a face is longer than 65,534 units"):
+            self.cut(self.file("long.obj", long), 2)
+
 
 SQUARE: List[Place] = [(0, 0, 0), (1, 0, 0), (1, 1, 0), (0, 1, 0)]
 
