@@ -33,6 +33,7 @@ from worlds.progress import Work
 from worlds.tiles3d import FILE, Export, write_tiles3d
 
 TOP = Path(__file__).resolve().parent.parent
+GO_ON = ("cut", "build")  # where they were stopped
 
 
 def say(text: str) -> None:
@@ -149,8 +150,9 @@ def call(asked: argparse.Namespace) -> None:
 
 
 def main() -> int:
+    asked = arguments()
     try:
-        call(arguments())
+        call(asked)
     except WorldFault as fault:
         say(str(fault))
         return 1
@@ -158,7 +160,7 @@ def main() -> int:
         say(f"{fault.filename or 'a file'}: {fault.strerror}")
         return 1
     except KeyboardInterrupt:
-        say("stopped; the same command goes on")
+        say("stopped; the same command goes on" if asked.verb in GO_ON else "stopped")
         return 130
     return 0
 

@@ -4,11 +4,13 @@ pieces of one oriented manifold with the outline that was cut (union).
 
 In memory are the border sides of all tiles, some 600 bytes each.
 """
+import signal
 from collections import Counter
-from concurrent.futures import ProcessPoolExecutor
-from multiprocessing import get_context
+from concurrent.futures import Executor, Future, ProcessPoolExecutor
+from concurrent.futures.process import BrokenProcessPool
+from multiprocessing import active_children, get_context
 from pathlib import Path
-from typing import Dict, Iterable, List, NamedTuple, Optional, Tuple, Union
+from typing import Callable, Dict, Iterable, List, NamedTuple, Optional, Tuple, Union
 
 from mesh_files.reading import read_soup
 from mesh_files.soup import MeshFault
@@ -160,22 +162,49 @@ def _task(given: Tuple[Path, World, Tile]) -> Union[Checked, str]:
         return str(fault)
 
 
+def _begun(
+    pool: Executor, tasks: List[Tuple[Path, World, Tile]]
+) -> "List[Future[Union[Checked, str]]]":
+    """The tasks, given to processes that leave Ctrl-C to this one."""
+    before = signal.signal(signal.SIGINT, signal.SIG_IGN)
+    try:
+        return [pool.submit(_task, task) for task in tasks]
+    finally:
+        signal.signal(signal.SIGINT, before)
+
+
+def _side_by_side(
+    tasks: List[Tuple[Path, World, Tile]], jobs: int, add: Callable[[Union[Checked, str]], None]
+) -> None:
+    """Adds what is found of each tile; all processes end with this one where the user stops."""
+    with ProcessPoolExecutor(jobs, mp_context=get_context("spawn")) as pool:
+        try:
+            for task in _begun(pool, tasks):
+                add(task.result())
+        except BrokenProcessPool:
+            raise WorldFault("a process was ended from outside: take fewer --jobs") from None
+        except BaseException:
+            for process in active_children():
+                process.terminate()
+            raise
+
+
 def _each_checked(
     tasks: List[Tuple[Path, World, Tile]], jobs: int, work: Work
 ) -> List[Union[Checked, str]]:
     found: List[Union[Checked, str]] = []
     work.begin(f"checks {len(tasks)} streams", len(tasks))
 
-    def collect(checked: Iterable[Union[Checked, str]]) -> List[Union[Checked, str]]:
-        for one in checked:
-            found.append(one)
-            work.done += 1
-        return found
+    def add(one: Union[Checked, str]) -> None:
+        found.append(one)
+        work.done += 1
 
     if jobs == 1:
-        return collect(map(_task, tasks))
-    with ProcessPoolExecutor(jobs, mp_context=get_context("spawn")) as pool:
-        return collect(pool.map(_task, tasks))
+        for task in tasks:
+            add(_task(task))
+    else:
+        _side_by_side(tasks, jobs, add)
+    return found
 
 
 def whole_faults(world: World, done: Dict[str, Checked]) -> List[str]:

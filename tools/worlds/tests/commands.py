@@ -1,7 +1,10 @@
 """The words and statuses of tools/world.py."""
+import os
 import random
+import signal
 import subprocess
 import sys
+import time
 from unittest import mock
 
 import world
@@ -55,6 +58,38 @@ class Commands(WithWorld):
             ):
                 self.assertEqual(world.main(), 130)
         self.assertEqual(self.said, ["stopped; the same command goes on"])
+
+    def check_by(self, script: str) -> "subprocess.Popen[str]":
+        """Begins to check by two processes, with a script in place of vdpm."""
+        cut = read_world(self.folder)
+        for tile in cut.level(0):
+            cut.stream(tile).write_bytes(b"")
+        fake = self.room / "fake"
+        fake.write_text(f"#!/bin/sh\n{script}\n")
+        fake.chmod(0o755)
+        words = [sys.executable, TOOL, "check", str(self.folder), "--jobs", "2", "--program"]
+        return subprocess.Popen(
+            [*words, str(fake)], stdout=subprocess.PIPE, stderr=subprocess.PIPE, text=True,
+            start_new_session=True,
+        )
+
+    def test_a_process_that_is_ended_is_told(self) -> None:
+        with self.check_by("kill -9 $PPID") as check:
+            said = check.communicate(timeout=100)
+        self.assertEqual(check.returncode, 1)
+        self.assertEqual(
+            said, ("", "world: a process was ended from outside: take fewer --jobs\n")
+        )
+
+    def test_one_who_stops_a_check_ends_all_its_processes(self) -> None:
+        with self.check_by('cd "${0%/*}" && echo >> begun && exec sleep 600') as check:
+            self.addCleanup(os.killpg, check.pid, signal.SIGKILL)  # the programs that sleep
+            while check.poll() is None and not (self.room / "begun").exists():
+                time.sleep(0.02)
+            os.killpg(check.pid, signal.SIGINT)
+            self.assertEqual(check.communicate(timeout=100), ("", "world: stopped\n"))
+        self.assertEqual(check.returncode, 130)
+        self.assertLessEqual(len((self.room / "begun").read_text()), 2)
 
     @needs_simplify
     def test_a_world_is_made_by_the_script(self) -> None:
