@@ -165,12 +165,13 @@ def _cut_leaves(cut: Cut, world: World, asked: Asked, work: Work) -> _Leaves:
                 continue
             if half.piece is None:
                 found = journal.known(half.name)
+                work.skip(half.faces)
             else:
                 set_aside(world.folder)
                 found = _leaf(world, half)
                 journal.add(half.name, found)
+                work.done += half.faces
             leaves.add(found)
-            work.done += half.faces
             number = len(leaves.tiles) + 1
             work.doing = f"cuts tile {number} of about {max(about, number)}"
         is_whole = True

@@ -21,7 +21,7 @@ class Work:
 
     def __init__(self, say: Say, out: Optional[TextIO] = None) -> None:
         self.say, self.out = say, out or sys.stderr
-        self.doing, self.whole, self.done = "", 0.0, 0.0
+        self.doing, self.whole, self.done, self.there = "", 0.0, 0.0, 0.0
         self.begun = self.told = time.monotonic()
         self._file: Optional[BinaryIO] = None
         self._over = threading.Event()
@@ -29,8 +29,12 @@ class Work:
 
     def begin(self, doing: str, whole: float) -> None:
         self._file = None
-        self.doing, self.whole, self.done = doing, whole, 0.0
+        self.doing, self.whole, self.done, self.there = doing, whole, 0.0, 0.0
         self.begun = self.told = time.monotonic()
+
+    def skip(self, part: float) -> None:
+        """So much was there already, and took no time."""
+        self.done, self.there = self.done + part, self.there + part
 
     def read(self, name: str, size: int) -> Callable[[BinaryIO], None]:
         """Begins the reading of a file of so many bytes, which is told to what comes back."""
@@ -44,11 +48,11 @@ class Work:
     def line(self) -> str:
         if self._file is not None and not self._file.closed:
             self.done = float(self._file.tell())
-        if not self.whole or not self.done:
+        made, wanted = self.done - self.there, self.whole - self.there
+        if made <= 0 or wanted <= 0:
             return self.doing
-        share = min(1.0, self.done / self.whole)
-        left = (time.monotonic() - self.begun) * (1 - share) / share
-        return f"{self.doing}: {100 * share:.0f} %, {left_of(left)}"
+        left = (time.monotonic() - self.begun) * max(0.0, wanted / made - 1)
+        return f"{self.doing}: {100 * min(1.0, self.done / self.whole):.0f} %, {left_of(left)}"
 
     def _look(self) -> None:
         is_terminal = self.out.isatty()

@@ -6,7 +6,7 @@ import threading
 import time
 from concurrent.futures import Future
 from dataclasses import replace
-from typing import List
+from typing import List, Tuple
 from unittest import mock
 
 from .. import building, making, progress
@@ -117,6 +117,21 @@ class Building(WithWorld):
         self.world.stream(self.world.tiles["t10"]).unlink()
         self.assertEqual(self.build(self.world), 2)  # the tile and its parent
 
+    def test_the_time_left_weighs_parents_and_leaves_out_what_is_there(self) -> None:
+        self.build(self.world)
+        self.world.stream(self.world.tiles["t10"]).unlink()
+        work = Work(self.said.append)
+        found: List[Tuple[str, str, float, float]] = []
+
+        def begin(_: Build, tile: Tile) -> None:
+            found.append((tile.name, work.doing, work.there, work.done))
+
+        with mock.patch.object(building, "build_tile", begin):
+            build_world(Build(self.world, SIMPLIFY, VDPM, 40, 1, work))
+        began, built = "builds 5 tiles and parents", "built {} of 5 tiles and parents"
+        self.assertEqual(found, [("t10", began, 3, 3), ("t", built.format(4), 3, 4)])
+        self.assertEqual((work.doing, work.done, work.whole), (built.format(5), 25, 25))
+
     def test_a_build_that_is_stopped_begins_no_more_tiles(self) -> None:
         begun: List[str] = []
         over = threading.Event()
@@ -226,6 +241,10 @@ class Told(WithWorld):
         self.assertEqual(work.line(), "cuts tile 3 of about 12")
         work.done, work.begun = 50, 1000.0 - 10
         self.assertEqual(work.line(), "cuts tile 3 of about 12: 25 %, 30 s left")
+        work.skip(100)  # the ten seconds were for 50 of those 100 that weren't there
+        self.assertEqual(work.line(), "cuts tile 3 of about 12: 75 %, 10 s left")
+        work.skip(50)
+        self.assertEqual(work.line(), "cuts tile 3 of about 12: 100 %, 0 s left")
         path = self.file("some.bin", "x" * 100)
         with path.open("rb") as file:
             work.read("some.bin", 100)(file)
