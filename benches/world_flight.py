@@ -4,17 +4,18 @@
         [--memory MB] [--picture FILE]
 
 A flight comes down from where all of the world is seen to a hundredth of that distance, and then
-goes on above the ground, over a quarter of the world. At each of STEPS places it waits until the
-window shows all as it is asked for there: programs are started and ended, and asked for what is
-seen of their tiles. Nothing is drawn, since a headless browser draws by software; but FILE gets a
-picture of a place half of the way down. A row has
+goes on over a quarter of the world. At each of STEPS places it waits until the window shows all as
+it is asked for there: programs are started and ended, and asked for what is seen of their tiles.
+Nothing is drawn, since a headless browser draws by software; but FILE gets a picture of how the
+world looks from low above it. A row has
 
     step      from the camera to a front that can be drawn, the median and the 95th percentile, in
               milliseconds; a browser looks 60 times a second
     steps/s   of the whole flight
     faces     that are shown: the median, and the most
-    open      programs that run, and the tiles that are closed: the most of each
-    MB        of memory that these programs have, the most, as Linux tells it
+    open      programs of tiles that are shown, and the tiles that are closed: the most of each
+    MB        of memory that all programs that run take as the window reckons, and as Linux tells
+              it: the most of each
 """
 import argparse
 import sys
@@ -27,11 +28,13 @@ TOP = Path(__file__).resolve().parent.parent
 sys.path.insert(0, str(TOP / "tools"))
 
 from browser import Browser  # noqa: E402
-from viewer.world import WorldServer, showing_of  # noqa: E402
+from viewer.world import WorldServer, WorldShowing, showing_of  # noqa: E402
 
 READY = "globalThis.viewer && viewer.isSettled"
 BARE = """(() => {
-  Object.assign(globalThis, { home: viewer.camera.copy(), draw: viewer.scene.draw });
+  const home = viewer.camera.copy(), { low, high } = viewer.about;
+  home.target[2] = 0.7 * low[2] + 0.3 * high[2];
+  Object.assign(globalThis, { home, draw: viewer.scene.draw });
   viewer.scene.draw = () => {};
   glide.click();
 })()"""
@@ -39,12 +42,12 @@ TOLERANCE = """((pixels) => {
   tolerance.value = pixels;
   tolerance.dispatchEvent(new Event("input", { bubbles: true }));
 })"""
-# A step, at a part of the way: the first half of it leads down.
-STEP = """(async (part) => {
-  const began = performance.now(), camera = home.copy(), down = Math.min(1, 2 * part);
-  const aside = viewer.radius * (0.5 * Math.max(0.5, part) - 0.5), [x, y, z] = home.target;
+# A step, at parts of the ways down and on.
+STEP = """(async (down, on) => {
+  const began = performance.now(), camera = home.copy();
+  const aside = 0.25 * viewer.radius * (on - 1), [x, y, z] = home.target;
   camera.target = [x + aside, y + aside, z];
-  Object.assign(camera, { distance: home.distance * 0.01 ** down, pitch: 1.2 - 0.9 * down });
+  Object.assign(camera, { distance: home.distance * 0.01 ** down, pitch: 1.2 - down });
   Object.assign(viewer, { camera, dirty: true });
   await viewer.settled();
   const { tiles: { counts, wanted } } = viewer;
@@ -53,6 +56,11 @@ STEP = """(async (part) => {
     closed: wanted.closed.length,
   };
 })"""
+LOW = """((camera) => {
+  Object.assign(camera, { distance: 0.2 * home.distance, pitch: 0.2 });
+  Object.assign(viewer, { camera, dirty: true });
+  return viewer.settled();
+})(home.copy())"""
 SEEN = "viewer.scene.draw = draw, viewer.dirty = true, viewer.settled()"
 
 
@@ -69,31 +77,33 @@ def held(name: str) -> float:
             told = Path(f"/proc/{child}/status").read_text()
             if told.startswith(f"Name:\t{name}\n"):
                 found += sum(int(line.split()[1]) for line in told.splitlines() if "VmRSS" in line)
-    return found / 1000
+    return found * 1024 / 1e6
 
 
-def flight_row(browser: Browser, tolerance: float, steps: int, program: str) -> str:
+def flight_row(browser: Browser, tolerance: float, steps: int, showing: WorldShowing) -> str:
     browser.run(f"{TOLERANCE}({4 * log2(tolerance):.0f})")
-    browser.run(f"{STEP}(0)")
+    browser.run(f"{STEP}(0, 0)")
     found: List[Dict[str, Any]] = []
-    memory = 0.0
+    reckoned = had = 0.0
     for step in range(1, steps + 1):
-        found.append(browser.run(f"{STEP}({step / steps})"))
-        memory = max(memory, held(program))
+        part = 2 * step / steps
+        found.append(browser.run(f"{STEP}({min(1.0, part)}, {max(0.0, part - 1)})"))
+        reckoned, had = max(reckoned, showing.held / 1e6), max(had, held(showing.path.name))
     took, faces = ([one[name] for one in found] for name in ("took", "faces"))
     most = [max(one[name] for one in found) for name in ("faces", "open", "closed")]
     cells = [f"{at(took, 0.5):.0f} / {at(took, 0.95):.0f}", f"{1000 * steps / sum(took):.1f}"]
-    cells += [f"{at(faces, 0.5):,.0f} / {most[0]:,}", f"{most[1]} / {most[2]}", f"{memory:.0f}"]
+    cells += [f"{at(faces, 0.5):,.0f} / {most[0]:,}", f"{most[1]} / {most[2]}"]
+    cells += [f"{reckoned:.0f} / {had:.0f}"]
     return f"| {tolerance:g} | {' | '.join(cells)} |"
 
 
-def fly(browser: Browser, asked: argparse.Namespace) -> None:
+def fly(browser: Browser, asked: argparse.Namespace, showing: WorldShowing) -> None:
     browser.run(BARE)
     print("| px | step | steps/s | faces | open / closed | MB |\n|" + "---|" * 6)
     for tolerance in asked.tolerances:
-        print(flight_row(browser, tolerance, asked.steps, asked.program.name), flush=True)
+        print(flight_row(browser, tolerance, asked.steps, showing), flush=True)
     if asked.picture:
-        browser.run(f"{STEP}(0.25)")
+        browser.run(LOW)
         browser.run(SEEN)
         browser.picture(asked.picture)
     for complaint in browser.errors():
@@ -120,7 +130,7 @@ def main() -> None:
     try:
         browser.go(server.address)
         browser.until(READY)
-        fly(browser, asked)
+        fly(browser, asked, showing)
     finally:
         browser.close()
         server.shutdown()
