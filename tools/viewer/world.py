@@ -21,9 +21,9 @@ from .server import Page as ServedPage
 
 WORLD_PAGE = Path(__file__).resolve().parent / "world_page"
 OWN_FILES = ("finest.js", "tiles.js", "tiling.js", "world_bar.js", "world_worker.js")
-# Measured: `vdpm view` takes 57 MB for a stream of 199,712 faces, and 272 for one of 980,000.
-# `vdpm live` takes 8 bytes more for each node, and there are about as many nodes as faces.
-MEMORY_A_FACE = 300
+# Measured: `vdpm live` takes 33.8 MB of a stream of 100,000 faces, and 17.9 of one of 50,100, once
+# all is shown.
+MEMORY_A_FACE = 340
 MOST_TEXTS = 8
 _HEAD = "tile "
 NAMED = 5  # of the streams that are missing

@@ -195,7 +195,7 @@ class Looking(WithWindow):
         self.assertEqual(sum(int(words[3]) for words in asked), counts["faces"])
 
     def test_with_little_memory_parents_stay_and_the_rest_is_closed(self) -> None:
-        memory = 290 * 100
+        memory = 330 * 100
         server = self.opened(memory)
         self.look(300, -4)
         self.assertLessEqual(server.showing.held, memory)
