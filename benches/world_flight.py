@@ -34,7 +34,7 @@ READY = "globalThis.viewer && viewer.isSettled"
 BARE = """(() => {
   const home = viewer.camera.copy(), { low, high } = viewer.about;
   home.target[2] = 0.7 * low[2] + 0.3 * high[2];
-  Object.assign(globalThis, { home, draw: viewer.scene.draw });
+  Object.assign(globalThis, { home });
   viewer.scene.draw = () => {};
   glide.click();
 })()"""
@@ -61,7 +61,11 @@ LOW = """((camera) => {
   Object.assign(viewer, { camera, dirty: true });
   return viewer.settled();
 })(home.copy())"""
-SEEN = "viewer.scene.draw = draw, viewer.dirty = true, viewer.settled()"
+SEEN = """(({ scene }) => {
+  scene.draw = (camera, look) => scene.drawAs(camera, look, scene.picture(), 1);
+  viewer.dirty = true;
+  return viewer.settled();
+})(viewer)"""
 
 
 def at(values: List[float], part: float) -> float:
@@ -128,7 +132,7 @@ def main() -> None:
     threading.Thread(target=server.serve_forever, daemon=True).start()
     browser = Browser(1280, 800)
     try:
-        browser.go(server.address)
+        browser.go(f"{server.address}?sharpness=0.05")
         browser.until(READY)
         fly(browser, asked, showing)
     finally:
