@@ -18,12 +18,14 @@ export class Bends {
     Object.assign(this, { corners, normals, hollows, pages, around });
     this.units = new Float32Array(corners.length);
     this.sizes = new Float32Array(corners.length / 3);
+    this.words = new Uint32Array(normals === null ? 0 : nodes); // of nodes; 0 until it is asked for
     this.sum = new Float64Array(3);
   }
 
   // A face is drawn, whose normal is as long as it is large.
   add(face, normal) {
-    const { around, corners, units } = this, first = 3 * face, [x, y, z] = normal;
+    const { around, corners, units } = this, first = 3 * face;
+    const x = normal[0], y = normal[1], z = normal[2];
     const size = Math.sqrt(x * x + y * y + z * z), scale = size > 0 ? 1 / size : 0;
     this.sizes[face] = size;
     units[first] = scale * x; units[first + 1] = scale * y; units[first + 2] = scale * z;
@@ -74,10 +76,17 @@ export class Bends {
     const x = units[own], y = units[own + 1], z = units[own + 2];
     if (normals !== null) {
       const from = 3 * corners[at];
-      const a = normals[from], b = normals[from + 1], c = normals[from + 2];
-      if (a * x + b * y + c * z > AGAINST) return octahedral(a, b, c);
+      const along = normals[from] * x + normals[from + 1] * y + normals[from + 2] * z;
+      if (along > AGAINST) return this.wordOf(corners[at]);
     }
     return this.packedAround(corners[at], x, y, z);
+  }
+
+  // The normal of a node, as one number.
+  wordOf(node) {
+    const { normals: n, words } = this, at = 3 * node;
+    if (words[node] === 0) words[node] = octahedral(n[at], n[at + 1], n[at + 2]);
+    return words[node];
   }
 
   // The sum of the faces around a node that lie about along a normal.

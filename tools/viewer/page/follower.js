@@ -32,7 +32,7 @@ export class Follower {
   taken({ frame, change, before, after }, clock) {
     if (!frame && before !== this.mark) return null;
     try {
-      const patch = this.mesh.take(frame ? this.mesh.front.changeTo(frame) : change, clock());
+      const patch = frame ? this.mesh.show(frame, clock()) : this.mesh.take(change, clock());
       this.mark = after;
       return patch;
     } catch (fault) {

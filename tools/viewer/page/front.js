@@ -27,6 +27,21 @@ export class Front {
     this.uses.fill(0);
   }
 
+  // Shows a frame where nothing is shown.
+  begin({ nodes: own, faces: numbers, corners: three }) {
+    const { corners, faces, nodes, uses } = this;
+    nodes.fill(own);
+    faces.fill(numbers);
+    for (let i = 0, from = 0; i < numbers.length; i++) {
+      check(faces.of[numbers[i]] === i);
+      for (let at = 3 * numbers[i]; from < 3 * i + 3; at++, from++) {
+        check(nodes.has(three[from]));
+        corners[at] = three[from];
+        uses[three[from]]++;
+      }
+    }
+  }
+
   // Does what a change says.
   take({ nodeCount, faceCount, facesGone, nodesGone, nodesCome, facesPut, corners }) {
     const { nodes, faces, uses } = this;

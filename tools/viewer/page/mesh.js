@@ -11,21 +11,14 @@
 // are found by the nodes at their corners, and nothing is made anew for a node or a face.
 import { Bends } from "./bends.js";
 import { cellsOf, cornersAt } from "./cells.js";
+import { drawnFirst } from "./first.js";
 import { Front, check } from "./front.js";
 import { NO_PARENT } from "./hierarchy.js";
 import { Late } from "./late.js";
-import { GLIDE } from "./layout.js";
+import { GLIDE, THERE, eased } from "./layout.js";
 import { Leaving } from "./leaving.js";
 import { putNormal } from "./normals.js";
 import { Marked, Row, Slots } from "./slots.js";
-
-const THERE = -GLIDE; // when a glide began that is over
-
-// How far of its way a glide is after a part of its time: the same as in shaders.js.
-function eased(part) {
-  const time = Math.max(0, Math.min(1, part));
-  return time * time * (3 - 2 * time);
-}
 
 export class KeptMesh {
   // `colours` has four bytes for each node, or is null; `spots` are those of a texture, or null.
@@ -61,6 +54,12 @@ export class KeptMesh {
     for (const marked of [split, landing, coming, near, touched.nodes, touched.faces]) {
       marked.clear();
     }
+  }
+
+  // Draws a frame, whatever is drawn now, and gives what becomes another as `take` does.
+  show(frame, now) {
+    const isNew = this.nodes.size === 0 && this.front.nodes.size === 0;
+    return isNew ? drawnFirst(this, frame) : this.take(this.front.changeTo(frame), now);
   }
 
   // Does what a change says, and gives what becomes another in textures. With `now`, in seconds,

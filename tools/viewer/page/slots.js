@@ -22,6 +22,12 @@ export class Slots {
     this.holes[this.holeCount++] = this.of[number];
     this.of[number] = NOWHERE;
   }
+
+  // Adds numbers where there are none.
+  fill(numbers) {
+    for (let i = 0; i < numbers.length; i++) this.of[numbers[i]] = i;
+    this.end = numbers.length;
+  }
 }
 
 // Numbers that stand close together: the last one takes the place of one that goes.
@@ -45,6 +51,13 @@ export class Row {
     if (last === number) return;
     this.of[last] = slot;
     this.at[slot] = last;
+  }
+
+  // Adds numbers where there are none.
+  fill(numbers) {
+    for (let i = 0; i < numbers.length; i++) this.of[numbers[i]] = i;
+    this.at.set(numbers);
+    this.size = numbers.length;
   }
 
   get numbers() { return this.at.subarray(0, this.size); }

@@ -103,7 +103,7 @@ class Working {
   // The input itself, to be drawn beside the front.
   async input() {
     const mesh = this.newMesh();
-    return { patch: mesh.take(mesh.front.changeTo(fullFrame(this.hierarchy)), null) };
+    return { patch: mesh.show(fullFrame(this.hierarchy), null) };
   }
 
   async flight() { return { text: await this.connection.flight() }; }

@@ -1,12 +1,17 @@
 """The mesh that is kept by what changes: what is drawn is what the program shows."""
+import json
 import os
+import shutil
 import signal
+import subprocess
+import unittest
 from typing import Dict, List, Optional, Tuple
 
 from frames import Frame
+from viewer.page_files import PAGE
 from viewer.program import Answer, replies_to
 
-from .common import model, program
+from .common import Case, model, program
 from .pages import Page
 from .telling import without_first
 
@@ -39,11 +44,34 @@ ANEW = """(async (nodes, faces, corners) => {
   const hierarchy = readHierarchy(await (await fetch("stream")).arrayBuffer());
   Object.assign(hierarchy, shapeOf(hierarchy));
   const mesh = new KeptMesh(hierarchy, null);
-  const change = mesh.front.changeTo({ nodes, faces: Int32Array.from(faces), corners });
-  const { faces: patch } = mesh.take(change, null);
+  const { faces: patch } = mesh.show({ nodes, faces: Int32Array.from(faces), corners }, null);
   return [...patch.slots].map((_, i) =>
     [patch.corners[4 * i + 3], [...patch.bends.subarray(4 * i, 4 * i + 3)]]);
 })"""
+# Draws the first frame of replies as it stands and as a change from nothing, goes on with the
+# changes that follow, and tells how large the fronts are that had the same patch both ways.
+BOTH_WAYS = """import { readFileSync } from "node:fs";
+import { deepStrictEqual } from "node:assert";
+const [{ readHierarchy }, { KeptMesh }, { Replies }, { shapeOf }, { spotsOf }] = await Promise.all(
+  ["hierarchy", "mesh", "replies", "shape", "spots"].map((name) => import(`%s/${name}.js`)));
+const { buffer } = new Uint8Array(readFileSync(process.argv[1]));
+const hierarchy = readHierarchy(buffer), sizes = [];
+Object.assign(hierarchy, shapeOf(hierarchy), { pages: new Uint8Array(hierarchy.faces).fill(3) });
+const count = hierarchy.parents.length, colours = new Uint8Array(4 * count).map((_, i) => i);
+const spots = Int32Array.from({ length: 2 * count }, (_, i) => 9 * i);
+const [ours, theirs] = [0, 1].map(() => new KeptMesh(hierarchy, colours, spotsOf(spots)));
+const text = new Replies(readFileSync(0));
+let now = 1;
+for (let reply = text.next(); reply !== null; reply = text.next(), now += 0.15) {
+  const { frame, change } = reply;
+  if (!frame && !change) continue;
+  if (frame) for (const mesh of [ours, theirs]) mesh.clear();
+  const patch = frame ? ours.show(frame, now) : ours.take(change, now);
+  deepStrictEqual(patch, theirs.take(frame ? theirs.front.changeTo(frame) : change, now));
+  sizes.push(patch.faceCount);
+}
+deepStrictEqual(ours.show(ours.front.frame(), now).changes.facesCome, 0);
+console.log(JSON.stringify(sizes));"""
 ALIKE = 0.9999  # the cosine of two normals that count as one
 
 
@@ -59,6 +87,26 @@ def direction(word: int) -> Tuple[float, ...]:
 
 def remove(lines: List[bytes], place: int) -> List[bytes]:
     return lines[:place] + lines[place + 1:]
+
+
+@unittest.skipUnless(shutil.which("node"), "no node")
+class First(Case):
+    def sizes(self, script: bytes) -> List[int]:
+        """The numbers of faces of the frames and changes that a script asks for."""
+        stream = model("asteroid.obj").stream
+        replies = replies_to(program(), stream, script, command="live")
+        words = ["node", "--input-type=module", "-e", BOTH_WAYS % PAGE.as_uri()]
+        words.append(str(self.written("asteroid.vdpm", stream)))
+        done = subprocess.run(words, input=replies, capture_output=True, check=False)
+        self.assertEqual(done.returncode, 0, done.stderr.decode())
+        return list(json.loads(done.stdout))
+
+    def test_a_frame_as_it_stands_is_a_change_from_nothing(self) -> None:
+        lines = [b"vd 0 %d 6000 1000 %d\n" % (-9000 - 900 * n, 2 + 5 * n % 23) for n in range(9)]
+        flight = lines[0] + b"w\nk\n" + b"".join(line + b"d\n" for line in lines[1:])
+        sizes = self.sizes(flight + b"v 0 -20000 6000 1000 40\nw\nk\n" + lines[3] + b"d\n")
+        self.assertEqual(len(sizes), 11)
+        self.assertGreater(len(set(sizes)), 8)
 
 
 class Followed(Page):

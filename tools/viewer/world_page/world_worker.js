@@ -120,8 +120,7 @@ async function baseFrame(name) {
 
 // What is drawn of a frame alone.
 function whole(frame, hierarchy, colours) {
-  const mesh = new KeptMesh(hierarchy, colours);
-  return mesh.take(mesh.front.changeTo(frame), null);
+  return new KeptMesh(hierarchy, colours).show(frame, null);
 }
 
 // One mesh of the frames of tiles: vertices at the same place of the world are one.
