@@ -57,6 +57,10 @@ export class Memory {
     });
   }
 
+  /** Writes numbers into the module's memory.
+   * @param {number} at @param {Uint32Array} numbers */
+  put(at, numbers) { new Uint32Array(this.buffer, at, numbers.length).set(numbers); }
+
   // (the buffer is another one after the memory grew)
   get buffer() {
     return this.functions.memory.buffer;

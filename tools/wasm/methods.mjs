@@ -109,6 +109,79 @@ test("numbers by vertex are told by node, and which nodes and faces were", () =>
   assert.throws(() => it.fits(new Int32Array(leaves).fill(2 ** 30)), RangeError);
 }));
 
+test("means by node are those of the vertices under it", () => within((it) => {
+  const { nodes, leaves } = it.counts(), { byNode } = it.inputs();
+  const numbers = Uint16Array.from({ length: 3 * leaves }, (_, i) => 999 * i + 7);
+  const means = it.means(numbers, 3);
+  assert.equal(means.length, 3 * nodes);
+  byNode.forEach((vertex, node) => {
+    if (vertex >= leaves) return;
+    const own = [...numbers.slice(3 * vertex, 3 * vertex + 3)];
+    assert.deepEqual([...means.slice(3 * node, 3 * node + 3)], own);
+  });
+  assert.ok(it.means(new Uint16Array(leaves).fill(65535)).every((number) => number === 65535));
+  assert.throws(() => it.means(numbers.subarray(1), 3), RangeError);
+  assert.throws(() => it.means(numbers, -1), RangeError);
+}));
+
+/** What buffers show: the face in each slot, with the places of its corners.
+ * @param {import("./vdpm.mjs").Slots} slots */
+function shownBy({ vertices, triangles, faces }) {
+  const place = (/** @type {number} */ slot) => [...vertices.slice(3 * slot, 3 * slot + 3)];
+  return [...faces].flatMap((face, i) => (face === 0xffffffff ? []
+    : [[face, ...[...triangles.slice(3 * i, 3 * i + 3)].map(place)]]));
+}
+
+/** The same of a session's frame.
+ * @param {Session} session */
+function shownIn(session) {
+  const { places, faces, corners } = session.frame();
+  const place = (/** @type {number} */ at) => [...places.slice(3 * at, 3 * at + 3)];
+  return [...faces].map((face, i) => [face, ...[...corners.slice(3 * i, 3 * i + 3)].map(place)]);
+}
+
+const byFace = (/** @type {any[][]} */ all) => all.sort(([a], [b]) => a - b);
+
+test("buffers follow what is shown, and few slots are written", () => {
+  const made = vdpm.simplify(readFileSync(new URL("torus.obj", EXAMPLES)));
+  const torus = vdpm.open(made), twin = vdpm.open(made), slots = torus.slots();
+  const copy = { vertices: new Int32Array(0), triangles: new Uint32Array(0) };
+  for (const tolerance of [40, 9, 25, 3, 60, 1]) {
+    for (const it of [torus, twin]) it.view({ eye: [0, -30000, 20000], focal: 1000, tolerance });
+    if (tolerance === 25) torus.mark();
+    const { nodes, faces } = torus.frame(), { newNodes } = twin.change();
+    const { vertexSlots, places, triangleSlots, corners } = slots.update();
+    assert.equal(new Set(vertexSlots).size, vertexSlots.length);
+    if ([40, 25].includes(tolerance)) assert.equal(triangleSlots.length, faces.length);
+    else assert.equal(vertexSlots.length, newNodes.length);
+    for (const name of /** @type {const} */ (["vertices", "triangles"])) {
+      const longer = new Int32Array(slots[name].length);
+      longer.set(copy[name].subarray(0, longer.length));
+      copy[name] = longer;
+    }
+    vertexSlots.forEach((slot, i) => {
+      copy.vertices.set(places.slice(3 * i, 3 * i + 3), 3 * slot);
+    });
+    triangleSlots.forEach((slot, i) => {
+      copy.triangles.set(corners.slice(3 * i, 3 * i + 3), 3 * slot);
+    });
+    assert.deepEqual([...copy.triangles], [...slots.triangles]);
+    assert.deepEqual(byFace(shownBy(slots)), shownIn(torus));
+    assert.deepEqual(byFace(shownBy({ ...copy, faces: slots.faces, nodes: slots.nodes })),
+      shownIn(torus));
+    assert.deepEqual([...slots.nodes].filter((node) => node !== 0xffffffff).sort((a, b) => a - b),
+      [...nodes]);
+  }
+  const before = slots.update();
+  assert.deepEqual([before.vertexSlots.length, before.triangleSlots.length], [0, 0]);
+  slots.close();
+  slots.close();
+  assert.equal(slots.vertices.length, 0);
+  assert.throws(() => slots.update(), NotOpen);
+  for (const it of [torus, twin]) it.close();
+  assert.throws(() => torus.slots().update(), NotOpen);
+});
+
 test("a ray meets a face or none, and strips have all corners", () => within((session) => {
   assert.equal(session.pick([0, 0, 30000], [0, 0, 1]), null);
   assert.equal(typeof session.pick([0, 0, 30000], [0, 0, -1])?.face, "number");
@@ -187,7 +260,12 @@ test("a closed session is refused, and others are apart from it", () => {
 test("memory is given back", () => {
   const size = () => vdpm.memory.buffer.byteLength;
   const round = () => {
-    within((session) => session.frame());
+    within((session) => {
+      session.frame();
+      const slots = session.slots();
+      slots.update();
+      slots.close();
+    });
     vdpm.simplify(text);
     assert.throws(() => vdpm.open(text), Fault);
     assert.throws(() => vdpm.build("f 1 2 3\n"), Fault);

@@ -1,21 +1,16 @@
 // A hierarchy that is being shown.
-import { NotOpen, STATUS, check, numberTo } from "./faults.mjs";
+import { Slots } from "./buffers.mjs";
+import { STATUS, check, numberTo } from "./faults.mjs";
 import { bytesOf } from "./memory.mjs";
+import { Tables } from "./tables.mjs";
 
 const NONE = 0xffffffff, MOST = 0xffffffff;
-const HANDLE = 8, SIZES = 24, CHANGE_SIZES = 16;
+const HANDLE = 8, CHANGE_SIZES = 16;
+const MARKS = ["k", "d"]; // the lines that mark the front
 
 /**
  * @typedef {import("./memory.mjs").Memory} Memory
- * @typedef {import("./memory.mjs").Room} Room
- *
- * @typedef {object} Sizes how large the mesh shown and the hierarchy are
- * @property {number} shownNodes
- * @property {number} shownFaces
- * @property {number} nodes
- * @property {number} leaves
- * @property {number} records
- * @property {number} digits decimals of a coordinate
+ * @typedef {import("./tables.mjs").Sizes} Sizes
  *
  * @typedef {object} Frame the mesh that is shown, in the order of the frame text
  * @property {Uint32Array} nodes the active nodes, ascending
@@ -46,7 +41,7 @@ const HANDLE = 8, SIZES = 24, CHANGE_SIZES = 16;
  */
 
 /** A viewer of one stream. What isn't closed keeps its memory for as long as the module lives. */
-export class Session {
+export class Session extends Tables {
   /**
    * Opens the bytes that `build` or `simplify` made. A view makes at most `budget` moves.
    * @param {Memory} memory
@@ -55,33 +50,25 @@ export class Session {
    */
   constructor(memory, stream, budget = MOST) {
     numberTo(MOST, budget, "budget");
-    this.memory = memory;
-    /** @type {Room | null} */
-    this.room = memory.take(HANDLE);
+    super(memory, memory.take(HANDLE));
+    this.marks = 0; // how often the front was marked
     try {
-      const handle = this.room.at;
+      const { handle } = this;
       memory.holding(stream, (at, length) => memory.within([8], (place) => {
         const status = memory.functions.vdpm_open(at, length, budget, handle, place);
         check(status, memory.long(place));
       }));
     } catch (fault) {
-      memory.give(this.room);
-      this.room = null;
+      this.giveRoom();
       throw fault;
     }
-  }
-
-  get handle() {
-    if (this.room === null) throw new NotOpen();
-    return this.room.at;
   }
 
   /** Gives the memory back. A closed session stays so. */
   close() {
     if (this.room === null) return;
     this.memory.functions.vdpm_close(this.room.at);
-    this.memory.give(this.room);
-    this.room = null;
+    this.giveRoom();
   }
 
   /**
@@ -91,8 +78,9 @@ export class Session {
    * @returns {Uint8Array}
    */
   line(text) {
-    const { memory, handle } = this;
-    memory.holding(bytesOf(text), (at, length) => {
+    const { memory, handle } = this, bytes = bytesOf(text);
+    if (MARKS.includes(String.fromCharCode(...bytes.subarray(0, 2)))) this.marks++;
+    memory.holding(bytes, (at, length) => {
       check(memory.functions.vdpm_line(handle, at, length));
     });
     const length = memory.within([4], (at) => {
@@ -161,17 +149,6 @@ export class Session {
     return lines.map((line) => line.split(" ").slice(1).map(Number));
   }
 
-  /** @returns {Sizes} */
-  counts() {
-    const { memory, handle } = this;
-    return memory.within([SIZES], (at) => {
-      check(memory.functions.vdpm_counts(handle, at));
-      const told = memory.numbers(at, SIZES / 4);
-      const [shownNodes, shownFaces, nodes, leaves, records, digits] = told;
-      return { shownNodes, shownFaces, nodes, leaves, records, digits };
-    });
-  }
-
   /** The mesh that is shown, as arrays.
    * @returns {Frame} */
   frame() {
@@ -215,6 +192,7 @@ export class Session {
       const sizes = [...memory.numbers(told, 4)];
       if (status === STATUS.NO_ROOM) return { sizes, change: null };
       check(status);
+      this.marks++;
       const [goneFaces, goneNodes, newNodes, putFaces] = sizes;
       return { sizes, change: {
         goneFaces: memory.numbers(at[0], goneFaces), goneNodes: memory.numbers(at[1], goneNodes),
@@ -223,6 +201,9 @@ export class Session {
       } };
     });
   }
+
+  /** Buffers of a renderer that follow what is shown. They are empty until their first `update`. */
+  slots() { return new Slots(this); }
 
   /** The record that splits a node; null for a node of one leaf.
    * @param {number} node */
@@ -243,40 +224,6 @@ export class Session {
     return memory.within([12], (at) => {
       check(memory.functions.vdpm_place(handle, numberTo(MOST, node, "node"), at, 3));
       return memory.signed(at, 3);
-    });
-  }
-
-  /**
-   * What all nodes have of numbers by vertex of the complete mesh, as 65,536 times u and v of a
-   * texture: in each channel that of the linear map which fits those below a node best, at its
-   * place. Throws RangeError where they aren't numbers of all vertices, or one is out of range.
-   * @param {Int32Array} byVertex in the order of the text that the stream was made of
-   * @param {number} channels how many numbers a vertex has
-   * @returns {Int32Array} by node
-   */
-  fits(byVertex, channels = 1) {
-    const { memory, handle } = this, count = channels * this.counts().nodes;
-    const bytes = new Uint8Array(byVertex.buffer, byVertex.byteOffset, byVertex.byteLength);
-    return memory.within([4 * count], (to) => memory.holding(bytes, (from) => {
-      const numbers = [numberTo(MOST, channels, "channels"), from, byVertex.length];
-      check(memory.functions.vdpm_fits(handle, ...numbers, to, count));
-      return memory.signed(to, count);
-    }));
-  }
-
-  /** Which vertex of that text a node of one leaf is, 0xffffffff for another node, and which face
-   * of it a face is: both from 0.
-   * @returns {{ byNode: Uint32Array, byFace: Uint32Array }} */
-  inputs() {
-    const { memory, handle } = this, { nodes } = this.counts();
-    const { vdpm_inputs: told } = memory.functions;
-    return memory.within([4, 4 * nodes], (faces, byNode) => {
-      const status = told(handle, byNode, nodes, byNode, 0, faces), count = memory.number(faces);
-      if (status !== STATUS.NO_ROOM) check(status);
-      return memory.within([4 * count], (byFace) => {
-        check(told(handle, byNode, nodes, byFace, count, faces));
-        return { byNode: memory.numbers(byNode, nodes), byFace: memory.numbers(byFace, count) };
-      });
     });
   }
 

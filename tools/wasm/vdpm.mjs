@@ -18,6 +18,7 @@ import { Session } from "./session.mjs";
 import { MOST_DIGITS, MOST_FACES, Simplifying } from "./simplifying.mjs";
 
 export { Fault, NotOpen, OutOfMemory } from "./faults.mjs";
+export { Slots } from "./buffers.mjs";
 export { Session } from "./session.mjs";
 export { Simplifying } from "./simplifying.mjs";
 
