@@ -2,6 +2,7 @@
 import contextlib
 import io
 import os
+import pty
 import struct
 import subprocess
 import sys
@@ -132,6 +133,51 @@ class Large(Case):
         done = subprocess.run(words, capture_output=True, text=True, check=False)
         self.assertEqual((done.returncode, done.stdout), (1, ""))
         self.assertIn("broken.obj: line 1: a coordinate is no number", done.stderr)
+
+
+class Asking(Case):
+    """The command at a terminal."""
+
+    def answered(self, typed: bytes) -> Tuple[int, str]:
+        """How the command ends, and all that the terminal shows, where this is typed once it is
+        asked whether a file of too many faces is to be cut."""
+        path = self.written("many.ply", PLY.replace(b"face 9", b"face 2000000"))
+        words = [sys.executable, str(TOP / "viewer"), "--program", str(program()), path.name]
+        child, line = pty.fork()
+        if child == 0:
+            os.chdir(path.parent)
+            os.execv(words[0], words)
+        seen = b""
+        with os.fdopen(line, "r+b", buffering=0) as terminal:
+            while not seen.endswith(b"[y/N] "):
+                seen += terminal.read(1024)
+            terminal.write(typed)
+            with contextlib.suppress(OSError):  # (which is how a terminal ends)
+                while True:
+                    seen += terminal.read(1024)
+        status = os.waitpid(child, 0)[1]
+        return os.WEXITSTATUS(status) if os.WIFEXITED(status) else -1, seen.decode()
+
+    def test_only_yes_cuts(self) -> None:
+        asked = "many.ply has 2,000,000 faces, and one mesh has at most 1,048,576\r\n" \
+                "viewer: cut it into tiles, in many-world? [y/N] "
+        for typed in (b"n\n", b"\n", b"\4", b"yess\n"):
+            with self.subTest(typed=typed):
+                status, seen = self.answered(typed)
+                self.assertIn(asked, seen)
+                self.assertIn("./viewer --world", seen.partition(asked)[2])
+                self.assertEqual(status, 1)
+        for typed in (b"y\n", b"YES\n"):
+            with self.subTest(typed=typed):
+                status, seen = self.answered(typed)
+                self.assertNotIn("./viewer --world", seen)
+                self.assertIn("before vertex 1 of 3", seen.partition(asked)[2])
+                self.assertEqual(status, 1)
+
+    def test_control_c_ends_it_there(self) -> None:
+        status, seen = self.answered(b"\3")
+        self.assertEqual(status, 130)
+        self.assertTrue(seen.endswith("[y/N] ^C"), seen)
 
 
 if __name__ == "__main__":
