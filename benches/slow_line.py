@@ -8,7 +8,8 @@ needs no server, of a plain and of a packed stream, over a relay that lets 1 Mbi
 each way, 20 ms late; it slows what a page's worker and its WebSocket bring too. Seconds are from
 the page's address on; `before` are those in which `./viewer` opens the stream. The page has its
 model packed always, so what is measured as plain is a page in which the step that unpacks is left
-out.
+out. `beside` is a page without a model, which fetches the packed stream from its server: shown when
+all of it has come, as with an engine that can't unpack its first records, and as it comes.
 """
 import argparse
 import queue
@@ -37,6 +38,8 @@ BITS, LATE = 1_000_000, 0.020  # a second, and seconds each way
 PIECE = 4096
 LONGEST = 1200.0
 UNPACKS = "this.engine.unpack(model.packed)"
+UNPACKS_FIRST = b"vdpm_unpack_first"
+ADDRESS = "model.vdpz"  # of the stream beside a page
 # Seconds since the page's address was opened, once there is a picture.
 SEEN = """globalThis.viewer?.firstDrawn && (
   viewer.firstDrawn.then(() => { globalThis.seen ??= performance.now() / 1000; }),
@@ -129,10 +132,12 @@ def by_window(path: Path, programs: Programs) -> Shown:
     return Shown(line, f"{server.token}/", end, before)
 
 
-def by_page(text: bytes) -> Shown:
+def by_page(text: bytes, beside: bytes = b"") -> Shown:
+    """A page, which fetches what is beside it, if anything is."""
+
     class Handler(BaseHTTPRequestHandler):
         def do_GET(self) -> None:
-            found = text if self.path.split("?")[0] == "/" else b""
+            found = {"/": text, f"/{ADDRESS}": beside}.get(self.path.split("?")[0], b"")
             self.send_response(200 if found else 404)
             self.send_header("Content-Type", "text/html; charset=utf-8")
             self.send_header("Content-Length", str(len(found)))
@@ -149,7 +154,8 @@ def by_page(text: bytes) -> Shown:
         server.shutdown()
         server.server_close()
 
-    return Shown(SlowLine(server.server_port), "", end, 0.0)
+    path = f"?model={ADDRESS}" if beside else ""
+    return Shown(SlowLine(server.server_port), path, end, 0.0)
 
 
 def pages(module: bytes, model: Model, programs: Programs) -> Iterator["tuple[str, bytes]"]:
@@ -162,7 +168,8 @@ def pages(module: bytes, model: Model, programs: Programs) -> Iterator["tuple[st
 def tell(what: str, faces: int, kind: str, shown: Shown, picture: Optional[Path]) -> None:
     line, browser = shown.line, Browser(1280, 800)
     try:
-        browser.go(f"http://127.0.0.1:{line.port}/{shown.path}?sharpness=0.2")
+        word = "&" if "?" in shown.path else "?"
+        browser.go(f"http://127.0.0.1:{line.port}/{shown.path}{word}sharpness=0.2")
         browser.until(SEEN, LONGEST)
         kilobytes, seconds = line.down.bytes / 1000, browser.run("seen")
         before = f"{shown.before:.1f}" if shown.before else "–"
@@ -195,8 +202,13 @@ def measure(cells: str, room: Path, asked: argparse.Namespace) -> None:
         path.write_bytes(stream)
         shown = by_window(path, programs)
         tell("window", model.faces, kind, shown, picture(f"window-{kind}"))
-    for kind, text in pages(module_of(asked.module), model, programs):
+    module = module_of(asked.module)
+    for kind, text in pages(module, model, programs):
         tell("page", model.faces, kind, by_page(text), picture(f"page-{kind}"))
+    whole = module.replace(UNPACKS_FIRST, UNPACKS_FIRST.upper())
+    for kind, engine in (("whole", whole), ("as it comes", module)):
+        shown = by_page(page_of(engine).encode(), packed)
+        tell("beside", model.faces, kind, shown, picture(f"beside-{kind.split()[-1]}"))
 
 
 def main() -> None:

@@ -1,5 +1,6 @@
 """The page that needs no server: one file with the window, its worker and the engine as a
-WebAssembly module, and with a model where one is given. It opens from a file, and asks for nothing.
+WebAssembly module, and with a model where one is given. It opens from a file, and asks for nothing;
+from a server, for the model that its address names there, `?model=NAME`.
 
 The page is the window's (page/index.html), with styles and scripts in it, and with the card that
 asks for a file (alone_page/welcome.html). The module and the model stand in it packed by zlib, in
@@ -22,10 +23,11 @@ from .model import Model
 HERE = Path(__file__).resolve().parent
 PAGE, ALONE_PAGE = HERE / "page", HERE / "alone_page"
 STYLES = (PAGE / "style.css", PAGE / "bar.css", ALONE_PAGE / "welcome.css")
-# Only what stands in the page runs or is shown. So the browser itself refuses requests.
+# Only what stands in the page runs. So the browser itself refuses requests but to the page's own
+# server, and a file has none.
 POLICY = (
     "default-src 'none'", "script-src 'unsafe-inline' 'wasm-unsafe-eval' blob:", "worker-src blob:",
-    "style-src 'unsafe-inline'", "img-src data: blob:",
+    "style-src 'unsafe-inline'", "img-src data: blob:", "connect-src 'self'",
 )  # fmt: skip
 LINKS = """<link rel="stylesheet" href="style.css">
 <link rel="stylesheet" href="bar.css">

@@ -1,29 +1,30 @@
-// The page that needs no server: a file that is dropped on it, or the model that it has in it, is
-// shown by the engine that it has in it too.
+// The page that needs no server: a file that is dropped on it, the model that it has in it, or one
+// that is beside it on a server, is shown by the engine that it has in it too.
 import { toggle, watchMenu } from "../page/bar.js";
 import { showFault } from "../page/faults.js";
 import { unpacked } from "../page/packed.js";
+import { hideComing, sayComing, sayWhole } from "../page/panel.js";
 import { NoGraphics } from "../page/renderer.js";
 import { Scene } from "../page/scene.js";
 import { Viewer } from "../page/viewer.js";
 import { Work } from "../page/work.js";
-import { watchFiles } from "./files.js";
+import { Fetching, nameOf } from "./fetching.js";
+import { MOST_BYTES, TOO_LARGE, watchFiles } from "./files.js";
+import { goOn, keptOf } from "./going_on.js";
+import { isPacked } from "./kinds.js";
 import { carried } from "./model.js";
 import { sampleText } from "./sample.js";
 import { ownPage, savePacked, savePage } from "./saving.js";
 import { Steps } from "./steps.js";
 
 const part = (name) => document.getElementById(name);
-const MOST_BYTES = 2 ** 30;
-const TOO_LARGE = {
-  reason: "The file has more than 1,024 megabytes.",
-  cure: "What to do: simplify it before, or cut it into tiles, as docs/WORLDS.md tells.",
-};
+const FIRST = 1 << 12; // bytes of a packed file from which on it is shown
 
 class Alone {
   // `own` is the page as it was written.
   constructor(scene, own) {
     Object.assign(this, { scene, own, viewer: null, steps: null, coming: null, turn: 0 });
+    this.fetching = null;
     this.link = location.hash;
     const text = part("worker").textContent;
     this.workerAt = URL.createObjectURL(new Blob([text], { type: "text/javascript" }));
@@ -52,13 +53,50 @@ class Alone {
     await this.show(model.known.name, async () => ({ model }));
   }
 
+  // Shows the file of an address as it comes: of a packed stream what its first bytes tell, and
+  // that anew whenever there are twice as many.
+  takeFrom(address) {
+    const name = nameOf(address), fetching = new Fetching(sayComing);
+    return this.showBy(name, async (turn) => {
+      this.fetching = fetching;
+      await fetching.begin(address);
+      let isFiner = false;
+      for (let size = FIRST; await fetching.isCutAt(size); size *= 2) {
+        size = Math.max(size, fetching.size);
+        const first = fetching.bytes.slice();
+        if (isPacked(first)) isFiner = await this.showFirst(turn, { name, first }, isFiner);
+      }
+      await this.exchangeFor(turn, { name, bytes: fetching.bytes.slice() }, { isFiner });
+      if (turn === this.turn) this.leaveFetching();
+    });
+  }
+
+  // Shows what has come so far, and gives whether anything is shown: at first it may be no mesh
+  // yet.
+  async showFirst(turn, given, isFiner) {
+    try {
+      await this.exchangeFor(turn, given, { isFiner, isWhole: false });
+      return true;
+    } catch (fault) {
+      if (!fault.isShort) throw fault;
+      this.coming?.end();
+      this.coming = null;
+      return isFiner;
+    }
+  }
+
   // Shows what `read` gives to the worker. What was shown before goes when the new is there.
-  async show(name, read) {
+  show(name, read) {
+    return this.showBy(name, async (turn) => {
+      await this.exchangeFor(turn, { name, ...await read() });
+    });
+  }
+
+  async showBy(name, doing) {
     const turn = this.begin(name);
     try {
       this.steps.begin("read");
-      const given = await read(), opened = await this.opened(turn, { name, ...given });
-      if (turn === this.turn) await this.exchange(opened);
+      await doing(turn);
     } catch (fault) {
       if (turn === this.turn) this.fail(fault);
     }
@@ -71,6 +109,13 @@ class Alone {
     return ++this.turn;
   }
 
+  // Opens what is given, and shows it. What is finer is shown as what it's finer than was.
+  async exchangeFor(turn, given, { isFiner = false, isWhole = true } = {}) {
+    const budget = isFiner ? this.viewer.set.budget : undefined;
+    const opened = await this.opened(turn, { ...given, budget });
+    if (turn === this.turn) await this.exchange(opened, { isFiner, isWhole });
+  }
+
   // What a new worker tells of a model once it has opened it.
   async opened(turn, given) {
     const module = (await this.engine).slice();
@@ -81,12 +126,13 @@ class Alone {
       else this.steps.begin(step);
     });
     const task = { task: "open", pageOrigin: performance.timeOrigin, words: this.words, module };
-    const handedOver = [module, given.bytes].filter(Boolean).map(({ buffer }) => buffer);
+    const parts = [module, given.bytes, given.first].filter(Boolean);
+    const handedOver = parts.map(({ buffer }) => buffer);
     return this.coming.ask({ ...task, ...given }, handedOver);
   }
 
-  async exchange(opened) {
-    const { coming: work, link } = this;
+  async exchange(opened, { isFiner, isWhole }) {
+    const { coming: work } = this, kept = isFiner ? keptOf(this.viewer) : { link: this.link };
     Object.assign(this, { coming: null, link: "" }); // a link is of the first model
     this.steps.begin("draw");
     this.viewer?.close();
@@ -95,18 +141,27 @@ class Alone {
     });
     globalThis.viewer = this.viewer; // there for tests and the browser's console
     document.body.classList.remove("empty");
-    await this.viewer.show(opened, link);
+    sayWhole(isWhole);
+    await this.viewer.show(opened, kept.link);
+    if (isFiner) goOn(this.viewer, kept);
     await this.viewer.firstDrawn;
     this.steps.end();
     this.times = { ...this.steps.times, engine: opened.times };
     this.look(null);
   }
 
-  // Ends the worker that builds, in the middle of what it does.
+  // Ends the worker that builds, in the middle of what it does, and what is fetched.
   leave() {
     this.steps?.end();
     this.coming?.end();
     this.coming = null;
+    this.leaveFetching();
+  }
+
+  leaveFetching() {
+    this.fetching?.end();
+    this.fetching = null;
+    hideComing();
   }
 
   cancel() {
@@ -147,7 +202,9 @@ function boot() {
   canvas.addEventListener("webglcontextlost", () => {
     showFault({ title: "The graphics processor gave up", reason: "Load the page again.", again });
   });
-  if (part("model").textContent !== "") globalThis.alone.takeOwn();
+  const address = new URLSearchParams(location.search).get("model");
+  if (address !== null) globalThis.alone.takeFrom(address);
+  else if (part("model").textContent !== "") globalThis.alone.takeOwn();
 }
 
 boot();

@@ -14,6 +14,10 @@ const MOST_DIGITS = 4, TOO_MANY_DECIMALS = 5, NO_FACE = 12;
 const ALL_FACES = 0xffffffff; // none is simplified away
 const AS_IT_STANDS = { unit: 1, middle: [0, 0, 0] };
 const TOO_MUCH = [9, 15, 25, 26, 52, 53];
+// What is known of a stream beside itself.
+export const OF_STREAM = {
+  colours: null, dress: null, known: { prepared: false, scale: null, notes: [] },
+};
 const LF = 10, F = 102, S = 115, T = 116, U = 117, V = 118;
 const FIRST_LINE = 256; // bytes that have the first line of a prepared text
 const OF_FILES = 14;    // the first fault that is of a file, and not of a line
@@ -42,8 +46,7 @@ function toldOf({ number, place }, words) {
 export function built(engine, bytes, { told, words, dresses }) {
   if (isStream(bytes) || isPacked(bytes)) {
     const stream = isPacked(bytes) ? engine.unpack(bytes) : bytes;
-    const known = { prepared: false, scale: null, notes: [] };
-    return { stream, colours: null, dress: null, known };
+    return { stream, ...OF_STREAM };
   }
   try {
     if (isScan(bytes)) return ofScan(engine, bytes, told);

@@ -3,13 +3,14 @@ import { ARRAYS } from "../page/arrays.js";
 import { Fault } from "../page/fault.js";
 import { OutOfMemory, Fault as StreamFault } from "../../wasm/faults.mjs";
 import { Vdpm } from "../../wasm/vdpm.mjs";
-import { built } from "./building.js";
+import { OF_STREAM, built } from "./building.js";
 import { isPacked, isStream } from "./kinds.js";
 import { hasMaterials, picturesFor } from "./materials.js";
 import { librariesOf } from "./textured.js";
 
 const ENGINE = "Engine: the proved sources, compiled without their proofs";
-const ALL_MOVES = 4294967295;
+const ALL_MOVES = 4294967295, ALL_RECORDS = 0xffffffff;
+const ENDS_EARLY = 35; // the fault of a packed text that ends before its base mesh does
 const NO_MEMORY = "This browser gives the page no more memory.";
 const NONE = new Int32Array(0);
 
@@ -31,7 +32,9 @@ function tried(doing) {
       throw new Fault(NO_MEMORY, "What to do: close other pages, or simplify the model.");
     }
     if (!(fault instanceof StreamFault)) throw fault;
-    throw new Fault(`The file is no whole stream: ${fault.message}.`, "What to do: copy it again.");
+    const said = `The file is no whole stream: ${fault.message}.`;
+    const told = new Fault(said, "What to do: copy it again.");
+    throw Object.assign(told, { isShort: fault.number === ENDS_EARLY });
   }
 }
 
@@ -43,22 +46,26 @@ function canDress(name, bytes, beside) {
 
 export class BuiltIn {
   // `module` has the engine's bytes; `bytes` are a file's, and `beside` the files that came with
-  // it; or else `model` is one that was built before: { packed, colours, worn, known }. `told` is
-  // called with what is done next, as { step }, and with how many { faces } there are.
-  constructor({ module, name, bytes, beside = [], model, words }, told) {
-    Object.assign(this, { name, words, marks: 1, session: null, budget: ALL_MOVES, lines: [] });
-    this.open = this.begin(module, { bytes, beside, model }, told);
+  // it; or else `first` are the first bytes of a packed file, or `model` is one that was built
+  // before: { packed, colours, worn, known }. `told` is called with what is done next, as { step },
+  // and with how many { faces } there are.
+  constructor({ module, name, words, budget = ALL_MOVES, ...given }, told) {
+    Object.assign(this, { name, words, marks: 1, session: null, budget, lines: [] });
+    this.open = this.begin(module, given, told);
   }
 
-  async begin(module, { bytes, beside, model }, told) {
+  async begin(module, { bytes, first, beside = [], model }, told) {
     const begun = performance.now();
     this.engine = await Vdpm.load(module);
     const loaded = performance.now(), dresses = bytes && canDress(this.name, bytes, beside);
-    this.model = tried(() => (model ? this.unpacked(model)
-      : built(this.engine, bytes, { told, words: this.words, dresses })));
+    this.model = tried(() => {
+      if (first) return this.firstOf(first);
+      if (model) return this.unpacked(model);
+      return built(this.engine, bytes, { told, words: this.words, dresses });
+    });
     told({ step: "open" });
     const made = performance.now();
-    this.beginsAt(ALL_MOVES);
+    this.beginsAt(this.budget);
     if (this.model.dress) await this.dress(this.model, beside);
     const opened = performance.now();
     this.times = { load: loaded - begun, build: made - loaded, open: opened - made };
@@ -73,6 +80,13 @@ export class BuiltIn {
     }));
     const pictures = await picturesFor(this.name, textured, beside);
     Object.assign(model, { dress: null, worn: { ...own, pictures } });
+  }
+
+  // What the first bytes of a packed file tell of its model; an older module needs all of them.
+  firstOf(bytes) {
+    const { engine } = this;
+    if (!engine.memory.functions.vdpm_unpack_first) throw new StreamFault(ENDS_EARLY, null, {});
+    return { stream: engine.unpackFirst(bytes, ALL_RECORDS), ...OF_STREAM };
   }
 
   unpacked(model) { return { ...model, stream: this.engine.unpack(model.packed) }; }

@@ -1,4 +1,11 @@
-// Files that a user gives to the page: by the chooser, or dropped anywhere.
+// Files that a user gives to the page: by the chooser, or dropped anywhere; and how large they may
+// be.
+export const MOST_BYTES = 2 ** 30;
+export const TOO_LARGE = {
+  reason: "The file has more than 1,024 megabytes.",
+  cure: "What to do: simplify it before, or cut it into tiles, as docs/WORLDS.md tells.",
+};
+
 const part = (name) => document.getElementById(name);
 const MODELS = /\.(?:obj|ply|stl|vdpm|vdpz)$/i;
 

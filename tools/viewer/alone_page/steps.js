@@ -23,7 +23,9 @@ export class Steps {
   }
 
   // A step that isn't needed is passed over; one that is tried again may come after a later one.
+  // Once all have ended, none begins.
   begin(step) {
+    if (this.timer === null) return;
     const now = performance.now();
     if (this.at >= 0) this.took(STEPS[this.at][0], now - this.since);
     Object.assign(this, { at: STEPS.findIndex(([name]) => name === step), since: now });

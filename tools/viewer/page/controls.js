@@ -33,6 +33,9 @@ export class Controls {
   // Hands do nothing here any more.
   leave() { this.leaving.abort(); }
 
+  // Goes on with what hands hold of other controls, which they have left.
+  goOnAs({ fingers, way, button }) { Object.assign(this, { fingers, way, button }); }
+
   turn(x, y) {
     this.hands.camera().turn(-x, y);
     this.hands.moved();

@@ -85,6 +85,21 @@ export function sayModel({ notes = [], ...about }, { upright }) {
   part("budget").value = Math.round(Math.log2(Math.max(1, budget)));
 }
 
+// How many bytes of the model are there, of how many that come, or null where nobody knows; and
+// nothing once none is awaited.
+export function sayComing(size, length) {
+  part("come").textContent = length === null ? `${kilobytes(size)} so far`
+    : `${counted(Math.round(size / 1024))} of ${kilobytes(length)}`;
+  part("come").hidden = false;
+}
+export function hideComing() { part("come").hidden = true; }
+
+// What makes use of the model as a whole is there when that is.
+export function sayWhole(isWhole) {
+  part("saves").hidden = !isWhole;
+  part("beside").disabled = !isWhole;
+}
+
 // Calls `changed` with the name of a setting that was changed by hand.
 export function watchPanel(changed, signal) {
   part("panel").addEventListener("input", ({ target }) => {

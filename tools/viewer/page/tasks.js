@@ -22,8 +22,8 @@ export function answerBy(tasks) {
       const answer = await tasks[task](asked);
       postMessage({ number, answer }, handedOver(answer.patch));
     } catch (fault) {
-      const { message: reason, cure = "", isLost = false } = fault;
-      postMessage({ number, fault: { reason, cure, isLost } });
+      const { message: reason, cure = "", isLost = false, isShort = false } = fault;
+      postMessage({ number, fault: { reason, cure, isLost, isShort } });
     }
   };
 }

@@ -46,9 +46,8 @@ export class Viewer {
     this.shown = null;           // the counts and times of the front
     this.times = { put: 0, draw: 0, said: 0, draws: [], fronts: [] };
     this.log = [];               // all times, where they are measured
-    const fail = (fault) => this.fail(fault);
+    const fail = (fault) => this.fail(fault), framed = (answer) => this.framed(answer);
     this.glides = new Glides({ land: () => this.land(), failed: fail });
-    const framed = (answer) => this.framed(answer);
     this.views = new Views(this.work, ahead, { framed, failed: fail });
     const told = (level) => panel.sayLevel(level, this.about, this.hierarchy);
     this.session = new Session(this.work, { told, failed: fail });
@@ -152,6 +151,7 @@ export class Viewer {
   }
 
   draw(now) {
+    if (this.shown === null) return; // what another window drew stays until then
     this.dirty = false;
     const begun = performance.now();
     this.scene.draw(this.camera, this.look(begun / 1000));
@@ -251,6 +251,7 @@ export class Viewer {
   // Makes way for another window on the same canvas.
   close() {
     this.session.ended = true;
+    this.shown = null;
     this.controls?.leave();
     this.leaving.abort();
     for (const name of ["front", "input"]) this.scene.renderer.drop(name);

@@ -9,7 +9,8 @@ export class Work {
     this.worker.onerror = ({ message }) => this.fail(message || "the page's worker can't start");
   }
 
-  // What the task gives; where it doesn't, a promise that fails with { reason, cure, isLost }.
+  // What the task gives; where it doesn't, a promise that fails with { reason, cure, isLost,
+  // isShort }, the last where more of a file's bytes are wanted.
   // `handedOver` are buffers that the page has no longer then.
   ask(task, handedOver = []) {
     return new Promise((resolve, reject) => {
