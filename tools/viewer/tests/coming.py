@@ -102,8 +102,10 @@ class Coming(Page):
         self.page.until(f"globalThis.viewer?.hierarchy?.faces > {before} && {SETTLED}")
         return self.faces()
 
-    def camera(self) -> str:
-        return str(self.value("JSON.stringify(viewer.camera)"))
+    def camera(self) -> List[object]:
+        """Where the camera is. (From which height heights are stretched is of the model.)"""
+        names = ("target", "distance", "yaw", "pitch", "upright")
+        return [self.value(f"viewer.camera.{name}") for name in names]
 
     def settings(self) -> List[Tuple[str, object]]:
         names = ("edges", "glide", "tolerance", "outline", "budget")
