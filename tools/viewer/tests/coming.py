@@ -7,7 +7,7 @@ from urllib.parse import urlparse
 
 from viewer.alone import page_of
 
-from .alone import FAULTY, Page, looked_at, module
+from .alone import Page, looked_at, module
 from .common import STREAM
 from .pages import COARSE
 
