@@ -9,7 +9,8 @@ each way, 20 ms late; it slows what a page's worker and its WebSocket bring too.
 the page's address on; `before` are those in which `./viewer` opens the stream. The page has its
 model packed always, so what is measured as plain is a page in which the step that unpacks is left
 out. `beside` is a page without a model, which fetches the packed stream from its server: shown when
-all of it has come, as with an engine that can't unpack its first records, and as it comes.
+all of it has come, as with an engine that can't unpack its first records, and as it comes. The kB
+count what comes while that picture is made.
 """
 import argparse
 import queue
