@@ -148,6 +148,20 @@ class Showing(Coming):
         self.assertEqual(self.page.downloaded("model.vdpz"), data)
         self.assertEqual(self.page.errors(), [])
 
+    def test_hands_go_on_with_what_they_hold(self) -> None:
+        tap = self.fetch(looked_at("asteroid.obj").stream)
+        self.finer(tap, FIRST)
+        self.page.mouse("mousePressed", 300, 200, button="left", clickCount=1)
+        self.page.mouse("mouseMoved", 310, 200, button="left", buttons=1)
+        self.page.until(SETTLED)
+        before = self.camera()
+        self.finer(tap, 2 * FIRST)
+        self.assertEqual(self.camera(), before)
+        self.page.mouse("mouseMoved", 330, 200, button="left", buttons=1)
+        self.page.mouse("mouseReleased", 330, 200, button="left", clickCount=1)
+        self.page.until(SETTLED)
+        self.assertNotEqual(self.camera(), before)
+
     def test_who_sees_the_whole_sees_it_at_last(self) -> None:
         data = looked_at("asteroid.obj").stream
         tap = self.fetch(data)
