@@ -118,6 +118,9 @@ class Packed(unittest.TestCase):
             vdpm.unpack(it[:9], records=1)
         self.assertEqual(raised.exception.number, 35)
         self.assertEqual(vdpm.unpack(it[:-1], records=0), vdpm.unpack(it, records=0))
+        for records in (-1, 2 ** 32):
+            with self.subTest(records), self.assertRaises(ValueError):
+                vdpm.unpack(it, records=records)
 
     def test_a_str_is_no_stream(self) -> None:
         for function in (vdpm.pack, vdpm.unpack):

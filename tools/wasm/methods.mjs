@@ -221,6 +221,25 @@ test("a packed stream is smaller, and unpacked the same", () => {
   assert.equal(Buffer.compare(vdpm.unpack(packed), torus), 0);
 });
 
+test("a packed stream that is cut off gives its first records", () => {
+  const torus = vdpm.build(readFileSync(new URL("torus.obj", EXAMPLES)));
+  const packed = vdpm.pack(torus), all = 0xffffffff;
+  assert.equal(Buffer.compare(vdpm.unpackFirst(packed, all), torus), 0);
+  const half = vdpm.unpackFirst(packed.subarray(0, packed.length >> 1), all);
+  assert.ok(half.length > 1000 && half.length < torus.length);
+  const shown = [torus, half, vdpm.unpackFirst(packed, 3)].map((it) => {
+    const session = vdpm.open(it);
+    for (const line of ["s 0", "s 1", "s 2"]) session.line(line);
+    const { nodes, corners } = session.frame();
+    session.close();
+    return [...nodes, ...corners];
+  });
+  assert.deepEqual(shown[1], shown[0]);
+  assert.deepEqual(shown[2], shown[0]);
+  assert.throws(() => vdpm.unpackFirst(packed.subarray(0, 8), all), /fault 35/);
+  assert.throws(() => vdpm.unpackFirst(packed, -1), RangeError);
+});
+
 test("a fault tells the line of the programs", () => {
   /** @type {(doing: () => void, message: string) => void} */
   const thrown = (doing, message) => assert.throws(doing, (fault) =>

@@ -119,6 +119,7 @@ export class Vdpm {
    * @returns {Uint8Array}
    */
   unpackFirst(packed, records) {
+    numberTo(MOST_FACES, records, "records");
     return this.made("vdpm_unpack_first", packed, [records], WORDS.OF_STREAM).bytes;
   }
 
