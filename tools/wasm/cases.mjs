@@ -13,9 +13,9 @@ import { Fault, Vdpm } from "./vdpm.mjs";
  *
  * @typedef {object} Told a case, its bytes in base 64
  * @property {string} name
- * @property {"open" | "build" | "simplify" | "prepare" | "pack" | "unpack"} function
+ * @property {"open" | "build" | "simplify" | "prepare" | "pack" | "unpack" | "unpackFirst"} function
  * @property {{ faces?: number, digits?: number, keepBorder?: boolean, size?: number,
- *     budget?: number }} asked
+ *     budget?: number, records?: number }} asked
  * @property {number} length how long the stream before a script is
  * @property {string} given
  * @property {string | null} output
@@ -70,6 +70,9 @@ function done({ function: name, asked, length, notes }, given) {
   }
   if (name === "pack" || name === "unpack") {
     return { output: Buffer.from(vdpm[name](given)), fault: null };
+  }
+  if (name === "unpackFirst") {
+    return { output: Buffer.from(vdpm.unpackFirst(given, Number(asked.records))), fault: null };
   }
   if (name !== "prepare") return { output: Buffer.from(vdpm[name](given, asked)), fault: null };
   const made = vdpm.prepare(given, asked);

@@ -236,7 +236,8 @@ test("a packed stream that is cut off gives its first records", () => {
   });
   assert.deepEqual(shown[1], shown[0]);
   assert.deepEqual(shown[2], shown[0]);
-  assert.throws(() => vdpm.unpackFirst(packed.subarray(0, 8), all), /fault 35/);
+  assert.throws(() => vdpm.unpackFirst(packed.subarray(0, 8), all),
+    (fault) => fault instanceof Fault && fault.message === "fault 35");
   assert.throws(() => vdpm.unpackFirst(packed, -1), RangeError);
 });
 

@@ -6,7 +6,7 @@ Those are all that need no device, limit or other program: scripts of `view` and
 import base64
 import sys
 from pathlib import Path
-from typing import Any, Dict, Iterator, Optional
+from typing import Any, Dict, Iterator, List, Optional
 
 TOP = Path(__file__).resolve().parent.parent.parent
 sys.path.insert(0, str(TOP / "tools"))
@@ -57,6 +57,13 @@ def making(words: Iterator[str], function: str) -> Dict[str, Any]:
     return {"function": function, "asked": asked}
 
 
+def packing(words: List[str]) -> Dict[str, Any]:
+    """The same by the words of `pack`."""
+    if len(words) == 3:
+        return {"function": "unpackFirst", "asked": {"records": int(words[2])}}
+    return {"function": "unpack" if words else "pack", "asked": {}}
+
+
 def all_cases() -> Iterator[Dict[str, Any]]:
     """All such cases, in their order."""
     for asked in cases_of("vdpm", "view", "live"):
@@ -71,5 +78,4 @@ def all_cases() -> Iterator[Dict[str, Any]]:
         notes = None if asked.fault else base64_of(asked.errors)
         yield told(asked, {**making(iter(asked.words), "prepare"), "notes": notes})
     for asked in cases_of("pack"):
-        function = "unpack" if asked.words == ["--unpack"] else "pack"
-        yield told(asked, {"function": function, "asked": {}})
+        yield told(asked, packing(asked.words))
