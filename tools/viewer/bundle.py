@@ -16,7 +16,8 @@ from typing import Dict, List
 _FROM = r'from "(\.[./\w]*?)(\w+)(\.m?js)";\n'
 _IMPORT = re.compile(rf"^import (\{{[^}}]*\}}|\* as \w+) {_FROM}", re.M)
 _PASSED_ON = re.compile(rf"^export \{{([^}}]*)\}} {_FROM}", re.M)
-_EXPORT = re.compile(r"^export (?=(?:async )?(?:const|function|class) (\w+))", re.M)
+_SEVERAL = r"const \w+ = [^;\n({[]*, \w+ ="
+_EXPORT = re.compile(rf"^export (?!{_SEVERAL})(?=(?:async )?(?:const|function|class) (\w+))", re.M)
 _LEFT = re.compile(r"^(?:import|export)\b", re.M)
 
 

@@ -1,7 +1,8 @@
 // What the module made, and the fault of a text of which it made nothing.
 import { Fault, STATUS, WORDS, check } from "./faults.mjs";
 
-export const MADE = 8, FAULT = 16; // bytes
+export const MADE = 8;   // bytes
+export const FAULT = 16; // bytes
 const PLACE_OF_FAULT = 8;
 
 /** @typedef {import("./memory.mjs").Memory} Memory */

@@ -3,7 +3,8 @@ import { NotOpen, WORDS, check, numberTo } from "./faults.mjs";
 import { FAULT, MADE, checkMade, copied } from "./made.mjs";
 import { bytesOf } from "./memory.mjs";
 
-export const MOST_FACES = 0xffffffff, MOST_DIGITS = 4;
+export const MOST_FACES = 0xffffffff;
+export const MOST_DIGITS = 4;
 const HANDLE = 8, PROGRESS = 32, MOST = 0xffffffff;
 const LEFT = 8, COLLAPSES = 16, ENDED = 24; // where these stand in what is told
 

@@ -104,6 +104,9 @@ class Bundling(Case):
             bundled(folder / "inner/one.js")
 
     def test_other_forms_are_refused(self) -> None:
-        for other in ("export default 1;\n", 'import one from "./one.js";\n', "export { a };\n"):
+        for other in (
+            "export default 1;\n", 'import one from "./one.js";\n', "export { a };\n",
+            "export const a = 1, b = 2;\n",
+        ):
             with self.assertRaises(CantBundle):
                 wrapped("four", other)
