@@ -17,7 +17,7 @@ SUBJECTS = (
     "programs", "models", "large", "serving", "films", "looking", "controls", "settings",
     "following", "gliding", "judging", "keeping", "playing", "arrays", "libraries", "worlds",
     "draping", "textured", "terrain", "exaggerating", "hollows", "upright", "sizes", "returning",
-    "alone", "coming", "dresses",
+    "alone", "coming", "dresses", "stepping",
 )
 NO_BROWSER = "no Chromium"
 

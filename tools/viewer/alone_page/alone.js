@@ -120,9 +120,10 @@ class Alone {
   async opened(turn, given) {
     const module = (await this.engine).slice();
     if (turn !== this.turn) return null;
-    this.coming = new Work(new Worker(this.workerAt), ({ step, faces }) => {
+    this.coming = new Work(new Worker(this.workerAt), ({ step, faces, share }) => {
       if (turn !== this.turn) return;
       if (faces !== undefined) this.steps.counts(faces);
+      else if (share !== undefined) this.steps.tells(share);
       else this.steps.begin(step);
     });
     const task = { task: "open", pageOrigin: performance.timeOrigin, words: this.words, module };

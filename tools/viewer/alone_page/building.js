@@ -8,6 +8,7 @@ import { colouredVertices, packed, packedByPlace } from "./colours.js";
 import { dressed } from "./dressing.js";
 import { hasColours, isPacked, isScan, isStream, otherKind } from "./kinds.js";
 import { colouredPly } from "./ply.js";
+import { simplified } from "./stepping.js";
 import { readTextured } from "./textured.js";
 
 const MOST_DIGITS = 4, TOO_MANY_DECIMALS = 5, NO_FACE = 12;
@@ -74,7 +75,7 @@ function ofText(engine, bytes, { told, textured }) {
   const vertices = colouredVertices(bytes);
   told({ step: "simplify" });
   const what = { vertices, textured };
-  return asItStands(engine, bytes, { ...what, notes })
+  return asItStands(engine, bytes, { ...what, told, notes })
     ?? prepared(engine, bytes, { ...what, told, more: [] });
 }
 
@@ -99,16 +100,17 @@ function isEmpty({ buffer, byteOffset }) {
 }
 
 // What is built of a text as it stands; null where it isn't fit for that.
-function asItStands(engine, bytes, { vertices, textured, notes }) {
+function asItStands(engine, bytes, { vertices, textured, told, notes }) {
   for (let digits = 0; digits <= MOST_DIGITS; digits++) {
     try {
       // (what is cut before it is simplified has to be fit as it stands too)
-      const first = engine.simplify(bytes, { digits, faces: textured ? ALL_FACES : 0 });
+      const first = textured === null ? simplified(engine, bytes, { digits }, told)
+        : engine.simplify(bytes, { digits, faces: ALL_FACES });
       if (isEmpty(first)) break;
       const known = { prepared: false, scale: null, notes };
       const what = { colours: vertices && packed(vertices), known };
       if (textured === null) return { ...what, stream: first, dress: null };
-      return worn(engine, { ...what, text: bytes, digits, textured, at: null });
+      return worn(engine, { ...what, text: bytes, digits, textured, told, at: null });
     } catch (fault) {
       if (!(fault instanceof TextFault)) throw fault;
       if (fault.number !== TOO_MANY_DECIMALS) break;
@@ -119,12 +121,13 @@ function asItStands(engine, bytes, { vertices, textured, notes }) {
 
 // The same where the text is dressed, if it can be. `at` is how its places lead back; null where
 // they are those of the file.
-function worn(engine, { colours, known, text, digits, textured, at }) {
+function worn(engine, { colours, known, text, digits, textured, told, at }) {
   const cut = dressed(textured, text, at);
   if (cut === null) {
-    return { stream: engine.simplify(text, { digits }), colours, dress: null, known };
+    const stream = simplified(engine, text, { digits }, told);
+    return { stream, colours, dress: null, known };
   }
-  const stream = engine.simplify(cut.text, { digits, keepBorder: cut.isCut });
+  const stream = simplified(engine, cut.text, { digits, keepBorder: cut.isCut }, told);
   const dress = { spots: cut.spots, pages: cut.pages, textured };
   return { stream, colours: colours && taken(colours, cut.before), dress, known };
 }
@@ -143,8 +146,10 @@ function prepared(engine, bytes, { vertices, textured, told, more }) {
   const colours = vertices && packedByPlace(vertices, text, scale);
   told({ step: "simplify" });
   const what = { colours, known: { prepared: true, scale, notes } };
-  if (textured === null) return { ...what, stream: engine.simplify(text), dress: null };
-  return worn(engine, { ...what, text, digits: 0, textured, at: scale ?? AS_IT_STANDS });
+  if (textured === null) {
+    return { ...what, stream: simplified(engine, text, {}, told), dress: null };
+  }
+  return worn(engine, { ...what, text, digits: 0, textured, told, at: scale ?? AS_IT_STANDS });
 }
 
 const SCALED = /^# coordinate = (\S+) \/ (\d+) \* place \+ \((\S+) (\S+) (\S+)\)/;

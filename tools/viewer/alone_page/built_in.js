@@ -48,7 +48,7 @@ export class BuiltIn {
   // `module` has the engine's bytes; `bytes` are a file's, and `beside` the files that came with
   // it; or else `first` are the first bytes of a packed file, or `model` is one that was built
   // before: { packed, colours, worn, known }. `told` is called with what is done next, as { step },
-  // and with how many { faces } there are.
+  // with how many { faces } there are, and with the { share } of a step that is done.
   constructor({ module, name, words, budget = ALL_MOVES, ...given }, told) {
     Object.assign(this, { name, words, marks: 1, session: null, budget, lines: [] });
     this.open = this.begin(module, given, told);

@@ -1,7 +1,8 @@
-// Tells which steps are done from a file to its picture. The engine tells nothing while it works:
-// how long a step takes is guessed from the number of faces, and each step that is over shows how
-// fast this machine is.
+// Tells which steps are done from a file to its picture. While it simplifies the engine tells what
+// is done, and its pace tells what is left. How long another step takes is guessed from the number
+// of faces, and each step that is over shows how fast this machine is.
 import { hideDoing, sayDoing } from "../page/doing.js";
+import { Pace } from "./pace.js";
 
 const STEPS = [
   ["read", "Reading the file"], ["prepare", "Preparing the mesh"],
@@ -19,6 +20,7 @@ const sum = (numbers) => numbers.reduce((a, b) => a + b, 0);
 export class Steps {
   constructor(name) {
     Object.assign(this, { name, begun: performance.now(), at: -1, times: {}, faces: null });
+    this.pace = null;
     this.timer = setInterval(() => this.say(), SAY_AGAIN);
   }
 
@@ -28,12 +30,22 @@ export class Steps {
     if (this.timer === null) return;
     const now = performance.now();
     if (this.at >= 0) this.took(STEPS[this.at][0], now - this.since);
-    Object.assign(this, { at: STEPS.findIndex(([name]) => name === step), since: now });
+    const at = STEPS.findIndex(([name]) => name === step);
+    Object.assign(this, { at, since: now, pace: null, before: 0 });
     this.say();
   }
 
   // How many faces the file has, which is known once it was looked through.
   counts(faces) { this.faces = faces; }
+
+  // Which share of the step is done, from 0 to 1.
+  tells(share) {
+    if (this.timer === null) return;
+    const now = performance.now();
+    this.pace ??= new Pace(now);
+    this.pace.tells(share, now);
+    this.say();
+  }
 
   took(step, milliseconds) { this.times[step] = (this.times[step] ?? 0) + milliseconds; }
 
@@ -47,18 +59,33 @@ export class Steps {
   }
 
   say() {
-    const { at, faces, name, since } = this;
+    const { at, faces, name, pace } = this;
     const state = (i) => (i < at ? "done" : i === at ? "now" : "");
     const told = { name, steps: STEPS.map(([, said], i) => [said, state(i)]) };
     if (faces === null || at < 0) {
       sayDoing({ ...told, share: null, left: null });
       return;
     }
-    const guesses = this.guesses(), own = guesses[at], spent = (performance.now() - since) / 1000;
-    const rest = Math.max(own - spent, LAST * own);
-    const share = (sum(guesses.slice(0, at)) + own - rest) / sum(guesses);
-    const left = spent < own ? rest + sum(guesses.slice(at + 1)) : null;
-    sayDoing({ ...told, share, left });
+    const guesses = this.guesses(), own = guesses[at], simplified = pace && pace.share;
+    const { done, rest } = this.ofStep(own);
+    const share = (sum(guesses.slice(0, at)) + done * own) / sum(guesses);
+    const left = rest === null ? null : rest + sum(guesses.slice(at + 1));
+    sayDoing({ ...told, share, left, simplified });
+  }
+
+  // Which share of the step is done and how many seconds are left of it, where these can be told.
+  ofStep(own) {
+    const { pace } = this, guess = this.guessed(own);
+    if (pace === null) return guess;
+    if (pace.share === 0) this.before = guess.done; // (nothing is collapsed yet)
+    const done = this.before + (1 - this.before) * pace.share;
+    return { done, rest: pace.left(performance.now()) };
+  }
+
+  // The same, if the step takes so many seconds.
+  guessed(own) {
+    const spent = (performance.now() - this.since) / 1000, rest = Math.max(own - spent, LAST * own);
+    return { done: 1 - rest / own, rest: spent < own ? rest : null };
   }
 
   end() {

@@ -9,9 +9,15 @@ function about(seconds) {
   return `about ${Math.ceil(seconds / 60)} minutes left`;
 }
 
+function percent(share, simplified) {
+  if (simplified !== null) return `${Math.floor(100 * simplified)} % simplified`;
+  return share === null ? "" : `about ${Math.min(99, Math.round(100 * share))} %`;
+}
+
 // `steps` has what is said of each and its state, "done", "now" or "". `share` and `left`, in
-// seconds, are guesses, and null where nothing can be guessed.
-export function sayDoing({ name, steps, share, left }) {
+// seconds, are guesses, and null where nothing can be guessed. `simplified` is the share that the
+// engine tells of that step, null where it tells none.
+export function sayDoing({ name, steps, share, left, simplified = null }) {
   part("doing").hidden = false;
   part("doing-name").textContent = name;
   const lines = steps.map(([said, state]) => {
@@ -26,9 +32,8 @@ export function sayDoing({ name, steps, share, left }) {
   if (were.length !== lines.length || lines.some(isOther)) part("steps").replaceChildren(...lines);
   if (share === null) part("share").removeAttribute("value");
   else part("share").value = Math.min(1, share);
-  const percent = share === null ? "" : `about ${Math.min(99, Math.round(100 * share))} %`;
   const rest = left === null ? "" : about(left);
-  part("doing-said").textContent = [percent, rest].filter(Boolean).join(", ");
+  part("doing-said").textContent = [percent(share, simplified), rest].filter(Boolean).join(", ");
 }
 
 export function hideDoing() { part("doing").hidden = true; }
