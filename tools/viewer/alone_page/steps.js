@@ -13,6 +13,7 @@ const A_FACE = { read: 0.5, prepare: 5, simplify: 20, open: 5, draw: 5 };
 const LEAST = 0.02;    // seconds of a step
 const MEASURED = 0.2;  // seconds of steps that are over, from which a machine's speed can be told
 const LAST = 0.05;     // of a step that takes longer than was guessed, what counts as still left
+const BEFORE = 0.2;    // of simplifying, what comes before its first collapse
 const SAY_AGAIN = 100; // milliseconds
 
 const sum = (numbers) => numbers.reduce((a, b) => a + b, 0);
@@ -31,7 +32,7 @@ export class Steps {
     const now = performance.now();
     if (this.at >= 0) this.took(STEPS[this.at][0], now - this.since);
     const at = STEPS.findIndex(([name]) => name === step);
-    Object.assign(this, { at, since: now, pace: null, before: 0 });
+    Object.assign(this, { at, since: now, pace: null });
     this.say();
   }
 
@@ -75,10 +76,10 @@ export class Steps {
 
   // Which share of the step is done and how many seconds are left of it, where these can be told.
   ofStep(own) {
-    const { pace } = this, guess = this.guessed(own);
-    if (pace === null) return guess;
-    if (pace.share === 0) this.before = guess.done; // (nothing is collapsed yet)
-    const done = this.before + (1 - this.before) * pace.share;
+    const { pace } = this;
+    if (pace === null) return this.guessed(own);
+    const before = pace.share > 0 ? 1 : this.guessed(BEFORE * own).done;
+    const done = BEFORE * before + (1 - BEFORE) * pace.share;
     return { done, rest: pace.left(performance.now()) };
   }
 

@@ -43,10 +43,11 @@ for (const [share, at, now] of %s) {
   left.push(pace.left(now));
 }
 console.log(JSON.stringify(left));"""
-# Keeps what the page says of how far it is.
-WATCH = """globalThis.said = [];
+# Keeps what the page says of how far it is, and its bar while it simplifies.
+WATCH = """globalThis.said = [], globalThis.bar = [];
 new MutationObserver(() => {
   said.push(document.getElementById("doing-said").textContent);
+  if (said.at(-1).includes("simplified")) bar.push(document.getElementById("share").value);
   %s
 }).observe(document.getElementById("doing-said"), { childList: true }), 0"""
 CANCEL = "if (said.at(-1).includes('simplified')) document.getElementById('cancel').click();"
@@ -107,6 +108,9 @@ class Telling(Page):
         shares = self.shares()
         self.assertEqual((shares[0], shares[-1], shares), (0, 100, sorted(shares)))
         self.assertGreater(len(shares), 2)
+        bar = self.value("bar")
+        self.assertEqual(bar, sorted(bar))
+        self.assertTrue(0 < bar[0] < bar[-1] < 1, bar)
 
     def test_an_older_module_tells_none(self) -> None:
         self.open_and_watch(module().replace(b"vdpm_simplify_begin", b"vdpm_simplify_start"))
