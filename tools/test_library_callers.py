@@ -42,7 +42,8 @@ int is_open(void) { return viewer.open && VDPM_VERSION >= 10000; }
 KEPT = CALLERS / "abi.c"
 CHANGES = (
     ("    uint32_t left;", "    uint64_t left;"), ("VDPM_NO_ROOM = 7", "VDPM_NO_ROOM = 4"),
-    ("uint32_t keep_border", "int32_t keep_border"), ("    uint32_t split; ", "    uint32_t at; "),
+    ("uint32_t keep_border, vdpm_made", "int32_t keep_border, vdpm_made"),
+    ("    uint32_t split; ", "    uint32_t at; "),
 )  # fmt: skip
 folder = tempfile.TemporaryDirectory(prefix="library-")
 

@@ -79,7 +79,7 @@ static void packed_nothing(const uint8_t *stream, size_t length) {
     vdpm_made made = VDPM_CLOSED, back = VDPM_CLOSED;
     vdpm_fault fault = {7, 7};
     uint8_t packed[64], again[64];
-    size_t count = 0, notes = 1;
+    size_t count = 0, told_length = 0, notes = 1;
     told("vdpm_pack", vdpm_pack(NULL, 0, &made, &fault), VDPM_FAULTY);
     told("cut off", fault.number, 22);
     told("vdpm_unpack", vdpm_unpack(NULL, 0, &made, &fault), VDPM_FAULTY);
@@ -96,14 +96,14 @@ static void packed_nothing(const uint8_t *stream, size_t length) {
     told("vdpm_made_bytes", vdpm_made_bytes(&made, packed, sizeof packed), VDPM_DONE);
     vdpm_made_close(&made);
     told("vdpm_unpack", vdpm_unpack(packed, count, &back, &fault), VDPM_DONE);
-    told("vdpm_made_length", vdpm_made_length(&back, &count, &notes), VDPM_DONE);
-    told("as long", (uint32_t)count, (uint32_t)length);
+    told("vdpm_made_length", vdpm_made_length(&back, &told_length, &notes), VDPM_DONE);
+    told("as long", (uint32_t)told_length, (uint32_t)length);
     told("vdpm_made_bytes", vdpm_made_bytes(&back, again, sizeof again), VDPM_DONE);
     told("the same", (uint32_t)(memcmp(again, stream, length) != 0), 0);
     vdpm_made_close(&back);
     told("vdpm_unpack_first", vdpm_unpack_first(packed, count, 0, &back, &fault), VDPM_DONE);
-    told("vdpm_made_length", vdpm_made_length(&back, &count, &notes), VDPM_DONE);
-    told("as long", (uint32_t)count, (uint32_t)length);
+    told("vdpm_made_length", vdpm_made_length(&back, &told_length, &notes), VDPM_DONE);
+    told("as long", (uint32_t)told_length, (uint32_t)length);
     vdpm_made_close(&back);
     told("vdpm_unpack_first", vdpm_unpack_first(packed, 7, 0, &back, &fault), VDPM_FAULTY);
     told("cut off", fault.number, 35);
