@@ -3,6 +3,8 @@ import contextlib
 import io
 import os
 import pty
+import select
+import signal
 import struct
 import subprocess
 import sys
@@ -23,6 +25,7 @@ from .common import EXAMPLES, STREAM, TOP, Case, program
 Place = Tuple[float, float, float]
 GRID = b"ncols 3\nnrows 2\nxllcenter 500\nyllcenter 20\ncellsize 10\n1 2 3\n4 5 6.5\n"
 PICTURE = b"P5\n# a field\n3 2\n255\n\0\1\2\3\4\5"
+LONGEST = 60  # seconds for what a terminal shows
 HEAD = b"ply\nformat ascii 1.0\nelement vertex 3\nproperty float x\nproperty float y\n"
 PLY = HEAD + b"property float z\nelement face 9\nproperty list uchar int vertex_index\nend_header\n"
 
@@ -138,6 +141,11 @@ class Large(Case):
 class Asking(Case):
     """The command at a terminal."""
 
+    def shown_by(self, terminal: io.FileIO) -> bytes:
+        """What a terminal shows next."""
+        self.assertTrue(select.select([terminal], [], [], LONGEST)[0], "nothing more is shown")
+        return terminal.read(1024) or b""
+
     def answered(self, typed: bytes) -> Tuple[int, str]:
         """How the command ends, and all that the terminal shows, where this is typed once it is
         asked whether a file of too many faces is to be cut."""
@@ -146,15 +154,17 @@ class Asking(Case):
         child, line = pty.fork()
         if child == 0:
             os.chdir(path.parent)
+            # (who runs these tests in the background may have it ignored)
+            signal.signal(signal.SIGINT, signal.SIG_DFL)
             os.execv(words[0], words)
         seen = b""
         with os.fdopen(line, "r+b", buffering=0) as terminal:
             while not seen.endswith(b"[y/N] "):
-                seen += terminal.read(1024)
+                seen += self.shown_by(terminal)
             terminal.write(typed)
             with contextlib.suppress(OSError):  # (which is how a terminal ends)
                 while True:
-                    seen += terminal.read(1024)
+                    seen += self.shown_by(terminal)
         status = os.waitpid(child, 0)[1]
         return os.WEXITSTATUS(status) if os.WIFEXITED(status) else -1, seen.decode()
 
