@@ -68,9 +68,11 @@ class Commands(WithWorld):
         fake.write_text(f"#!/bin/sh\n{script}\n")
         fake.chmod(0o755)
         words = [sys.executable, TOOL, "check", str(self.folder), "--jobs", "2", "--program"]
+        # (who runs these tests in the background may have SIGINT ignored)
         return subprocess.Popen(
             [*words, str(fake)], stdout=subprocess.PIPE, stderr=subprocess.PIPE, text=True,
             start_new_session=True,
+            preexec_fn=lambda: signal.signal(signal.SIGINT, signal.SIG_DFL),
         )
 
     def test_a_process_that_is_ended_is_told(self) -> None:
@@ -83,11 +85,14 @@ class Commands(WithWorld):
 
     def test_one_who_stops_a_check_ends_all_its_processes(self) -> None:
         with self.check_by('cd "${0%/*}" && echo >> begun && exec sleep 600') as check:
-            self.addCleanup(os.killpg, check.pid, signal.SIGKILL)  # the programs that sleep
             while check.poll() is None and not (self.room / "begun").exists():
                 time.sleep(0.02)
             os.killpg(check.pid, signal.SIGINT)
-            self.assertEqual(check.communicate(timeout=100), ("", "world: stopped\n"))
+            try:
+                said = check.communicate(timeout=100)
+            finally:
+                os.killpg(check.pid, signal.SIGKILL)  # the programs that sleep
+        self.assertEqual(said, ("", "world: stopped\n"))
         self.assertEqual(check.returncode, 130)
         self.assertLessEqual(len((self.room / "begun").read_text()), 2)
 
