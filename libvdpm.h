@@ -38,7 +38,7 @@ extern "C" {
 
 /* The version of the library. What may change with which number: docs/LIBRARY.md. */
 #define VDPM_VERSION_MAJOR 1
-#define VDPM_VERSION_MINOR 2
+#define VDPM_VERSION_MINOR 3
 #define VDPM_VERSION_PATCH 0
 #define VDPM_VERSION \
     (VDPM_VERSION_MAJOR * 10000 + VDPM_VERSION_MINOR * 100 + VDPM_VERSION_PATCH)

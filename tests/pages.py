@@ -26,7 +26,7 @@ TOP = Path(__file__).resolve().parent.parent
 MOST_BYTES = 8192
 # Pages for users, which may be longer.
 FOR_USERS = ("README.md", "docs/FORMATS.md", "docs/GUIDE.md")
-MOST_WORDS_OF_README, MOST_WORDS = 900, 61000
+MOST_WORDS_OF_README, MOST_WORDS = 900, 62000
 # Pages whose backquoted names are of the code, beside those of the crates.
 OF_CODE = ("docs/PROMISES.md", "docs/CRATES.md", "docs/DEFINITIONS.md", "docs/OVERVIEW.md")
 NAME = r"`[^`\n]+`"

@@ -166,7 +166,7 @@ class Pages(unittest.TestCase):
         rows = [
             ({"README.md": 900, "docs/A.md": 50600}, []),
             ({"README.md": 901}, [("README.md", "901 words are more than 900")]),
-            ({"docs/A.md": 61000, "b.md": 1}, [("all pages", "61001 words are more than 61000")]),
+            ({"docs/A.md": 62000, "b.md": 1}, [("all pages", "62001 words are more than 62000")]),
         ]
         for words, wanted in rows:
             self.assertEqual(list(pages.too_many_words(words)), wanted)

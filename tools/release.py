@@ -52,7 +52,8 @@ def natives(built: Built, page: Entries) -> Entries:
 
 def module_entries(module: Path, page: Entries) -> Entries:
     """The WebAssembly module and the class over it."""
-    names = ("vdpm.mjs", "session.mjs", "tables.mjs", "buffers.mjs", "memory.mjs", "faults.mjs")
+    names = ("vdpm.mjs", "session.mjs", "tables.mjs", "buffers.mjs", "simplifying.mjs", "made.mjs",
+             "memory.mjs", "faults.mjs")
     scripts = {name: Entry((TOP / "tools/wasm" / name).read_bytes()) for name in names}
     return {"vdpm.wasm": Entry(module.read_bytes()), **scripts, **page}
 

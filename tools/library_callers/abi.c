@@ -128,6 +128,16 @@ SIZE(vdpm_slots_sizes, 8);
 FIELD(vdpm_slots_sizes, written, 0);
 FIELD(vdpm_slots_sizes, length, 4);
 
+uint32_t vdpm_made_scale(vdpm_made *, vdpm_scale *);
+
+uint32_t vdpm_slots_open(uint32_t, vdpm_slots *);
+uint32_t vdpm_slots_change(vdpm_slots *, const uint32_t *, size_t, const uint32_t *, size_t,
+                           uint32_t *, size_t, vdpm_slots_sizes *);
+uint32_t vdpm_slots_of(vdpm_slots *, const uint32_t *, size_t, uint32_t *, size_t);
+void vdpm_slots_close(vdpm_slots *);
+
+/* Of 1.3. */
+
 SIZE(vdpm_run, 16);
 FIELD(vdpm_run, at, 0);
 FIELD(vdpm_run, open, 8);
@@ -138,20 +148,9 @@ FIELD(vdpm_progress, faces_left, 8);
 FIELD(vdpm_progress, collapses, 16);
 FIELD(vdpm_progress, ended, 24);
 
-uint32_t vdpm_made_scale(vdpm_made *, vdpm_scale *);
-
 uint32_t vdpm_simplify_begin(const uint8_t *, size_t, uint32_t, uint32_t, uint32_t, vdpm_run *,
                              vdpm_fault *);
 uint32_t vdpm_simplify_more(vdpm_run *, uint32_t, vdpm_progress *);
 uint32_t vdpm_simplify_end(vdpm_run *, vdpm_made *);
 void vdpm_simplify_close(vdpm_run *);
-
-uint32_t vdpm_slots_open(uint32_t, vdpm_slots *);
-uint32_t vdpm_slots_change(vdpm_slots *, const uint32_t *, size_t, const uint32_t *, size_t,
-                           uint32_t *, size_t, vdpm_slots_sizes *);
-uint32_t vdpm_slots_of(vdpm_slots *, const uint32_t *, size_t, uint32_t *, size_t);
-void vdpm_slots_close(vdpm_slots *);
-
-/* Of 1.3. */
-
 uint32_t vdpm_unpack_first(const uint8_t *, size_t, uint32_t, vdpm_made *, vdpm_fault *);

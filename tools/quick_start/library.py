@@ -23,10 +23,11 @@ from .way import Way
 MAIN = """
 use crate::buffer_slot::BufferSlot;
 use crate::made_slot::MadeSlot;
+use crate::run_slot::RunSlot;
 use crate::slot::Slot;
 use crate::tables::{
     BufferHandle, ChangeCounts, Counts, DecimalTold, ExtentTold, Handle, LevelTold, Look,
-    MadeHandle, Moved, NO_FAULT, ScaleTold, SlotSizes,
+    MadeHandle, Moved, NO_FAULT, ProgressTold, RunHandle, ScaleTold, SlotSizes,
 };
 use std::rt::HostRuntime;
 
@@ -76,6 +77,13 @@ fn main(rt: HostRuntime) {
     making::vdpm_build(alloc, b"", 0, 0, &mut made, &mut fault);
     making::vdpm_simplify(alloc, b"", 0, 0, 0, &mut made, &mut fault);
     making::vdpm_prepare(alloc, b"", 0, &mut made, &mut fault);
+    let mut run = RunHandle { slot: RunSlot::empty(alloc), open: 0 };
+    let mut progress = ProgressTold { faces: 0, faces_left: 0, collapses: 0, ended: 0 };
+    stepwise::vdpm_simplify_begin(alloc, b"", 0, 0, 0, &mut run, &mut fault);
+    stepwise::vdpm_simplify_more(alloc, &mut run, 0, &mut progress);
+    stepwise::vdpm_simplify_end(alloc, &mut run, &mut made);
+    stepwise::vdpm_simplify_close(alloc, &mut run);
+    let RunHandle { slot: _run_slot, open: _run_open } = run;
     packing::vdpm_pack(alloc, b"", &mut made, &mut fault);
     packing::vdpm_unpack(alloc, b"", &mut made, &mut fault);
     packing::vdpm_unpack_first(alloc, b"", 0, &mut made, &mut fault);

@@ -13,7 +13,8 @@ import { Fault, Vdpm } from "./vdpm.mjs";
  *
  * @typedef {object} Told a case, its bytes in base 64
  * @property {string} name
- * @property {"open" | "build" | "simplify" | "prepare" | "pack" | "unpack" | "unpackFirst"} function
+ * @property {"open" | "build" | "simplify" | "prepare" | "pack" | "unpack" |
+ *     "unpackFirst"} function
  * @property {{ faces?: number, digits?: number, keepBorder?: boolean, size?: number,
  *     budget?: number, records?: number }} asked
  * @property {number} length how long the stream before a script is

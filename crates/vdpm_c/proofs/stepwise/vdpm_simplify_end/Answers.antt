@@ -8,12 +8,11 @@ use Rattle.vdpm_c.proofs.stepwise.vdpm_simplify_end.Goals as goal
 
 pub returns-in-Ok-clause-done : goal.returns-in-Ok-clause-done
 returns-in-Ok-clause-done c s has done =
-    let same : c.into_inner.result ≡ s = search rules in
-    (
+    let same : c.into_inner.result ≡ s = search rules in (
       c.in-Ok.all,
       c.keep.ensures.kept done,
       subst (λ (r : SteppedRun). (border : Border) (text : List ℕ) → IsRunOf border text r
-      → IsStreamOf (IsSimplifiedText border r.run.target r.digits)
-      (asked.Simplify r.run.target r.digits border) r.digits text c.in-Ok.all) same
-      c.in-Ok.ensures.made,
+          → IsStreamOf (IsSimplifiedText border r.run.target r.digits)
+          (asked.Simplify r.run.target r.digits border) r.digits text c.in-Ok.all) same
+          c.in-Ok.ensures.made,
     )
